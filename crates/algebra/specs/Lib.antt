@@ -1,0 +1,13 @@
+pub mod Tree
+pub mod Query
+pub mod Word
+pub mod Layout
+pub mod Valid
+pub mod Depth
+pub mod Tally
+pub mod Reader
+pub mod Reading
+pub mod ListReading
+pub mod Texts
+pub mod Table
+pub mod Machine

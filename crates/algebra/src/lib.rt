@@ -1,0 +1,4 @@
+// Placeholder until the word table stands.
+pub fn one() -> u8 {
+    1
+}

@@ -1,0 +1,29 @@
+-- `text::find` meets its contract. Assumes nothing.
+use borrow.Author.Needs.{needs}
+use Prim.Native.Nat.{ℕ, _+_, _-_, _*_, _≤_, _<_}
+use mathlib.Core.Path.{_≡_, refl, sym, _∙_, ap}
+use native.Mathlib.Omega.{arith}
+use lib.ListN.{length, getD, drop}
+use borrow.Author.Count.{below-more}
+use Rattle.text.proofs.find.Statement.{statement}
+use Rattle.text.proofs.find.Tie as tie
+
+abbrev Inv-loop : tie.InvT-loop
+Inv-loop s from to b i₀ i = (from ≤ i) × (i ≤ to) × ((k : ℕ) → k < i → from ≤ k → getD s k 0 ≡ b → ⊥)
+
+abbrev μ-loop : tie.MeasureT-loop
+μ-loop s from to b i₀ i = to - i
+
+pub find-spec : {M : Type 1} → statement M
+find-spec =
+    tie.close
+    (tie.spec
+    Inv-loop
+    μ-loop
+    (λ c. (omega arith, omega arith, λ k h l e. omega arith))
+    (λ c. search needs)
+    (λ c. record { low = omega arith; high = omega arith; before = c .before .before .before .loop .inv .2; here = λ _. c .if1 .taken })
+    (λ c. search needs)
+    (λ c. search needs)
+    (λ c. (search needs, search needs, below-more _ _ (c .before .before .before .loop .inv .2) (λ _. c .if1 .left)))
+    (λ c. record { low = omega arith; high = omega arith; before = c .before .loop .inv .2; here = λ h. absurd (omega arith) }))

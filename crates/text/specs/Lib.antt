@@ -1,0 +1,5 @@
+pub mod Text
+pub mod Word
+pub mod Field
+pub mod Examples
+pub mod Code
