@@ -1,0 +1,160 @@
+-- How the code writes the table of words, and what its numbers mean. Assumes nothing.
+use Prim.Native.Nat.{ℕ, zero, suc}
+use mathlib.Core.List.{List, [], _∷_, _++_, map}
+use mathlib.Core.Option.{Option, none, some}
+use lib.ListN.{getD}
+use Rattle.text.specs.Text.{Bytes}
+use Rattle.text.specs.Word.{bytes, spelled}
+use Rattle.text.specs.Field.{Kind, cell, integer}
+use Rattle.text.specs.Code.{kindAt}
+use Rattle.algebra.specs.Query.{extraKind}
+use Rattle.algebra.specs.Word.{spellV, domains}
+use Rattle.algebra.specs.Table.{Slot, term, text, count, choice, Tail, nothing, columns, variables, texts, values, value, Sort, parts, sorts, Amount, always, given, more, Below, Row, Entry, entry, row, table}
+use Rattle.words.specs.declared.Row.{Row as Code}
+use Rattle.words.specs.declared.Found.{Found}
+use Rattle.words.specs.declared.Found.the-variants.{Is, None}
+
+-- the sorts by their numbers
+abbrev pub sortAt : ℕ → Sort
+sortAt n = getD sorts n parts
+
+-- a field's role: 0 no field, 1 a term, 2 something else, 3 a number of lines, 4 of 0 or 1 of them
+abbrev pub slotOf : ℕ → Kind → List Slot
+slotOf r k = getD ([] ∷ (term k ∷ []) ∷ (text k ∷ []) ∷ (count ∷ []) ∷ (choice ∷ []) ∷ []) r []
+
+-- what stands behind the fields
+abbrev pub tailOf : ℕ → Tail
+tailOf n = getD (nothing ∷ columns ∷ variables ∷ texts cell ∷ texts integer ∷ values ∷ value ∷ []) n nothing
+
+-- a group of lines: n of them, or as many as the first or second number says, or so many more
+abbrev pub group : Amount → Sort → List Below
+group a s = record { amount = a; sort = s } ∷ []
+
+abbrev pub fixed : ℕ → Sort → List Below
+fixed zero s = []
+fixed (suc n) s = group (always (suc n)) s
+
+abbrev pub groupOf : ℕ → ℕ → Sort → List Below
+groupOf n k s = getD (fixed n s ∷ group (given 0) s ∷ group (given 1) s ∷ group (more 0 n) s ∷ group (more 1 n) s ∷ []) k []
+
+-- the row that a row of the code means
+abbrev pub rowOf : Code → Row
+rowOf c = record {
+  slots = slotOf (c .0) (kindAt (c .1)) ++ (slotOf (c .2) (kindAt (c .3)) ++ slotOf (c .4) (kindAt (c .5)));
+  tail = tailOf (c .6);
+  below = groupOf (c .7) (c .8) (sortAt (c .9)) ++ (groupOf (c .10) (c .11) (sortAt (c .12)) ++ groupOf (c .13) (c .14) (sortAt (c .15)));
+}
+
+abbrev pub rowFound : Found → Option Row
+rowFound (Is c) = some (rowOf c)
+rowFound None = none
+
+-- the kind of the extra that stands with a domain
+abbrev pub mapped : {A B : Type 0} → (A → B) → Option A → Option B
+mapped g none = none
+mapped g (some a) = some (g a)
+
+abbrev pub extraOf : Bytes → Option Kind
+extraOf f = mapped extraKind (spelled spellV domains f)
+
+abbrev pub extraFound : ℕ → Option Kind
+extraFound zero = none
+extraFound (suc k) = some (kindAt (suc k))
+
+-- ---- the constants of the code
+
+abbrev pub words : List ℕ
+words = bytes "tcolsbgppathjoinunionminusleftjoinfiltergraphextendvaluesorderbyprojectdistinctreducedslicegroupservicetermboundexistscallorandeqsamegtgeltleaddsubmuldivinplusnegnotifcoalescerowascdescaggaggallquerysetatrowleafrefunbinternnary"
+
+abbrev pub starts : List ℕ
+starts = 0 ∷ 1 ∷ 5 ∷ 8 ∷ 12 ∷ 16 ∷ 21 ∷ 26 ∷ 34 ∷ 40 ∷ 45 ∷ 51 ∷ 57 ∷ 64 ∷ 71 ∷ 79 ∷ 86 ∷ 91 ∷ 96 ∷ 103 ∷ 107 ∷ 112 ∷ 118 ∷ 122 ∷ 124 ∷ 127 ∷ 129 ∷ 133 ∷ 135 ∷ 137 ∷ 139 ∷ 141 ∷ 144 ∷ 147 ∷ 150 ∷ 153 ∷ 155 ∷ 159 ∷ 162 ∷ 165 ∷ 167 ∷ 175 ∷ 178 ∷ 181 ∷ 185 ∷ 188 ∷ 194 ∷ 199 ∷ 202 ∷ 204 ∷ 207 ∷ 211 ∷ 214 ∷ 216 ∷ 219 ∷ 223 ∷ []
+
+abbrev pub sizes : List ℕ
+sizes = 1 ∷ 4 ∷ 3 ∷ 4 ∷ 4 ∷ 5 ∷ 5 ∷ 8 ∷ 6 ∷ 5 ∷ 6 ∷ 6 ∷ 7 ∷ 7 ∷ 8 ∷ 7 ∷ 5 ∷ 5 ∷ 7 ∷ 4 ∷ 5 ∷ 6 ∷ 4 ∷ 2 ∷ 3 ∷ 2 ∷ 4 ∷ 2 ∷ 2 ∷ 2 ∷ 2 ∷ 3 ∷ 3 ∷ 3 ∷ 3 ∷ 2 ∷ 4 ∷ 3 ∷ 3 ∷ 2 ∷ 8 ∷ 3 ∷ 3 ∷ 4 ∷ 3 ∷ 6 ∷ 5 ∷ 3 ∷ 2 ∷ 3 ∷ 4 ∷ 3 ∷ 2 ∷ 3 ∷ 4 ∷ 4 ∷ []
+
+abbrev pub rows : List Code
+rows =
+    record { 0 = 1; 1 = 1; 2 = 1; 3 = 3; 4 = 1; 5 = 1; 6 = 0; 7 = 0; 8 = 0; 9 = 0; 10 = 0; 11 = 0; 12 = 0; 13 = 0; 14 = 0; 15 = 0 }
+    ∷ record { 0 = 0; 1 = 0; 2 = 0; 3 = 0; 4 = 0; 5 = 0; 6 = 2; 7 = 0; 8 = 0; 9 = 0; 10 = 0; 11 = 0; 12 = 0; 13 = 0; 14 = 0; 15 = 0 }
+    ∷ record { 0 = 3; 1 = 0; 2 = 0; 3 = 0; 4 = 0; 5 = 0; 6 = 0; 7 = 0; 8 = 1; 9 = 0; 10 = 0; 11 = 0; 12 = 0; 13 = 0; 14 = 0; 15 = 0 }
+    ∷ record { 0 = 1; 1 = 1; 2 = 2; 3 = 9; 4 = 1; 5 = 1; 6 = 0; 7 = 0; 8 = 0; 9 = 0; 10 = 0; 11 = 0; 12 = 0; 13 = 0; 14 = 0; 15 = 0 }
+    ∷ record { 0 = 0; 1 = 0; 2 = 0; 3 = 0; 4 = 0; 5 = 0; 6 = 0; 7 = 2; 8 = 0; 9 = 2; 10 = 0; 11 = 0; 12 = 0; 13 = 0; 14 = 0; 15 = 0 }
+    ∷ record { 0 = 0; 1 = 0; 2 = 0; 3 = 0; 4 = 0; 5 = 0; 6 = 0; 7 = 2; 8 = 0; 9 = 2; 10 = 0; 11 = 0; 12 = 0; 13 = 0; 14 = 0; 15 = 0 }
+    ∷ record { 0 = 0; 1 = 0; 2 = 0; 3 = 0; 4 = 0; 5 = 0; 6 = 0; 7 = 2; 8 = 0; 9 = 2; 10 = 0; 11 = 0; 12 = 0; 13 = 0; 14 = 0; 15 = 0 }
+    ∷ record { 0 = 4; 1 = 0; 2 = 0; 3 = 0; 4 = 0; 5 = 0; 6 = 0; 7 = 2; 8 = 0; 9 = 2; 10 = 0; 11 = 1; 12 = 3; 13 = 0; 14 = 0; 15 = 0 }
+    ∷ record { 0 = 0; 1 = 0; 2 = 0; 3 = 0; 4 = 0; 5 = 0; 6 = 0; 7 = 1; 8 = 0; 9 = 2; 10 = 1; 11 = 0; 12 = 3; 13 = 0; 14 = 0; 15 = 0 }
+    ∷ record { 0 = 1; 1 = 3; 2 = 0; 3 = 0; 4 = 0; 5 = 0; 6 = 0; 7 = 1; 8 = 0; 9 = 2; 10 = 0; 11 = 0; 12 = 0; 13 = 0; 14 = 0; 15 = 0 }
+    ∷ record { 0 = 1; 1 = 0; 2 = 0; 3 = 0; 4 = 0; 5 = 0; 6 = 0; 7 = 1; 8 = 0; 9 = 2; 10 = 1; 11 = 0; 12 = 3; 13 = 0; 14 = 0; 15 = 0 }
+    ∷ record { 0 = 3; 1 = 0; 2 = 3; 3 = 0; 4 = 0; 5 = 0; 6 = 0; 7 = 1; 8 = 0; 9 = 1; 10 = 0; 11 = 2; 12 = 4; 13 = 0; 14 = 0; 15 = 0 }
+    ∷ record { 0 = 3; 1 = 0; 2 = 0; 3 = 0; 4 = 0; 5 = 0; 6 = 0; 7 = 1; 8 = 0; 9 = 2; 10 = 0; 11 = 1; 12 = 5; 13 = 0; 14 = 0; 15 = 0 }
+    ∷ record { 0 = 0; 1 = 0; 2 = 0; 3 = 0; 4 = 0; 5 = 0; 6 = 1; 7 = 1; 8 = 0; 9 = 2; 10 = 0; 11 = 0; 12 = 0; 13 = 0; 14 = 0; 15 = 0 }
+    ∷ record { 0 = 0; 1 = 0; 2 = 0; 3 = 0; 4 = 0; 5 = 0; 6 = 0; 7 = 1; 8 = 0; 9 = 2; 10 = 0; 11 = 0; 12 = 0; 13 = 0; 14 = 0; 15 = 0 }
+    ∷ record { 0 = 0; 1 = 0; 2 = 0; 3 = 0; 4 = 0; 5 = 0; 6 = 0; 7 = 1; 8 = 0; 9 = 2; 10 = 0; 11 = 0; 12 = 0; 13 = 0; 14 = 0; 15 = 0 }
+    ∷ record { 0 = 2; 1 = 6; 2 = 2; 3 = 7; 4 = 0; 5 = 0; 6 = 0; 7 = 1; 8 = 0; 9 = 2; 10 = 0; 11 = 0; 12 = 0; 13 = 0; 14 = 0; 15 = 0 }
+    ∷ record { 0 = 3; 1 = 0; 2 = 3; 3 = 0; 4 = 0; 5 = 0; 6 = 0; 7 = 1; 8 = 0; 9 = 1; 10 = 1; 11 = 0; 12 = 2; 13 = 0; 14 = 2; 15 = 6 }
+    ∷ record { 0 = 1; 1 = 3; 2 = 2; 3 = 8; 4 = 0; 5 = 0; 6 = 0; 7 = 1; 8 = 0; 9 = 2; 10 = 0; 11 = 0; 12 = 0; 13 = 0; 14 = 0; 15 = 0 }
+    ∷ record { 0 = 1; 1 = 2; 2 = 0; 3 = 0; 4 = 0; 5 = 0; 6 = 0; 7 = 0; 8 = 0; 9 = 0; 10 = 0; 11 = 0; 12 = 0; 13 = 0; 14 = 0; 15 = 0 }
+    ∷ record { 0 = 1; 1 = 0; 2 = 0; 3 = 0; 4 = 0; 5 = 0; 6 = 0; 7 = 0; 8 = 0; 9 = 0; 10 = 0; 11 = 0; 12 = 0; 13 = 0; 14 = 0; 15 = 0 }
+    ∷ record { 0 = 0; 1 = 0; 2 = 0; 3 = 0; 4 = 0; 5 = 0; 6 = 0; 7 = 1; 8 = 0; 9 = 2; 10 = 0; 11 = 0; 12 = 0; 13 = 0; 14 = 0; 15 = 0 }
+    ∷ record { 0 = 2; 1 = 9; 2 = 3; 3 = 0; 4 = 0; 5 = 0; 6 = 0; 7 = 0; 8 = 2; 9 = 3; 10 = 0; 11 = 0; 12 = 0; 13 = 0; 14 = 0; 15 = 0 }
+    ∷ record { 0 = 0; 1 = 0; 2 = 0; 3 = 0; 4 = 0; 5 = 0; 6 = 0; 7 = 2; 8 = 0; 9 = 3; 10 = 0; 11 = 0; 12 = 0; 13 = 0; 14 = 0; 15 = 0 }
+    ∷ record { 0 = 0; 1 = 0; 2 = 0; 3 = 0; 4 = 0; 5 = 0; 6 = 0; 7 = 2; 8 = 0; 9 = 3; 10 = 0; 11 = 0; 12 = 0; 13 = 0; 14 = 0; 15 = 0 }
+    ∷ record { 0 = 0; 1 = 0; 2 = 0; 3 = 0; 4 = 0; 5 = 0; 6 = 0; 7 = 2; 8 = 0; 9 = 3; 10 = 0; 11 = 0; 12 = 0; 13 = 0; 14 = 0; 15 = 0 }
+    ∷ record { 0 = 0; 1 = 0; 2 = 0; 3 = 0; 4 = 0; 5 = 0; 6 = 0; 7 = 2; 8 = 0; 9 = 3; 10 = 0; 11 = 0; 12 = 0; 13 = 0; 14 = 0; 15 = 0 }
+    ∷ record { 0 = 0; 1 = 0; 2 = 0; 3 = 0; 4 = 0; 5 = 0; 6 = 0; 7 = 2; 8 = 0; 9 = 3; 10 = 0; 11 = 0; 12 = 0; 13 = 0; 14 = 0; 15 = 0 }
+    ∷ record { 0 = 0; 1 = 0; 2 = 0; 3 = 0; 4 = 0; 5 = 0; 6 = 0; 7 = 2; 8 = 0; 9 = 3; 10 = 0; 11 = 0; 12 = 0; 13 = 0; 14 = 0; 15 = 0 }
+    ∷ record { 0 = 0; 1 = 0; 2 = 0; 3 = 0; 4 = 0; 5 = 0; 6 = 0; 7 = 2; 8 = 0; 9 = 3; 10 = 0; 11 = 0; 12 = 0; 13 = 0; 14 = 0; 15 = 0 }
+    ∷ record { 0 = 0; 1 = 0; 2 = 0; 3 = 0; 4 = 0; 5 = 0; 6 = 0; 7 = 2; 8 = 0; 9 = 3; 10 = 0; 11 = 0; 12 = 0; 13 = 0; 14 = 0; 15 = 0 }
+    ∷ record { 0 = 0; 1 = 0; 2 = 0; 3 = 0; 4 = 0; 5 = 0; 6 = 0; 7 = 2; 8 = 0; 9 = 3; 10 = 0; 11 = 0; 12 = 0; 13 = 0; 14 = 0; 15 = 0 }
+    ∷ record { 0 = 0; 1 = 0; 2 = 0; 3 = 0; 4 = 0; 5 = 0; 6 = 0; 7 = 2; 8 = 0; 9 = 3; 10 = 0; 11 = 0; 12 = 0; 13 = 0; 14 = 0; 15 = 0 }
+    ∷ record { 0 = 0; 1 = 0; 2 = 0; 3 = 0; 4 = 0; 5 = 0; 6 = 0; 7 = 2; 8 = 0; 9 = 3; 10 = 0; 11 = 0; 12 = 0; 13 = 0; 14 = 0; 15 = 0 }
+    ∷ record { 0 = 0; 1 = 0; 2 = 0; 3 = 0; 4 = 0; 5 = 0; 6 = 0; 7 = 2; 8 = 0; 9 = 3; 10 = 0; 11 = 0; 12 = 0; 13 = 0; 14 = 0; 15 = 0 }
+    ∷ record { 0 = 3; 1 = 0; 2 = 0; 3 = 0; 4 = 0; 5 = 0; 6 = 0; 7 = 1; 8 = 3; 9 = 3; 10 = 0; 11 = 0; 12 = 0; 13 = 0; 14 = 0; 15 = 0 }
+    ∷ record { 0 = 0; 1 = 0; 2 = 0; 3 = 0; 4 = 0; 5 = 0; 6 = 0; 7 = 1; 8 = 0; 9 = 3; 10 = 0; 11 = 0; 12 = 0; 13 = 0; 14 = 0; 15 = 0 }
+    ∷ record { 0 = 0; 1 = 0; 2 = 0; 3 = 0; 4 = 0; 5 = 0; 6 = 0; 7 = 1; 8 = 0; 9 = 3; 10 = 0; 11 = 0; 12 = 0; 13 = 0; 14 = 0; 15 = 0 }
+    ∷ record { 0 = 0; 1 = 0; 2 = 0; 3 = 0; 4 = 0; 5 = 0; 6 = 0; 7 = 1; 8 = 0; 9 = 3; 10 = 0; 11 = 0; 12 = 0; 13 = 0; 14 = 0; 15 = 0 }
+    ∷ record { 0 = 0; 1 = 0; 2 = 0; 3 = 0; 4 = 0; 5 = 0; 6 = 0; 7 = 3; 8 = 0; 9 = 3; 10 = 0; 11 = 0; 12 = 0; 13 = 0; 14 = 0; 15 = 0 }
+    ∷ record { 0 = 3; 1 = 0; 2 = 0; 3 = 0; 4 = 0; 5 = 0; 6 = 0; 7 = 0; 8 = 3; 9 = 3; 10 = 0; 11 = 0; 12 = 0; 13 = 0; 14 = 0; 15 = 0 }
+    ∷ record { 0 = 0; 1 = 0; 2 = 0; 3 = 0; 4 = 0; 5 = 0; 6 = 3; 7 = 0; 8 = 0; 9 = 0; 10 = 0; 11 = 0; 12 = 0; 13 = 0; 14 = 0; 15 = 0 }
+    ∷ record { 0 = 0; 1 = 0; 2 = 0; 3 = 0; 4 = 0; 5 = 0; 6 = 0; 7 = 1; 8 = 0; 9 = 3; 10 = 0; 11 = 0; 12 = 0; 13 = 0; 14 = 0; 15 = 0 }
+    ∷ record { 0 = 0; 1 = 0; 2 = 0; 3 = 0; 4 = 0; 5 = 0; 6 = 0; 7 = 1; 8 = 0; 9 = 3; 10 = 0; 11 = 0; 12 = 0; 13 = 0; 14 = 0; 15 = 0 }
+    ∷ record { 0 = 1; 1 = 0; 2 = 2; 3 = 9; 4 = 2; 5 = 8; 6 = 0; 7 = 1; 8 = 0; 9 = 3; 10 = 0; 11 = 0; 12 = 0; 13 = 0; 14 = 0; 15 = 0 }
+    ∷ record { 0 = 1; 1 = 0; 2 = 2; 3 = 8; 4 = 0; 5 = 0; 6 = 0; 7 = 0; 8 = 0; 9 = 0; 10 = 0; 11 = 0; 12 = 0; 13 = 0; 14 = 0; 15 = 0 }
+    ∷ record { 0 = 2; 1 = 14; 2 = 2; 3 = 9; 4 = 2; 5 = 9; 6 = 0; 7 = 1; 8 = 0; 9 = 2; 10 = 0; 11 = 0; 12 = 0; 13 = 0; 14 = 0; 15 = 0 }
+    ∷ record { 0 = 3; 1 = 0; 2 = 3; 3 = 0; 4 = 0; 5 = 0; 6 = 0; 7 = 1; 8 = 0; 9 = 9; 10 = 0; 11 = 2; 12 = 10; 13 = 0; 14 = 0; 15 = 0 }
+    ∷ record { 0 = 0; 1 = 0; 2 = 0; 3 = 0; 4 = 0; 5 = 0; 6 = 4; 7 = 0; 8 = 0; 9 = 0; 10 = 0; 11 = 0; 12 = 0; 13 = 0; 14 = 0; 15 = 0 }
+    ∷ record { 0 = 0; 1 = 0; 2 = 0; 3 = 0; 4 = 0; 5 = 0; 6 = 5; 7 = 0; 8 = 0; 9 = 0; 10 = 0; 11 = 0; 12 = 0; 13 = 0; 14 = 0; 15 = 0 }
+    ∷ record { 0 = 0; 1 = 0; 2 = 0; 3 = 0; 4 = 0; 5 = 0; 6 = 6; 7 = 0; 8 = 0; 9 = 0; 10 = 0; 11 = 0; 12 = 0; 13 = 0; 14 = 0; 15 = 0 }
+    ∷ record { 0 = 2; 1 = 6; 2 = 0; 3 = 0; 4 = 0; 5 = 0; 6 = 0; 7 = 0; 8 = 0; 9 = 0; 10 = 0; 11 = 0; 12 = 0; 13 = 0; 14 = 0; 15 = 0 }
+    ∷ record { 0 = 2; 1 = 9; 2 = 0; 3 = 0; 4 = 0; 5 = 0; 6 = 0; 7 = 1; 8 = 0; 9 = 11; 10 = 0; 11 = 0; 12 = 0; 13 = 0; 14 = 0; 15 = 0 }
+    ∷ record { 0 = 2; 1 = 9; 2 = 0; 3 = 0; 4 = 0; 5 = 0; 6 = 0; 7 = 2; 8 = 0; 9 = 11; 10 = 0; 11 = 0; 12 = 0; 13 = 0; 14 = 0; 15 = 0 }
+    ∷ record { 0 = 2; 1 = 9; 2 = 0; 3 = 0; 4 = 0; 5 = 0; 6 = 0; 7 = 3; 8 = 0; 9 = 11; 10 = 0; 11 = 0; 12 = 0; 13 = 0; 14 = 0; 15 = 0 }
+    ∷ record { 0 = 2; 1 = 9; 2 = 3; 3 = 0; 4 = 0; 5 = 0; 6 = 0; 7 = 0; 8 = 4; 9 = 11; 10 = 0; 11 = 0; 12 = 0; 13 = 0; 14 = 0; 15 = 0 }
+    ∷ []
+
+abbrev pub first : List ℕ
+first = 0 ∷ 1 ∷ 2 ∷ 19 ∷ 41 ∷ 42 ∷ 44 ∷ 46 ∷ 47 ∷ 48 ∷ 49 ∷ 50 ∷ 56 ∷ []
+
+abbrev pub domainWords : List ℕ
+domainWords = bytes "PlainStringLanguageTaggedStringIriFloatDoubleUnsignedLongNonNegativeLongUnsignedIntNonNegativeIntLongIntBooleanNullTupleMapOther"
+
+abbrev pub domainStarts : List ℕ
+domainStarts = 0 ∷ 11 ∷ 31 ∷ 34 ∷ 39 ∷ 45 ∷ 57 ∷ 72 ∷ 83 ∷ 97 ∷ 101 ∷ 104 ∷ 111 ∷ 115 ∷ 120 ∷ 123 ∷ []
+
+abbrev pub domainSizes : List ℕ
+domainSizes = 11 ∷ 20 ∷ 3 ∷ 5 ∷ 6 ∷ 12 ∷ 15 ∷ 11 ∷ 14 ∷ 4 ∷ 3 ∷ 7 ∷ 4 ∷ 5 ∷ 3 ∷ 5 ∷ []
+
+abbrev pub extras : List ℕ
+extras = 11 ∷ 12 ∷ 11 ∷ 13 ∷ 13 ∷ 13 ∷ 13 ∷ 13 ∷ 13 ∷ 13 ∷ 13 ∷ 13 ∷ 11 ∷ 11 ∷ 11 ∷ 13 ∷ []
+
+abbrev pub noCode : Code
+noCode = record { 0 = 0; 1 = 0; 2 = 0; 3 = 0; 4 = 0; 5 = 0; 6 = 0; 7 = 0; 8 = 0; 9 = 0; 10 = 0; 11 = 0; 12 = 0; 13 = 0; 14 = 0; 15 = 0 }
+
+abbrev pub codeAt : ℕ → Code
+codeAt i = getD rows i noCode
+
+abbrev pub wordAt : ℕ → Bytes
+wordAt i = getD table i (entry [] (row [] [])) .word
+
+abbrev pub domainAt : ℕ → Bytes
+domainAt i = getD (map spellV domains) i []
