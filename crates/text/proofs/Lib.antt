@@ -1,3 +1,6 @@
+pub mod Basics
+pub mod Numbers
+pub mod Texts
 pub mod Tests
 pub mod Lists
 pub mod FieldLaws

@@ -1,0 +1,32 @@
+-- `names::scan` meets its contract. Assumes nothing.
+use borrow.Author.Needs.{needs}
+use Prim.Native.Nat.{ℕ, _+_, _-_, _*_, _≤_, _<_}
+use mathlib.Core.Path.{_≡_, refl, sym, _∙_, ap}
+use native.Mathlib.Omega.{arith}
+use lib.ListN.{length, getD, drop}
+use Rattle.names.proofs.Laws as L
+use Rattle.algebra.specs.Valid.{mem}
+use mathlib.Core.Bool.{true, false}
+use Rattle.names.specs.Names.{listing}
+use Rattle.names.proofs.scan.Statement.{statement}
+use Rattle.names.proofs.scan.Tie as tie
+
+abbrev Inv-loop : tie.InvT-loop
+Inv-loop f s starts sizes n i₀ i = (i ≤ n) × (mem f (listing s starts sizes i) ≡ false)
+
+abbrev μ-loop : tie.MeasureT-loop
+μ-loop f s starts sizes n i₀ i = n - i
+
+pub scan-spec : {M : Type 1} → statement M
+scan-spec =
+    tie.close
+    (tie.spec
+    Inv-loop
+    μ-loop
+    (λ c. (search needs, L.scan-start _ _ _ _))
+    (λ c κs. search needs)
+    (λ c. (search needs, λ h. sym (c .before .is-name .ensures) ∙ c .if1 .taken, λ e. absurd (omega arith)))
+    (λ c. search needs)
+    (λ c. search needs)
+    (λ c. (search needs, L.scan-more _ _ _ _ _ _ (c .before .before .before .loop .inv .1) (c .before .is-name .ensures) (c .if1 .left)))
+    (λ c. (search needs, λ h. absurd (omega arith), λ e. L.all-seen _ _ _ _ _ _ (c .before .loop .inv .1) e)))

@@ -1,0 +1,39 @@
+-- The variable table in arrays: the names that it lists, in their order, and hints at where they stand. Assumes nothing.
+use Prim.Native.Nat.{ℕ, zero, suc, _+_, _*_, _%_, _≤_, _<_}
+use mathlib.Core.Path.{_≡_}
+use mathlib.Core.List.{List, [], _∷_, _++_}
+use mathlib.Core.Bool.{Bool, cond}
+use lib.ListN.{length, getD}
+use Rattle.text.specs.Text.{Bytes, piece}
+use Rattle.algebra.specs.Valid.{mem}
+
+-- a name's place among the hints, from h on
+unfoldable pub hashOf : ℕ → Bytes → ℕ
+hashOf h [] = h
+hashOf h (b ∷ bs) = hashOf ((h * 33 + b) % 4096) bs
+
+-- the name at an entry: the piece of the text s that the start and the size there tell
+abbrev pub nameAt : Bytes → List ℕ → List ℕ → ℕ → Bytes
+nameAt s starts sizes i = piece (getD starts i 0) (getD sizes i 0) s
+
+-- the first n names, in order
+unfoldable pub listing : Bytes → List ℕ → List ℕ → ℕ → List Bytes
+listing s starts sizes zero = []
+listing s starts sizes (suc n) = listing s starts sizes n ++ (nameAt s starts sizes n ∷ [])
+
+-- no name's place among the hints is empty
+unfoldable pub Hinted : List ℕ → List Bytes → Type 0
+Hinted hints [] = Unit {0}
+Hinted hints (x ∷ xs) = (getD hints (hashOf 0 x) 0 ≡ 0 → ⊥) × Hinted hints xs
+
+-- a name more, if it is new
+abbrev pub kept : Bytes → List Bytes → List Bytes
+kept f ns = cond (mem f ns) ns (ns ++ (f ∷ []))
+
+-- the table with n names lists those wanted; or n is 1,025, and they are more than it can list
+pub record Holds (s : Bytes) (starts sizes hints : List ℕ) (n : ℕ) (want : List Bytes) : Type 0 where
+  pub entries : (length starts ≡ 1024) × (length sizes ≡ 1024) × (length hints ≡ 4096)
+  pub high : n ≤ 1025
+  pub fits : n ≤ 1024 → listing s starts sizes n ≡ want
+  pub hinted : n ≤ 1024 → Hinted hints want
+  pub over : 1024 < n → 1024 < length want
