@@ -11,3 +11,4 @@ pub mod ListReading
 pub mod Texts
 pub mod Table
 pub mod Machine
+pub mod Answers

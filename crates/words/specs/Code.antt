@@ -18,9 +18,9 @@ use Rattle.words.specs.declared.Found.the-variants.{Is, None}
 abbrev pub sortAt : ℕ → Sort
 sortAt n = getD sorts n parts
 
--- a field's role: 0 no field, 1 a term, 2 something else, 3 a number of lines, 4 of 0 or 1 of them
-abbrev pub slotOf : ℕ → Kind → List Slot
-slotOf r k = getD ([] ∷ (term k ∷ []) ∷ (text k ∷ []) ∷ (count ∷ []) ∷ (choice ∷ []) ∷ []) r []
+-- a field's role: 0 no field from here on, 1 a term, 2 something else, 3 a number of lines, 4 that is 0 or 1; then the fields behind it
+abbrev pub slotThen : ℕ → Kind → List Slot → List Slot
+slotThen r k ss = getD ([] ∷ (term k ∷ ss) ∷ (text k ∷ ss) ∷ (count ∷ ss) ∷ []) r (choice ∷ ss)
 
 -- what stands behind the fields
 abbrev pub tailOf : ℕ → Tail
@@ -40,7 +40,7 @@ groupOf n k s = getD (fixed n s ∷ group (given 0) s ∷ group (given 1) s ∷ 
 -- the row that a row of the code means
 abbrev pub rowOf : Code → Row
 rowOf c = record {
-  slots = slotOf (c .0) (kindAt (c .1)) ++ (slotOf (c .2) (kindAt (c .3)) ++ slotOf (c .4) (kindAt (c .5)));
+  slots = slotThen (c .0) (kindAt (c .1)) (slotThen (c .2) (kindAt (c .3)) (slotThen (c .4) (kindAt (c .5)) []));
   tail = tailOf (c .6);
   below = groupOf (c .7) (c .8) (sortAt (c .9)) ++ (groupOf (c .10) (c .11) (sortAt (c .12)) ++ groupOf (c .13) (c .14) (sortAt (c .15)));
 }

@@ -1,0 +1,42 @@
+-- Laws of the cursor: what a step leaves of a line, and of the parents. Assumes nothing.
+use Prim.Native.Nat.{ℕ, suc, _+_, _-_, _≤_, _<_}
+use mathlib.Core.Path.{_≡_, refl, sym, _∙_, ap, subst}
+use mathlib.Core.List.{List, [], _∷_}
+use mathlib.Core.Bool.{Bool, true, false, cond, not, _&&_}
+use mathlib.Core.Logic.{_⊎_, inl, inr, ⊎-elim}
+use native.Mathlib.Nat.{eq-or-lt-of-le}
+use native.Mathlib.Omega.{arith}
+use lib.ListN.{length, getD}
+use lib.Dec.{leb, eqb}
+use borrow.Author.Tests.{le-leb, lt-leb}
+use Rattle.text.specs.Text.{Bytes, split, part, First}
+use Rattle.text.proofs.Lists.{split-here, split-last}
+use Rattle.cursor.specs.Cursor.{left}
+
+-- past the end of the line no field is left
+pub left-none : (s : Bytes) (at end : ℕ) → end < at → left s at end ≡ []
+unfolding left
+left-none s at end h = rw (lt-leb at end h)
+
+-- before it there is one, up to the next tab or the line's end
+pub left-next : (s : Bytes) (at end e : ℕ) → end ≤ length s → at ≤ end → First 9 s at end e → left s at end ≡ part at e s ∷ left s (e + 1) end
+unfolding left
+left-next s at end e k h f =
+    rw (le-leb at end h)
+    (⊎-elim
+    (λ (q : e ≡ end). let n : end < e + 1 = omega arith in rw (lt-leb (e + 1) end n) (split-last 9 s at end e k f q))
+    (λ (q : e < end). let n : e + 1 ≤ end = omega arith in rw (le-leb (e + 1) end n) (split-here 9 s at end e k f q))
+    (eq-or-lt-of-le (f .high)))
+
+-- at a line's start all its fields are left
+pub left-all : (s : Bytes) (at end : ℕ) → at ≤ end → left s at end ≡ split 9 (part at end s)
+unfolding left
+left-all s at end h = rw (le-leb at end h)
+
+-- a count that is 0 more
+pub above-more : (counts : List ℕ) (h i : ℕ) → ((k : ℕ) → k < h → i + 1 ≤ k → getD counts k 0 ≡ 0) → getD counts i 0 ≡ 0 → (k : ℕ) → k < h → i ≤ k → getD counts k 0 ≡ 0
+above-more counts h i f z k l m =
+    ⊎-elim (λ (q : i ≡ k). subst (λ j. getD counts j 0 ≡ 0) q z) (λ (q : i < k). f k l (omega arith)) (eq-or-lt-of-le m)
+
+pub waits-at : (counts : List ℕ) (h : ℕ) → (getD counts (h - 1) 0 ≡ 0 → ⊥) → (i : ℕ) → h ≡ i + 1 → getD counts i 0 ≡ 0 → ⊥
+waits-at counts h f i e z = let q : h - 1 ≡ i = omega arith in f (subst (λ j. getD counts j 0 ≡ 0) (sym q) z)
