@@ -12,3 +12,6 @@ pub mod Texts
 pub mod Table
 pub mod Machine
 pub mod Answers
+pub mod Bounded
+pub mod Verdict
+pub mod Examples

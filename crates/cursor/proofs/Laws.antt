@@ -11,7 +11,10 @@ use lib.Dec.{leb, eqb}
 use borrow.Author.Tests.{le-leb, lt-leb}
 use Rattle.text.specs.Text.{Bytes, split, part, First}
 use Rattle.text.proofs.Lists.{split-here, split-last}
-use Rattle.cursor.specs.Cursor.{left}
+use Rattle.cursor.specs.declared.Cursor.{Cursor}
+use Rattle.cursor.specs.declared.Field.{Field}
+use Rattle.cursor.specs.declared.Field.the-variants.{At, None}
+use Rattle.cursor.specs.Cursor.{left, Reads}
 
 -- past the end of the line no field is left
 pub left-none : (s : Bytes) (at end : ℕ) → end < at → left s at end ≡ []
@@ -40,3 +43,22 @@ above-more counts h i f z k l m =
 
 pub waits-at : (counts : List ℕ) (h : ℕ) → (getD counts (h - 1) 0 ≡ 0 → ⊥) → (i : ℕ) → h ≡ i + 1 → getD counts i 0 ≡ 0 → ⊥
 waits-at counts h f i e z = let q : h - 1 ≡ i = omega arith in f (subst (λ j. getD counts j 0 ≡ 0) (sym q) z)
+
+-- ---- what a step found
+
+pub record Next (s : Bytes) (c : Cursor) (e : ℕ) (d : Cursor) : Type 0 where
+  pub first : First 9 s (c .at) (c .end) e
+  pub at : d .at ≡ e + 1
+  pub end : d .end ≡ c .end
+  pub height : d .height ≡ c .height
+
+pub reads-at : (s : Bytes) (c : Cursor) (r : Field) (e : ℕ) (d : Cursor) → Reads s c r → r ≡ At e d → Next s c e d
+unfolding Reads
+reads-at s c r e d h q = taken (subst (Reads s c) q h)
+  where
+    taken : Reads s c (At e d) → Next s c e d
+    taken h = record { first = h .0; at = h .1; end = h .2; height = h .3 }
+
+pub reads-none : (s : Bytes) (c : Cursor) (r : Field) → Reads s c r → r ≡ None → c .end < c .at
+unfolding Reads
+reads-none s c r h q = subst (Reads s c) q h

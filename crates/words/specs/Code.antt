@@ -37,10 +37,19 @@ fixed (suc n) s = group (always (suc n)) s
 abbrev pub groupOf : ℕ → ℕ → Sort → List Below
 groupOf n k s = getD (fixed n s ∷ group (given 0) s ∷ group (given 1) s ∷ group (more 0 n) s ∷ group (more 1 n) s ∷ []) k []
 
+-- a line of columns has no other fields
+abbrev pub slotsUnder : Tail → List Slot → List Slot
+slotsUnder nothing ss = ss
+slotsUnder columns ss = []
+slotsUnder variables ss = ss
+slotsUnder (texts k) ss = ss
+slotsUnder values ss = ss
+slotsUnder value ss = ss
+
 -- the row that a row of the code means
 abbrev pub rowOf : Code → Row
 rowOf c = record {
-  slots = slotThen (c .0) (kindAt (c .1)) (slotThen (c .2) (kindAt (c .3)) (slotThen (c .4) (kindAt (c .5)) []));
+  slots = slotsUnder (tailOf (c .6)) (slotThen (c .0) (kindAt (c .1)) (slotThen (c .2) (kindAt (c .3)) (slotThen (c .4) (kindAt (c .5)) [])));
   tail = tailOf (c .6);
   below = groupOf (c .7) (c .8) (sortAt (c .9)) ++ (groupOf (c .10) (c .11) (sortAt (c .12)) ++ groupOf (c .13) (c .14) (sortAt (c .15)));
 }
