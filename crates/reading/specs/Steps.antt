@@ -8,6 +8,8 @@ use Rattle.text.specs.Text.{Bytes}
 use Rattle.cursor.specs.declared.Cursor.{Cursor}
 use Rattle.cursor.specs.Cursor.{left}
 use Rattle.words.specs.Code.{mapped}
+use Rattle.text.specs.Field.{Kind}
+use Rattle.algebra.specs.Table.{Slot, term, text, count, choice}
 use Rattle.reading.specs.Line.{Took, Fields}
 
 -- the cursor stands in a line of the text s, and no line end stands between it and the line's
@@ -51,3 +53,7 @@ termsIn (some t) = t .terms
 abbrev pub numbersIn : Option Fields → List ℕ
 numbersIn none = []
 numbersIn (some t) = t .numbers
+
+-- the slot that a role other than 0 means
+abbrev pub oneSlot : ℕ → Kind → Slot
+oneSlot r k = getD (choice ∷ term k ∷ text k ∷ count ∷ []) r choice

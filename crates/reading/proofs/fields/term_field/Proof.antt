@@ -1,84 +1,33 @@
+-- `reading::fields/term_field` meets its contract. Assumes nothing.
 use borrow.Author.Needs.{needs}
+use Prim.Native.Nat.{ℕ, _+_, _-_, _*_, _≤_, _<_}
+use mathlib.Core.Path.{_≡_, refl, sym, _∙_, ap, subst}
+use native.Mathlib.Omega.{arith}
+use lib.ListN.{length, getD, drop}
+use Rattle.reading.proofs.StepLaw as S
+use Rattle.cursor.proofs.Laws as C
+use Rattle.reading.specs.Steps.{restOf}
+use Rattle.algebra.specs.Table.{term}
+use Rattle.text.specs.Code.{kindAt}
+use denote.Ref.{now}
 use Rattle.reading.proofs.fields.term_field.Statement.{statement}
 use Rattle.reading.proofs.fields.term_field.Tie as tie
-use Rattle.reading.proofs.fields.term_field.Reads as reads
-use Rattle.reading.proofs.fields.term_field.Lts as lts
-use Rattle.cursor.proofs.Cursor.failed.Reads as failed-reads
-use Rattle.cursor.proofs.Cursor.next_field.Reads as next-field-reads
-use Rattle.names.proofs.note_field.Reads as note-field-reads
-use Rattle.text.proofs.is_kind.Reads as is-kind-reads
-
--- src/fields.rt:61:9
-next-field-requires : tie.Need-next-field-requires
-next-field-requires c κs = search needs
-
--- src/fields.rt:63:19
-enum-known-field : tie.Need-enum-known-field
-enum-known-field c = search needs
-
--- src/fields.rt:64:30
-sub-is-kind : tie.Need-sub-is-kind
-sub-is-kind c = ?
-
--- src/fields.rt:64:30
-part-is-kind-start : tie.Need-part-is-kind-start
-part-is-kind-start c = ?
-
--- src/fields.rt:64:30
-part-is-kind-end : tie.Need-part-is-kind-end
-part-is-kind-end c = ?
-
--- src/fields.rt:64:16
-is-kind-requires : tie.Need-is-kind-requires
-is-kind-requires c κs = search needs
-
--- src/fields.rt:65:43
-sub-note-field : tie.Need-sub-note-field
-sub-note-field c = ?
-
--- src/fields.rt:65:21
-note-field-requires : tie.Need-note-field-requires
-note-field-requires c κs = ?
-
--- src/fields.rt:66:17
-returns : tie.Need-returns
-returns c = ?
-
--- src/fields.rt:72:25
-failed-requires : tie.Need-failed-requires
-failed-requires c κs = search needs
-
--- src/fields.rt:71:13
-returns-2 : tie.Need-returns-2
-returns-2 c = ?
-
--- src/fields.rt:78:25
-enum-told : tie.Need-enum-told
-enum-told c = search needs
-
--- src/fields.rt:78:25
-failed-requires-2 : tie.Need-failed-requires-2
-failed-requires-2 c κs = search needs
-
--- src/fields.rt:77:13
-returns-3 : tie.Need-returns-3
-returns-3 c = ?
 
 pub term-field-spec : {M : Type 1} → statement M
 term-field-spec =
     tie.close
     (tie.spec
-    next-field-requires
-    enum-known-field
-    sub-is-kind
-    part-is-kind-start
-    part-is-kind-end
-    is-kind-requires
-    sub-note-field
-    note-field-requires
-    returns
-    failed-requires
-    returns-2
-    enum-told
-    failed-requires-2
-    returns-3)
+    (λ c κs. search needs)
+    (λ c. search needs)
+    (λ c. let x = C.reads-at _ _ _ _ _ (c .before .before .before .next-field .ensures) (c .before .field .given .1) in let y = x .first .low in omega arith)
+    (λ c. let x = C.reads-at _ _ _ _ _ (c .before .before .before .next-field .ensures) (c .before .field .given .1) in let y = x .first .low in omega arith)
+    (λ c. let x = C.reads-at _ _ _ _ _ (c .before .before .before .next-field .ensures) (c .before .field .given .1) in let y = x .first .high in let z = c .before .before .before .before .before .pre .ends in omega arith)
+    (λ c κs. search needs)
+    (λ c. let x = C.reads-at _ _ _ _ _ (c .before .before .before .before .before .before .next-field .ensures) (c .before .before .before .before .field .given .1) in let y = x .first .low in omega arith)
+    (λ c κs. let x = C.reads-at _ _ _ _ _ (c .before .before .before .before .before .before .before .before .before .next-field .ensures) (c .before .before .before .before .before .before .before .field .given .1) in let y = x .first .high in let v = x .first .low in let z = c .before .before .before .before .before .before .before .before .before .before .before .pre .ends in let w = c .before .before .before .before .before .before .before .before .before .before .before .pre .short in (omega arith, omega arith))
+    (λ c. let x = C.reads-at _ _ _ _ _ (c .before .before .before .before .before .before .before .before .before .before .next-field .ensures) (c .before .before .before .before .before .before .before .before .field .given .1) in (S.step-follows _ _ _ _ (c .before .before .before .before .before .before .before .before .before .before .before .before .pre) x _ (S.term-taken _ _ _ _ (c .before .before .before .before .before .before .before .before .before .before .before .before .pre) x _ _ (c .before .before .before .before .before .is-kind .ensures) (c .before .before .before .before .if1 .taken)), λ want h. rw (S.term-terms _ _ _ _ (c .before .before .before .before .before .before .before .before .before .before .before .before .pre) x _ _ (c .before .before .before .before .before .is-kind .ensures) (c .before .before .before .before .if1 .taken)) (c .note-field .ensures want h)))
+    (λ c κs. search needs)
+    (λ c. let x = C.reads-at _ _ _ _ _ (c .before .before .before .before .before .before .before .next-field .ensures) (c .before .before .before .before .before .field .given .1) in let z = S.term-refused _ _ _ _ (c .before .before .before .before .before .before .before .before .before .pre) x _ _ (c .before .before .is-kind .ensures) (c .before .if1 .left) in (S.failed-follows _ _ _ _ (ap restOf z) (c .failed .ensures), λ want h. S.keeps-none _ _ _ _ _ _ want z h))
+    (λ c. search needs)
+    (λ c κs. search needs)
+    (λ c. let z = S.nothing-left (term (kindAt (c .before .before .before .before .before .args .kind))) (now (c .before .before .before .before .before .args .s)) (c .before .before .before .before .before .args .c) (C.reads-none _ _ _ (c .before .before .before .next-field .ensures) (c .before .enum-told .given .1)) in (S.failed-follows _ _ _ _ (ap restOf z) (c .failed2 .ensures), λ want h. S.keeps-none _ _ _ _ _ _ want z h)))
