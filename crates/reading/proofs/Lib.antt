@@ -6,3 +6,4 @@ pub mod RunLaw
 pub mod StackLaw
 pub mod Zero
 pub mod FieldsLaw
+pub mod SlotLaw

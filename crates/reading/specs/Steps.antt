@@ -55,5 +55,12 @@ numbersIn none = []
 numbersIn (some t) = t .numbers
 
 -- the slot that a role other than 0 means
-abbrev pub oneSlot : ℕ → Kind → Slot
+unfoldable pub oneSlot : ℕ → Kind → Slot
 oneSlot r k = getD (choice ∷ term k ∷ text k ∷ count ∷ []) r choice
+
+-- what the slots of a row took: the cursor behind them, and the first two numbers
+unfoldable pub TookSlots : Bytes → Cursor → Option Fields → Cursor → ℕ → ℕ → Type 0
+unfolding Follows
+TookSlots s c o d first second =
+    Follows s c (restIn o) d × (first < 4294967296) × (second < 4294967296)
+    × (d .at ≤ c .end + 1 → (getD (numbersIn o) 0 0 ≡ first) × (getD (numbersIn o) 1 0 ≡ second))

@@ -19,7 +19,7 @@ ghost use Rattle.algebra.specs.Tally.{notes};
 ghost use Rattle.names.specs.Names.{Holds};
 ghost use Rattle.words.specs.Code.{slotThen, tailOf, rowOf};
 ghost use Rattle.reading.specs.Line.{takeField, takeSlots, takeTail, columnsOf};
-ghost use Rattle.reading.specs.Steps.{InLine, leftAt, Follows, restOf, restIn, termsOf, termsIn, numberTaken, numbersIn, oneSlot};
+ghost use Rattle.reading.specs.Steps.{InLine, leftAt, Follows, restOf, restIn, termsOf, termsIn, numberTaken, numbersIn, oneSlot, TookSlots};
 
 // A cursor, the number of names in the table, and the number in a field or of a project's columns.
 pub struct Step {
@@ -45,31 +45,165 @@ fn slot(
 {
     if role == 1 {
         let t = term_field(s, c, kind, starts, sizes, hints, n);
+        let d = t.cursor;
         return Step {
-            cursor: t.cursor,
+            cursor: d,
             names: t.number,
             number: 0,
         };
     }
     if role == 2 {
+        let d = text_field(s, c, kind);
         return Step {
-            cursor: text_field(s, c, kind),
+            cursor: d,
             names: n,
             number: 0,
         };
     }
     if role == 3 {
         let t = count_field(s, c);
+        let d = t.cursor;
         return Step {
-            cursor: t.cursor,
+            cursor: d,
             names: n,
             number: t.number,
         };
     }
     let t = choice_field(s, c);
+    let d = t.cursor;
     Step {
-        cursor: t.cursor,
+        cursor: d,
         names: n,
         number: t.number,
     }
+}
+
+// The fields of a line behind its word: the cursor, the number of names, and the first two numbers.
+pub struct Filled {
+    pub cursor: Cursor,
+    pub names: usize,
+    pub first: usize,
+    pub second: usize,
+}
+
+// The fields that the slots of a row take.
+fn slots(
+    s: &[u8],
+    c: Cursor,
+    row: Row,
+    starts: &mut [u16; 1024],
+    sizes: &mut [u16; 1024],
+    hints: &mut [u16; 4096],
+    n: usize,
+) -> Filled
+    requires { ⌜ InLine (now s) c × (c .at ≤ c .end + 1) ⌝ }
+    ensures { λ r. ⌜ TookSlots (now (s .entry)) c (takeSlots (rowOf row .slots) (leftAt (now (s .entry)) c)) (r .cursor) (r .first) (r .second) ⌝ }
+    ensures keeps { λ r. ⌜ (r .cursor .at ≤ c .end + 1 → (want : List (List ℕ)) → Holds (now (s .entry)) (now (starts .entry)) (now (sizes .entry)) (now (hints .entry)) n want → Holds (now (s .entry)) (now (starts .exit)) (now (sizes .exit)) (now (hints .exit)) (r .names) (notes (termsIn (takeSlots (rowOf row .slots) (leftAt (now (s .entry)) c))) want)) ⌝ }
+{
+    if row.6 == 1 {
+        return Filled {
+            cursor: c,
+            names: n,
+            first: 0,
+            second: 0,
+        };
+    }
+    if row.0 == 0 {
+        return Filled {
+            cursor: c,
+            names: n,
+            first: 0,
+            second: 0,
+        };
+    }
+    let a = slot(s, c, row.0, row.1, starts, sizes, hints, n);
+    let ca = a.cursor;
+    if row.2 == 0 {
+        return Filled {
+            cursor: ca,
+            names: a.names,
+            first: a.number,
+            second: 0,
+        };
+    }
+    let b = slot(s, ca, row.2, row.3, starts, sizes, hints, a.names);
+    let cb = b.cursor;
+    if row.4 == 0 {
+        return Filled {
+            cursor: cb,
+            names: b.names,
+            first: a.number,
+            second: b.number,
+        };
+    }
+    let d = slot(s, cb, row.4, row.5, starts, sizes, hints, b.names);
+    let cd = d.cursor;
+    Filled {
+        cursor: cd,
+        names: d.names,
+        first: a.number,
+        second: b.number,
+    }
+}
+
+// What stands behind the slots.
+fn tail(
+    s: &[u8],
+    c: Cursor,
+    kind: u8,
+    width: usize,
+    starts: &mut [u16; 1024],
+    sizes: &mut [u16; 1024],
+    hints: &mut [u16; 4096],
+    n: usize,
+) -> Step
+    requires { ⌜ InLine (now s) c × (c .at ≤ c .end + 1) ⌝ }
+    ensures follows { λ r. ⌜ Follows (now (s .entry)) c (restIn (takeTail (tailOf kind) width (leftAt (now (s .entry)) c))) (r .cursor) × (r .cursor .at ≤ c .end + 1 → columnsOf (tailOf kind) (termsIn (takeTail (tailOf kind) width (leftAt (now (s .entry)) c))) ≡ r .number) ⌝ }
+    ensures keeps { λ r. ⌜ (r .cursor .at ≤ c .end + 1 → (want : List (List ℕ)) → Holds (now (s .entry)) (now (starts .entry)) (now (sizes .entry)) (now (hints .entry)) n want → Holds (now (s .entry)) (now (starts .exit)) (now (sizes .exit)) (now (hints .exit)) (r .names) (notes (termsIn (takeTail (tailOf kind) width (leftAt (now (s .entry)) c))) want)) ⌝ }
+{
+    if kind == 1 {
+        let k = fields_left(s, c);
+        let t = variable_fields(s, c, k, starts, sizes, hints, n);
+        let d = t.cursor;
+        return Step {
+            cursor: d,
+            names: t.number,
+            number: k,
+        };
+    }
+    if kind == 2 {
+        let t = variable_fields(s, c, width, starts, sizes, hints, n);
+        let d = t.cursor;
+        return Step {
+            cursor: d,
+            names: t.number,
+            number: 0,
+        };
+    }
+    let d = plain_tail(s, c, kind, width);
+    Step {
+        cursor: d,
+        names: n,
+        number: 0,
+    }
+}
+
+// What stands behind the slots where it holds no variables.
+fn plain_tail(s: &[u8], c: Cursor, kind: u8, width: usize) -> Cursor
+    requires { ⌜ InLine (now s) c × (c .at ≤ c .end + 1) × (kind ≡ 1 → ⊥) × (kind ≡ 2 → ⊥) ⌝ }
+    ensures { λ r. ⌜ Follows (now (s .entry)) c (restIn (takeTail (tailOf kind) width (leftAt (now (s .entry)) c))) r ⌝ }
+{
+    if kind == 3 {
+        return text_fields(s, c, 5, width);
+    }
+    if kind == 4 {
+        return text_fields(s, c, 6, width);
+    }
+    if kind == 5 {
+        return value_fields(s, c, width);
+    }
+    if kind == 6 {
+        return value_fields(s, c, 1);
+    }
+    c
 }
