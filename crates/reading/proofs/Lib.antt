@@ -7,3 +7,4 @@ pub mod StackLaw
 pub mod Zero
 pub mod FieldsLaw
 pub mod SlotLaw
+pub mod TailLaw
