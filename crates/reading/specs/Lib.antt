@@ -1,3 +1,4 @@
 pub mod Line
 pub mod Stack
 pub mod Steps
+pub mod Says

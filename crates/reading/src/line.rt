@@ -1,5 +1,6 @@
 // One line: its word, the fields that the word's row of the table asks for, and the bounds.
 use cursor::Cursor;
+use cursor::Field;
 use crate::fields::Taken;
 use crate::fields::choice_field;
 use crate::fields::count_field;
@@ -9,16 +10,20 @@ use crate::fields::text_field;
 use crate::fields::text_fields;
 use crate::fields::value_fields;
 use crate::fields::variable_fields;
+use words::Found;
 use words::Row;
+use words::lookup;
 ghost use mathlib.Core.Path.{_≡_};
 ghost use Prim.Native.Nat.{ℕ, _+_, _≤_, _<_};
 ghost use mathlib.Core.List.{List, []};
 ghost use lib.ListN.{length, getD};
 ghost use Rattle.text.specs.Code.{kindAt};
-ghost use Rattle.algebra.specs.Tally.{notes};
+ghost use Rattle.algebra.specs.Tally.{notes, Tally};
+ghost use Rattle.algebra.specs.Table.{opens};
 ghost use Rattle.names.specs.Names.{Holds};
-ghost use Rattle.words.specs.Code.{slotThen, tailOf, rowOf};
-ghost use Rattle.reading.specs.Line.{takeField, takeSlots, takeTail, columnsOf};
+ghost use Rattle.words.specs.Code.{tailOf, rowOf, sortAt};
+ghost use Rattle.reading.specs.Line.{takeField, takeSlots, takeTail, takeLine, columnsOf};
+ghost use Rattle.reading.specs.Says.{Says, LineIs};
 ghost use Rattle.reading.specs.Steps.{InLine, leftAt, Follows, restOf, restIn, termsOf, termsIn, numberTaken, numbersIn, oneSlot, TookSlots};
 
 // A cursor, the number of names in the table, and the number in a field or of a project's columns.
@@ -206,4 +211,134 @@ fn plain_tail(s: &[u8], c: Cursor, kind: u8, width: usize) -> Cursor
         return value_fields(s, c, 1);
     }
     c
+}
+
+// The fields of a whole line behind its word. They are all taken exactly if the cursor stands one past the line's end.
+pub struct Said {
+    pub cursor: Cursor,
+    pub names: usize,
+    pub first: usize,
+    pub second: usize,
+    pub columns: usize,
+}
+
+fn fields(
+    s: &[u8],
+    c: Cursor,
+    row: Row,
+    width: usize,
+    starts: &mut [u16; 1024],
+    sizes: &mut [u16; 1024],
+    hints: &mut [u16; 4096],
+    n: usize,
+) -> Said
+    requires { ⌜ InLine (now s) c × (c .at ≤ c .end + 1) ⌝ }
+    ensures says { λ r. ⌜ Says c (takeLine (rowOf row) width (leftAt (now (s .entry)) c)) (rowOf row .tail) (r .cursor) (r .first) (r .second) (r .columns) ⌝ }
+    ensures keeps { λ r. ⌜ (r .cursor .at ≡ c .end + 1 → (want : List (List ℕ)) → Holds (now (s .entry)) (now (starts .entry)) (now (sizes .entry)) (now (hints .entry)) n want → Holds (now (s .entry)) (now (starts .exit)) (now (sizes .exit)) (now (hints .exit)) (r .names) (notes (termsIn (takeLine (rowOf row) width (leftAt (now (s .entry)) c))) want)) ⌝ }
+{
+    let a = slots(s, c, row, starts, sizes, hints, n);
+    let ca = a.cursor;
+    if ca.end + 1 < ca.at {
+        return Said {
+            cursor: ca,
+            names: a.names,
+            first: a.first,
+            second: a.second,
+            columns: 0,
+        };
+    }
+    let t = tail(s, ca, row.6, width, starts, sizes, hints, a.names);
+    let ct = t.cursor;
+    Said {
+        cursor: ct,
+        names: t.names,
+        first: a.first,
+        second: a.second,
+        columns: t.number,
+    }
+}
+
+// A line of this sort opens a level or an entry of its own.
+pub fn opens_level(sort: u8) -> bool
+    requires { ⌜ sort ≤ 11 ⌝ }
+    ensures { λ r. ⌜ r ≡ opens (sortAt sort) ⌝ }
+{
+    match sort {
+        2 | 3 | 8 | 11 => true,
+        _ => false,
+    }
+}
+
+// What a good line asks for: its row, its first two numbers, and the number of names kept so far.
+pub struct Asked {
+    pub row: Row,
+    pub first: usize,
+    pub second: usize,
+    pub names: usize,
+}
+
+pub enum Line {
+    Asks(Asked),
+    Malformed,
+    OverBound,
+}
+
+// A line of a sort, at a level, after so many others: its word, its fields, and then the bounds.
+pub fn line(
+    s: &[u8],
+    c: Cursor,
+    sort: u8,
+    level: u8,
+    width: usize,
+    lines: usize,
+    starts: &mut [u16; 1024],
+    sizes: &mut [u16; 1024],
+    hints: &mut [u16; 4096],
+    n: usize,
+) -> Line
+    requires { ⌜ InLine (now s) c × (c .at ≤ c .end) × (sort ≤ 11) ⌝ }
+    ensures { λ r. ⌜ ((m : Tally) → m .lines ≡ lines → m .wide ≤ 64 → Holds (now (s .entry)) (now (starts .entry)) (now (sizes .entry)) (now (hints .entry)) n (m .names) → LineIs (now (s .entry)) (now (starts .exit)) (now (sizes .exit)) (now (hints .exit)) c sort level width m r) ⌝ }
+{
+    let at = c.at;
+    let field = c.next_field(s);
+    match field {
+        Field::At(e, next) => {
+            let found = lookup(sort, &s[at..e]);
+            match found {
+                Found::Is(row) => {
+                    let f = fields(s, next, row, width, starts, sizes, hints, n);
+                    let d = f.cursor;
+                    if d.at != d.end + 1 {
+                        return Line::Malformed;
+                    }
+                    if 2048 <= lines {
+                        return Line::OverBound;
+                    }
+                    if 64 < f.columns {
+                        return Line::OverBound;
+                    }
+                    if 1024 < f.names {
+                        return Line::OverBound;
+                    }
+                    if level == 0 {
+                        if opens_level(sort) {
+                            return Line::OverBound;
+                        }
+                    }
+                    return Line::Asks(Asked {
+                        row,
+                        first: f.first,
+                        second: f.second,
+                        names: f.names,
+                    });
+                }
+                Found::None => {
+                    return Line::Malformed;
+                }
+            }
+        }
+        Field::None => {
+            return Line::Malformed;
+        }
+    }
 }

@@ -3,7 +3,7 @@ use mathlib.Core.Path.{_≡_, refl, _∙_, sym, ap}
 use mathlib.Core.Bool.{Bool, true, false, cond, _&&_, false≢true}
 use mathlib.Core.List.{List, [], _∷_, _++_, map}
 use mathlib.Core.Option.{Option, none, some}
-use Prim.Native.Nat.{ℕ, zero, suc, _+_, _-_, _≤_, _<_}
+use Prim.Native.Nat.{ℕ, zero, suc, _+_, _-_, _*_, _/_, _%_, _≤_, _<_}
 use native.Mathlib.Numerals.{add-one}
 use native.Mathlib.Omega.{arith}
 use lib.ListN.{length, getD, take, drop, drop-of-length-le, List·getD-map, length-drop}
@@ -54,8 +54,15 @@ pub word-right : (i : ℕ) → i < 56 → piece (getD starts i 0) (getD sizes i 
 unfolding table cuts
 word-right i h = cut-at words starts sizes i h h ∙ List·getD-map (λ (e : Entry). e .word) table i noEntry
 
-pub row-right : (i : ℕ) (d : Code) → i < 56 → getD rows i d ≡ codeAt i
-row-right i d h = any-default rows i d noCode h
+-- a row written as one number, a hexadecimal digit for each of its own
+abbrev packed : Code → ℕ
+packed c = ((((((((((((((c .0 * 16 + c .1) * 16 + c .2) * 16 + c .3) * 16 + c .4) * 16 + c .5) * 16 + c .6) * 16 + c .7) * 16 + c .8) * 16 + c .9) * 16 + c .10) * 16 + c .11) * 16 + c .12) * 16 + c .13) * 16 + c .14) * 16 + c .15
+
+abbrev unpacked : ℕ → Code
+unpacked w = record { 0 = w / 1152921504606846976 % 16; 1 = w / 72057594037927936 % 16; 2 = w / 4503599627370496 % 16; 3 = w / 281474976710656 % 16; 4 = w / 17592186044416 % 16; 5 = w / 1099511627776 % 16; 6 = w / 68719476736 % 16; 7 = w / 4294967296 % 16; 8 = w / 268435456 % 16; 9 = w / 16777216 % 16; 10 = w / 1048576 % 16; 11 = w / 65536 % 16; 12 = w / 4096 % 16; 13 = w / 256 % 16; 14 = w / 16 % 16; 15 = w % 16 }
+
+pub row-right : (i : ℕ) → unpacked (getD (map packed rows) i 0) ≡ codeAt i
+row-right i = sym (List·getD-map unpacked (map packed rows) i 0)
 
 -- what a row of the code means is the table's row
 row-means : (i : ℕ) → i < 56 → rowOf (codeAt i) ≡ getD table i noEntry .row

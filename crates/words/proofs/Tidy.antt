@@ -1,9 +1,10 @@
 -- Two rules of the code's table, each by one computed test of all its rows: how few groups of lines stand under a line that opens no level, and how large a row's numbers are. Assumes nothing.
-use Prim.Native.Nat.{ℕ, zero, suc, _≤_, _<_}
-use mathlib.Core.Path.{_≡_, refl}
+use Prim.Native.Nat.{ℕ, zero, suc, _+_, _≤_, _<_}
+use mathlib.Core.Path.{_≡_, refl, sym}
 use mathlib.Core.Bool.{Bool, true, false, _&&_, _||_}
 use mathlib.Core.Logic.{_⊎_, inl, inr, ⊎-elim}
 use native.Mathlib.Nat.{eq-or-lt-of-le}
+use native.Mathlib.Numerals.{add-one}
 use native.Mathlib.Omega.{arith}
 use lib.ListN.{getD}
 use lib.Dec.{leb, ltb, eqb}
@@ -11,7 +12,8 @@ use borrow.Author.Tests.{eqb-true, leb-true, le-ltb, lt-leb}
 use Rattle.text.proofs.Basics.{and-left, and-right}
 use Rattle.algebra.specs.Table.{opens}
 use Rattle.words.specs.declared.Row.{Row as Code}
-use Rattle.words.specs.Code.{sortAt, first, codeAt}
+use Rattle.words.specs.Code.{sortAt, first, codeAt, Tidy}
+use Rattle.words.specs.declared.Found.the-variants.{Is}
 use Rattle.words.proofs.Table.{ends-inside}
 
 -- a test of all numbers below n
@@ -99,3 +101,11 @@ small-is c h = (
 -- the sorts are those of the table, and a group's own number is at most 3
 pub row-small : (i : ℕ) → i < 56 → ((codeAt i .9 ≤ 11) × (codeAt i .12 ≤ 11) × (codeAt i .15 ≤ 11)) × ((codeAt i .7 ≤ 3) × (codeAt i .10 ≤ 3) × (codeAt i .13 ≤ 3))
 row-small i h = small-is (codeAt i) (below-at 56 (λ i. small (codeAt i)) all-small i h)
+
+-- ---- what is found
+
+-- the row of a word between a sort's first one and the next sort's
+pub found-tidy : (s i e : ℕ) (c : Code) → s < 12 → getD first s 0 ≤ i → i < e → e ≡ getD first (s + 1) 0 → e ≤ 56 → c ≡ codeAt i → Tidy s (Is c)
+found-tidy s i e c k a b p l q =
+    let m = row-small i (omega arith) in
+    rw q (m .0, m .1, λ o. tidy i s k a (rw (p, add-one) at b) o)

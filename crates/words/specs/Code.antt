@@ -1,5 +1,8 @@
 -- How the code writes the table of words, and what its numbers mean. Assumes nothing.
-use Prim.Native.Nat.{ℕ, zero, suc}
+use Prim.Native.Nat.{ℕ, zero, suc, _≤_}
+use mathlib.Core.Path.{_≡_}
+use mathlib.Core.Bool.{true, false}
+use mathlib.Core.Logic.{_⊎_}
 use mathlib.Core.List.{List, [], _∷_, _++_, map}
 use mathlib.Core.Option.{Option, none, some}
 use lib.ListN.{getD}
@@ -9,7 +12,7 @@ use Rattle.text.specs.Field.{Kind, cell, integer}
 use Rattle.text.specs.Code.{kindAt}
 use Rattle.algebra.specs.Query.{extraKind}
 use Rattle.algebra.specs.Word.{spellV, domains}
-use Rattle.algebra.specs.Table.{Slot, term, text, count, choice, Tail, nothing, columns, variables, texts, values, value, Sort, parts, sorts, Amount, always, given, more, Below, Row, Entry, entry, row, table}
+use Rattle.algebra.specs.Table.{Slot, term, text, count, choice, Tail, nothing, columns, variables, texts, values, value, Sort, parts, sorts, Amount, always, given, more, Below, Row, Entry, entry, row, table, opens}
 use Rattle.words.specs.declared.Row.{Row as Code}
 use Rattle.words.specs.declared.Found.{Found}
 use Rattle.words.specs.declared.Found.the-variants.{Is, None}
@@ -57,6 +60,13 @@ rowOf c = record {
 abbrev pub rowFound : Found → Option Row
 rowFound (Is c) = some (rowOf c)
 rowFound None = none
+
+-- the numbers of a row are small; and under a line that opens no level stands at most one group, of lines that open one
+abbrev pub Tidy : ℕ → Found → Type 0
+Tidy s (Is c) =
+    ((c .9 ≤ 11) × (c .12 ≤ 11) × (c .15 ≤ 11)) × ((c .7 ≤ 3) × (c .10 ≤ 3) × (c .13 ≤ 3))
+    × (opens (sortAt s) ≡ false → ((c .10 ≡ 0) × (c .11 ≡ 0) × (c .13 ≡ 0) × (c .14 ≡ 0)) × (((c .7 ≡ 0) × (c .8 ≡ 0)) ⊎ (opens (sortAt (c .9)) ≡ true)))
+Tidy s None = Unit {0}
 
 -- the kind of the extra that stands with a domain
 abbrev pub mapped : {A B : Type 0} → (A → B) → Option A → Option B
