@@ -188,3 +188,13 @@ note-var s a l h n f want b e t q = rw (sym e ∙ t) q
 pub note-other : (s a l h : List ℕ) (n : ℕ) (f : Bytes) (want : List Bytes) (b : Bool) → b ≡ isVar f → b ≡ false → Holds s a l h n want → Holds s a l h n (notes (f ∷ []) want)
 unfolding notes
 note-other s a l h n f want b e t q = rw (sym e ∙ t) q
+
+-- ---- for callers: a table that has room says how many names there are
+
+pub holds-long : (s a l h : List ℕ) (n : ℕ) (want : List Bytes) → Holds s a l h n want → n ≤ 1024 → length want ≡ n
+holds-long s a l h n want q k = ap length (sym (q .fits k)) ∙ listing-long s a l n
+
+-- an empty table
+pub holds-none : (s a l h : List ℕ) → length a ≡ 1024 → length l ≡ 1024 → length h ≡ 4096 → Holds s a l h 0 []
+unfolding listing Hinted
+holds-none s a l h x y z = record { entries = (x, y, z); high = omega arith; fits = λ k. refl; hinted = λ k. tt; over = λ k. absurd (omega arith) }

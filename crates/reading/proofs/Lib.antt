@@ -8,3 +8,5 @@ pub mod Zero
 pub mod FieldsLaw
 pub mod SlotLaw
 pub mod TailLaw
+pub mod SaysLaw
+pub mod LineIsLaw

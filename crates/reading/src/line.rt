@@ -258,15 +258,15 @@ fn fields(
     }
 }
 
-// A line of this sort opens a level or an entry of its own.
+// Which sorts of lines open a level or an entry of their own.
+const OPENS: [u8; 12] = [0, 0, 1, 1, 0, 0, 0, 0, 1, 0, 0, 1];
+
 pub fn opens_level(sort: u8) -> bool
     requires { ⌜ sort ≤ 11 ⌝ }
     ensures { λ r. ⌜ r ≡ opens (sortAt sort) ⌝ }
 {
-    match sort {
-        2 | 3 | 8 | 11 => true,
-        _ => false,
-    }
+    let i = sort as usize;
+    OPENS[i] == 1
 }
 
 // What a good line asks for: its row, its first two numbers, and the number of names kept so far.
@@ -284,7 +284,7 @@ pub enum Line {
 }
 
 // A line of a sort, at a level, after so many others: its word, its fields, and then the bounds.
-pub fn line(
+pub fn read_line(
     s: &[u8],
     c: Cursor,
     sort: u8,
