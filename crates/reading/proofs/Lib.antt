@@ -10,3 +10,4 @@ pub mod SlotLaw
 pub mod TailLaw
 pub mod SaysLaw
 pub mod LineIsLaw
+pub mod PushLaw
