@@ -11,3 +11,4 @@ pub mod TailLaw
 pub mod SaysLaw
 pub mod LineIsLaw
 pub mod PushLaw
+pub mod TurnLaw

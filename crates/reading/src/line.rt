@@ -23,7 +23,7 @@ ghost use Rattle.algebra.specs.Table.{opens};
 ghost use Rattle.names.specs.Names.{Holds};
 ghost use Rattle.words.specs.Code.{tailOf, rowOf, sortAt};
 ghost use Rattle.reading.specs.Line.{takeField, takeSlots, takeTail, takeLine, columnsOf};
-ghost use Rattle.reading.specs.Says.{Says, LineIs};
+ghost use Rattle.reading.specs.Says.{Says, LineIs, Small};
 ghost use Rattle.reading.specs.Steps.{InLine, leftAt, Follows, restOf, restIn, termsOf, termsIn, numberTaken, numbersIn, oneSlot, TookSlots};
 
 // A cursor, the number of names in the table, and the number in a field or of a project's columns.
@@ -298,6 +298,7 @@ pub fn read_line(
 ) -> Line
     requires { ⌜ InLine (now s) c × (c .at ≤ c .end) × (sort ≤ 11) ⌝ }
     ensures { λ r. ⌜ ((m : Tally) → m .lines ≡ lines → m .wide ≤ 64 → Holds (now (s .entry)) (now (starts .entry)) (now (sizes .entry)) (now (hints .entry)) n (m .names) → LineIs (now (s .entry)) (now (starts .exit)) (now (sizes .exit)) (now (hints .exit)) c sort level width m r) ⌝ }
+    ensures small { λ r. ⌜ Small sort level r ⌝ }
 {
     let at = c.at;
     let field = c.next_field(s);
