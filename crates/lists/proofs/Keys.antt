@@ -1,20 +1,18 @@
 -- Laws of first fields that may not be repeated, and of the table that keeps them. Assumes nothing.
-use Prim.Native.Nat.{ℕ, _+_, _≤_, _<_}
-use mathlib.Core.Path.{_≡_, refl, sym, _∙_, subst}
+use Prim.Native.Nat.{ℕ, _≤_, _<_}
+use mathlib.Core.Path.{_≡_}
 use mathlib.Core.List.{List}
 use mathlib.Core.Bool.{Bool, true, false, not}
 use mathlib.Core.Logic.{⊎-elim}
 use native.Mathlib.Nat.{eq-or-lt-of-le}
 use native.Mathlib.Omega.{arith}
-use lib.ListN.{length, getD, set, List·getD-eq-default}
-use lib.Seq.{getD-set-same, getD-set-other}
 use lib.Dec.{leb}
-use borrow.Author.Tests.{le-leb, lt-leb, leb-true, leb-false, not-true, not-false}
+use borrow.Author.Tests.{le-leb, lt-leb, not-true, not-false}
 use Rattle.text.specs.Text.{Bytes, same}
 use Rattle.algebra.specs.Valid.{mem}
 use Rattle.names.specs.Names.{nameAt, listing, Hinted, Holds, kept}
 use Rattle.names.proofs.Laws.{listed}
-use Rattle.lists.specs.Pairs.{fresh, keptIn, Zeros}
+use Rattle.lists.specs.Pairs.{fresh, keptIn}
 
 pub fresh-any : (apart : Bool) (f : Bytes) (ns : List Bytes) → not apart ≡ true → true ≡ fresh apart f ns
 unfolding fresh
@@ -40,22 +38,3 @@ module _ (s f : Bytes) (a l h : List ℕ) (n : ℕ) (ns : List Bytes) (holds : H
 pub keep-kept : (s f : Bytes) (a l h : List ℕ) (n : ℕ) (ns : List Bytes) (apart : Bool) → not apart ≡ false → Holds s a l h n (kept f ns) → Holds s a l h n (keptIn apart f ns)
 unfolding keptIn
 keep-kept s f a l h n ns apart e q = rw (not-false apart e) q
-
--- ---- the cleared table
-
-pub cleared-more : (a : List ℕ) (i : ℕ) → ((k : ℕ) → k < i → getD a k 0 ≡ 0) → i < length a → (k : ℕ) → k < i + 1 → getD (set a i 0) k 0 ≡ 0
-cleared-more a i f h k l =
-    ⊎-elim
-    (λ (q : k ≡ i). subst (λ j. getD (set a i 0) j 0 ≡ 0) (sym q) (getD-set-same a i 0 0 h))
-    (λ (q : k < i). let n : k ≡ i → ⊥ = omega arith in getD-set-other a i k 0 0 n ∙ f k q)
-    (eq-or-lt-of-le (omega arith))
-
-pub cleared-all : (a : List ℕ) (i n : ℕ) → length a ≡ n → ((k : ℕ) → k < i → getD a k 0 ≡ 0) → length a ≤ i → Zeros n a
-cleared-all a i n e f h = record { size = e; each = λ k. go k (leb i k) refl }
-  where
-    go : (k : ℕ) (b : Bool) → leb i k ≡ b → getD a k 0 ≡ 0
-    go k true e = List·getD-eq-default a 0 (let q = leb-true i k e in omega arith)
-    go k false e = f k (leb-false i k e)
-
-pub cleared : (a : List ℕ) (m n : ℕ) → m ≡ n → Zeros m a → Zeros n a
-cleared a m n e z = rw (← e) z

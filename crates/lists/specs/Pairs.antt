@@ -3,7 +3,7 @@ use Prim.Native.Nat.{ℕ, _+_, _≤_, _<_}
 use mathlib.Core.Path.{_≡_}
 use mathlib.Core.List.{List, [], _∷_}
 use mathlib.Core.Bool.{Bool, true, false, cond, not, _&&_}
-use lib.ListN.{length, getD}
+use lib.ListN.{length}
 use Rattle.text.specs.Text.{Bytes, Line, part}
 use Rattle.text.specs.Field.{Kind, isKind}
 use Rattle.text.specs.Code.{kindAt}
@@ -45,8 +45,3 @@ fresh apart f ns = not (cond apart (mem f ns) false)
 -- it is kept where they may not be repeated
 unfoldable pub keptIn : Bool → Bytes → List Bytes → List Bytes
 keptIn apart f ns = cond apart (kept f ns) ns
-
--- n entries, all 0
-pub record Zeros (n : ℕ) (a : List ℕ) : Type 0 where
-  pub size : length a ≡ n
-  pub each : (i : ℕ) → getD a i 0 ≡ 0

@@ -3,6 +3,7 @@ use algebra::Answer;
 use cursor::Cursor;
 use cursor::Field;
 use names::add_name;
+use names::clear;
 use names::find_name;
 use text::is_kind;
 ghost use mathlib.Core.Path.{_≡_};
@@ -15,27 +16,7 @@ ghost use Rattle.algebra.specs.Query.{PairList, joins, constants, mapping};
 ghost use Rattle.algebra.specs.Texts.{readPairs};
 ghost use Rattle.names.specs.Names.{Holds};
 ghost use Rattle.names.specs.Checked.{Checked};
-ghost use Rattle.lists.specs.Pairs.{keysOf, Stands, Finds, fresh, keptIn, Zeros};
-
-// Every entry becomes 0.
-fn zero(a: &mut [u16])
-    ensures { λ r. ⌜ Zeros (length (now (a .entry))) (now (a .exit)) ⌝ }
-{
-    let mut i = 0;
-    while i < a.len() {
-        a[i] = 0;
-        i += 1;
-    }
-}
-
-// The table is cleared.
-fn clear(starts: &mut [u16; 1024], sizes: &mut [u16; 1024], hints: &mut [u16; 4096])
-    ensures { λ r. ⌜ Zeros 1024 (now (starts .exit)) × Zeros 1024 (now (sizes .exit)) × Zeros 4096 (now (hints .exit)) ⌝ }
-{
-    zero(starts);
-    zero(sizes);
-    zero(hints);
-}
+ghost use Rattle.lists.specs.Pairs.{keysOf, Stands, Finds, fresh, keptIn};
 
 // A line of two fields of these kinds: the end of the first, and the cursor behind the line.
 fn pair_at(text: &[u8], c: Cursor, first: u8, second: u8) -> Field

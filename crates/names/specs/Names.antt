@@ -37,3 +37,8 @@ pub record Holds (s : Bytes) (starts sizes hints : List ℕ) (n : ℕ) (want : L
   pub fits : n ≤ 1024 → listing s starts sizes n ≡ want
   pub hinted : n ≤ 1024 → Hinted hints want
   pub over : 1024 < n → 1024 < length want
+
+-- n entries, all 0
+pub record Zeros (n : ℕ) (a : List ℕ) : Type 0 where
+  pub size : length a ≡ n
+  pub each : (i : ℕ) → getD a i 0 ≡ 0

@@ -10,7 +10,7 @@ ghost use lib.ListN.{length, getD};
 ghost use Rattle.text.specs.Text.{same, piece as pieceOf};
 ghost use Rattle.algebra.specs.Valid.{mem};
 ghost use Rattle.algebra.specs.Tally.{notes};
-ghost use Rattle.names.specs.Names.{hashOf, nameAt, listing, Hinted, Holds, kept};
+ghost use Rattle.names.specs.Names.{hashOf, nameAt, listing, Hinted, Holds, kept, Zeros};
 
 fn wide(x: u16) -> usize
     ensures { λ r. ⌜ r ≡ x ⌝ }
@@ -22,6 +22,26 @@ fn byte(x: u8) -> usize
     ensures { λ r. ⌜ (r ≡ x) × (r < 256) ⌝ }
 {
     x as usize
+}
+
+// Every entry becomes 0.
+fn zero(a: &mut [u16])
+    ensures { λ r. ⌜ Zeros (length (now (a .entry))) (now (a .exit)) ⌝ }
+{
+    let mut i = 0;
+    while i < a.len() {
+        a[i] = 0;
+        i += 1;
+    }
+}
+
+// The table is cleared.
+pub fn clear(starts: &mut [u16; 1024], sizes: &mut [u16; 1024], hints: &mut [u16; 4096])
+    ensures { λ r. ⌜ Zeros 1024 (now (starts .exit)) × Zeros 1024 (now (sizes .exit)) × Zeros 4096 (now (hints .exit)) ⌝ }
+{
+    zero(starts);
+    zero(sizes);
+    zero(hints);
 }
 
 // Where the hint for a name stands.

@@ -12,3 +12,5 @@ pub mod SaysLaw
 pub mod LineIsLaw
 pub mod PushLaw
 pub mod TurnLaw
+pub mod CheckLaw
+pub mod ToldLaw

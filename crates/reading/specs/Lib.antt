@@ -3,3 +3,4 @@ pub mod Stack
 pub mod Steps
 pub mod Says
 pub mod Run
+pub mod Variables

@@ -11,14 +11,14 @@ ghost use Prim.Native.Nat.{ℕ, suc, _+_, _-_, _*_, _≤_, _<_};
 ghost use mathlib.Core.List.{List, [], _∷_};
 ghost use lib.ListN.{length, getD};
 ghost use Rattle.text.specs.Text.{Line as Fields, split, part};
-ghost use Rattle.algebra.specs.Tally.{Tally};
-ghost use Rattle.algebra.specs.Machine.{Want, More};
+ghost use Rattle.algebra.specs.Tally.{Tally, bounds};
+ghost use Rattle.algebra.specs.Machine.{Want, More, checkText};
 ghost use Rattle.names.specs.Names.{Holds};
 ghost use Rattle.reading.specs.Says.{below};
 ghost use Rattle.reading.specs.Steps.{InLine};
 ghost use Rattle.reading.specs.Stack.{slack, Stacked};
 ghost use Rattle.words.specs.Code.{sortAt};
-ghost use Rattle.reading.specs.Run.{Readied, TurnIs, moreOf};
+ghost use Rattle.reading.specs.Run.{Readied, TurnIs, Tells, moreOf, wantsOf};
 
 // How many parents await children, and how many entries may still come.
 pub struct Demanded {
@@ -128,4 +128,77 @@ fn take_turn(
             return Turn::OverBound;
         }
     }
+}
+
+// The whole check of a text that is one line of a sort with what it asks for, or a list of such entries.
+pub fn check_text(
+    s: &[u8],
+    list: bool,
+    sort: u8,
+    level: u8,
+    starts: &mut [u16; 1024],
+    sizes: &mut [u16; 1024],
+    hints: &mut [u16; 4096],
+) -> Answer
+    requires { ⌜ (sort ≤ 11) × (level ≤ 64) × Holds (now s) (now starts) (now sizes) (now hints) 0 [] ⌝ }
+    ensures { λ r. ⌜ Tells (now (s .entry)) (now (starts .exit)) (now (sizes .exit)) (now (hints .exit)) (checkText bounds (moreOf list 64 sort level) (wantsOf list sort level) (now (s .entry))) r ⌝ }
+{
+    if 16384 < s.len() {
+        return Answer::OverBound;
+    }
+    let mut sorts = [0u8; 260];
+    let mut levels = [0u8; 260];
+    let mut widths = [0usize; 260];
+    let mut counts = [0u64; 260];
+    let h = push(&mut sorts, &mut levels, &mut widths, &mut counts, 0, sort, level, 0, roots(list));
+    let mut c = Cursor::new(h);
+    let mut lines = 0;
+    let mut n = 0;
+    let mut left = 64;
+    while c.at < s.len() {
+        let d = c.next_line(s);
+        if d.end == s.len() {
+            return Answer::Malformed;
+        }
+        let q = ready(&mut sorts, &mut levels, &mut widths, &mut counts, d, list, sort, level, left);
+        if q.height == 0 {
+            return Answer::Malformed;
+        }
+        let t = take_turn(
+            s, d, q.height, lines, &mut sorts, &mut levels, &mut widths, &mut counts, starts, sizes, hints, n,
+        );
+        match t {
+            Turn::Next(v) => {
+                c = Cursor {
+                    at: d.end + 1,
+                    end: d.end,
+                    height: v.height,
+                };
+                n = v.names;
+            }
+            Turn::Malformed => {
+                return Answer::Malformed;
+            }
+            Turn::OverBound => {
+                return Answer::OverBound;
+            }
+        }
+        left = q.left;
+        lines += 1;
+    }
+    let f = c.child_done(&counts);
+    if f.height == 0 {
+        return Answer::Good(n);
+    }
+    Answer::Malformed
+}
+
+// How many lines are to come at the start.
+fn roots(list: bool) -> u64
+    ensures { λ r. ⌜ r ≡ length (wantsOf list 0 0) ⌝ }
+{
+    if list {
+        return 0;
+    }
+    1
 }

@@ -3,12 +3,15 @@ use mathlib.Core.Path.{_≡_, refl, _∙_, sym, ap}
 use mathlib.Core.Bool.{Bool, true, false, cond, _&&_, false≢true}
 use mathlib.Core.List.{List, [], _∷_, _++_, map}
 use mathlib.Core.Option.{Option, none, some}
-use Prim.Native.Nat.{ℕ, zero, suc, _+_, _-_, _*_, _/_, _%_, _≤_, _<_}
+use Prim.Native.Nat.{ℕ, zero, suc, _+_, _-_, _*_, _/_, _%_, _^_, _≤_, _<_}
 use native.Mathlib.Numerals.{add-one}
 use native.Mathlib.Omega.{arith}
 use lib.ListN.{length, getD, take, drop, drop-of-length-le, List·getD-map, length-drop}
 use lib.Seq.{drop-cons}
 use lib.Dec.{lit≤, leb}
+use mir.Syntax.{w8}
+use mir.Val.{Fits}
+use mir.Facts.{fits-below}
 use borrow.Author.Tests.{leb-true}
 use Rattle.text.specs.Text.{Bytes, same, piece}
 use Rattle.text.specs.Word.{spelled}
@@ -56,10 +59,14 @@ word-right i h = cut-at words starts sizes i h h ∙ List·getD-map (λ (e : Ent
 
 -- a row written as one number, a hexadecimal digit for each of its own
 abbrev packed : Code → ℕ
-packed c = ((((((((((((((c .0 * 16 + c .1) * 16 + c .2) * 16 + c .3) * 16 + c .4) * 16 + c .5) * 16 + c .6) * 16 + c .7) * 16 + c .8) * 16 + c .9) * 16 + c .10) * 16 + c .11) * 16 + c .12) * 16 + c .13) * 16 + c .14) * 16 + c .15
+packed c = c .0 * 16 ^ 15 + c .1 * 16 ^ 14 + c .2 * 16 ^ 13 + c .3 * 16 ^ 12 + c .4 * 16 ^ 11 + c .5 * 16 ^ 10 + c .6 * 16 ^ 9 + c .7 * 16 ^ 8 + c .8 * 16 ^ 7 + c .9 * 16 ^ 6 + c .10 * 16 ^ 5 + c .11 * 16 ^ 4 + c .12 * 16 ^ 3 + c .13 * 16 ^ 2 + c .14 * 16 + c .15
 
 abbrev unpacked : ℕ → Code
-unpacked w = record { 0 = w / 1152921504606846976 % 16; 1 = w / 72057594037927936 % 16; 2 = w / 4503599627370496 % 16; 3 = w / 281474976710656 % 16; 4 = w / 17592186044416 % 16; 5 = w / 1099511627776 % 16; 6 = w / 68719476736 % 16; 7 = w / 4294967296 % 16; 8 = w / 268435456 % 16; 9 = w / 16777216 % 16; 10 = w / 1048576 % 16; 11 = w / 65536 % 16; 12 = w / 4096 % 16; 13 = w / 256 % 16; 14 = w / 16 % 16; 15 = w % 16 }
+unpacked w = record { 0 = w / 16 ^ 15 % 16; 1 = w / 16 ^ 14 % 16; 2 = w / 16 ^ 13 % 16; 3 = w / 16 ^ 12 % 16; 4 = w / 16 ^ 11 % 16; 5 = w / 16 ^ 10 % 16; 6 = w / 16 ^ 9 % 16; 7 = w / 16 ^ 8 % 16; 8 = w / 16 ^ 7 % 16; 9 = w / 16 ^ 6 % 16; 10 = w / 16 ^ 5 % 16; 11 = w / 16 ^ 4 % 16; 12 = w / 16 ^ 3 % 16; 13 = w / 16 ^ 2 % 16; 14 = w / 16 % 16; 15 = w % 16 }
+
+-- a hexadecimal digit is a byte
+pub digit-fits : (n : ℕ) → Fits w8 (n % 16)
+digit-fits n = fits-below {n = 15} tt (omega arith)
 
 pub row-right : (i : ℕ) → unpacked (getD (map packed rows) i 0) ≡ codeAt i
 row-right i = sym (List·getD-map unpacked (map packed rows) i 0)

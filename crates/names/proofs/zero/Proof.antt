@@ -1,12 +1,12 @@
--- `lists::zero` meets its contract. Assumes nothing.
+-- `names::zero` meets its contract. Assumes nothing.
 use borrow.Author.Needs.{needs}
 use Prim.Native.Nat.{ℕ, _-_, _≤_, _<_}
 use mathlib.Core.Path.{_≡_, refl}
 use native.Mathlib.Omega.{arith}
 use lib.ListN.{length, getD}
-use Rattle.lists.proofs.Keys as K
-use Rattle.lists.proofs.zero.Statement.{statement}
-use Rattle.lists.proofs.zero.Tie as tie
+use Rattle.names.proofs.Cleared as C
+use Rattle.names.proofs.zero.Statement.{statement}
+use Rattle.names.proofs.zero.Tie as tie
 
 abbrev Inv-loop : tie.InvT-loop
 Inv-loop a₀ i₀ a i = (i ≤ length a₀) × (length a ≡ length a₀) × ((k : ℕ) → k < i → getD a k 0 ≡ 0)
@@ -25,6 +25,6 @@ zero-spec =
     (λ c. search needs)
     (λ c. search needs)
     (λ c. search needs)
-    (λ c. (search needs, search needs, K.cleared-more (c .before .loop .a) _ (c .before .loop .inv .2) (c .loop-test .taken)))
+    (λ c. (search needs, search needs, C.cleared-more (c .before .loop .a) _ (c .before .loop .inv .2) (c .loop-test .taken)))
     (λ c. search needs)
-    (λ c. K.cleared-all (c .before .loop .a) _ _ (c .before .loop .inv .1) (c .before .loop .inv .2) (c .loop-test .left)))
+    (λ c. C.cleared-all (c .before .loop .a) _ _ (c .before .loop .inv .1) (c .before .loop .inv .2) (c .loop-test .left)))
