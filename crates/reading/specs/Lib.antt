@@ -1,6 +1,1 @@
-pub mod Line
-pub mod Stack
-pub mod Steps
-pub mod Says
-pub mod Run
 pub mod Variables

@@ -1,11 +1,6 @@
-// The check of every kind of text: line by line, by the one table of words, with the text's variables kept on the way.
-mod check;
-mod fields;
-mod line;
-mod stack;
-
+// The check of trees, queries, binding sets and filters: each text's number, and the table of its variables.
 use algebra::Answer;
-use crate::check::check_text;
+use lines::check::check_text;
 use names::clear;
 ghost use Rattle.algebra.specs.Texts.{readTree, readQuery, readSets, readFilters};
 ghost use Rattle.names.specs.Checked.{Checked};

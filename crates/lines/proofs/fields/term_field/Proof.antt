@@ -1,0 +1,33 @@
+-- `lines::fields/term_field` meets its contract. Assumes nothing.
+use borrow.Author.Needs.{needs}
+use Prim.Native.Nat.{ℕ, _+_, _-_, _*_, _≤_, _<_}
+use mathlib.Core.Path.{_≡_, refl, sym, _∙_, ap, subst}
+use native.Mathlib.Omega.{arith}
+use lib.ListN.{length, getD, drop}
+use Rattle.lines.proofs.StepLaw as S
+use Rattle.cursor.proofs.Laws as C
+use Rattle.lines.specs.Steps.{restOf}
+use Rattle.algebra.specs.Table.{term}
+use Rattle.text.specs.Code.{kindAt}
+use denote.Ref.{now}
+use Rattle.lines.proofs.fields.term_field.Statement.{statement}
+use Rattle.lines.proofs.fields.term_field.Tie as tie
+
+pub term-field-spec : {M : Type 1} → statement M
+term-field-spec =
+    tie.close
+    (tie.spec
+    (λ c κs. search needs)
+    (λ c. search needs)
+    (λ c. let x = C.reads-at _ _ _ _ _ (c .before .before .before .next-field .ensures) (c .before .field .given .1) in let y = x .first .low in omega arith)
+    (λ c. let x = C.reads-at _ _ _ _ _ (c .before .before .before .next-field .ensures) (c .before .field .given .1) in let y = x .first .low in omega arith)
+    (λ c. let x = C.reads-at _ _ _ _ _ (c .before .before .before .next-field .ensures) (c .before .field .given .1) in let y = x .first .high in let z = c .before .before .before .before .before .pre .ends in omega arith)
+    (λ c κs. search needs)
+    (λ c. let x = C.reads-at _ _ _ _ _ (c .before .before .before .before .before .before .next-field .ensures) (c .before .before .before .before .field .given .1) in let y = x .first .low in omega arith)
+    (λ c κs. let x = C.reads-at _ _ _ _ _ (c .before .before .before .before .before .before .before .before .before .next-field .ensures) (c .before .before .before .before .before .before .before .field .given .1) in let y = x .first .high in let v = x .first .low in let z = c .before .before .before .before .before .before .before .before .before .before .before .pre .ends in let w = c .before .before .before .before .before .before .before .before .before .before .before .pre .short in (omega arith, omega arith))
+    (λ c. let x = C.reads-at _ _ _ _ _ (c .before .before .before .before .before .before .before .before .before .before .next-field .ensures) (c .before .before .before .before .before .before .before .before .field .given .1) in (S.step-follows _ _ _ _ (c .before .before .before .before .before .before .before .before .before .before .before .before .pre) x _ (S.term-taken _ _ _ _ (c .before .before .before .before .before .before .before .before .before .before .before .before .pre) x _ _ (c .before .before .before .before .before .is-kind .ensures) (c .before .before .before .before .if1 .taken)), λ want h. rw (S.term-terms _ _ _ _ (c .before .before .before .before .before .before .before .before .before .before .before .before .pre) x _ _ (c .before .before .before .before .before .is-kind .ensures) (c .before .before .before .before .if1 .taken)) (c .note-field .ensures want h)))
+    (λ c κs. search needs)
+    (λ c. let x = C.reads-at _ _ _ _ _ (c .before .before .before .before .before .before .before .next-field .ensures) (c .before .before .before .before .before .field .given .1) in let z = S.term-refused _ _ _ _ (c .before .before .before .before .before .before .before .before .before .pre) x _ _ (c .before .before .is-kind .ensures) (c .before .if1 .left) in (S.failed-follows _ _ _ _ (ap restOf z) (c .failed .ensures), λ want h. S.keeps-none _ _ _ _ _ _ want z h))
+    (λ c. search needs)
+    (λ c κs. search needs)
+    (λ c. let z = S.nothing-left (term (kindAt (c .before .before .before .before .before .args .kind))) (now (c .before .before .before .before .before .args .s)) (c .before .before .before .before .before .args .c) (C.reads-none _ _ _ (c .before .before .before .next-field .ensures) (c .before .enum-told .given .1)) in (S.failed-follows _ _ _ _ (ap restOf z) (c .failed2 .ensures), λ want h. S.keeps-none _ _ _ _ _ _ want z h)))

@@ -1,0 +1,345 @@
+// One line: its word, the fields that the word's row of the table asks for, and the bounds.
+use cursor::Cursor;
+use cursor::Field;
+use crate::fields::Taken;
+use crate::fields::choice_field;
+use crate::fields::count_field;
+use crate::fields::fields_left;
+use crate::fields::term_field;
+use crate::fields::text_field;
+use crate::fields::text_fields;
+use crate::fields::value_fields;
+use crate::fields::variable_fields;
+use words::Found;
+use words::Row;
+use words::lookup;
+ghost use mathlib.Core.Path.{_≡_};
+ghost use Prim.Native.Nat.{ℕ, _+_, _≤_, _<_};
+ghost use mathlib.Core.List.{List, []};
+ghost use lib.ListN.{length, getD};
+ghost use Rattle.text.specs.Code.{kindAt};
+ghost use Rattle.algebra.specs.Tally.{notes, Tally};
+ghost use Rattle.algebra.specs.Table.{opens};
+ghost use Rattle.names.specs.Names.{Holds};
+ghost use Rattle.words.specs.Code.{tailOf, rowOf, sortAt};
+ghost use Rattle.lines.specs.Line.{takeField, takeSlots, takeTail, takeLine, columnsOf};
+ghost use Rattle.lines.specs.Says.{Says, LineIs, Small};
+ghost use Rattle.lines.specs.Steps.{InLine, leftAt, Follows, restOf, restIn, termsOf, termsIn, numberTaken, numbersIn, oneSlot, TookSlots};
+
+// A cursor, the number of names in the table, and the number in a field or of a project's columns.
+pub struct Step {
+    pub cursor: Cursor,
+    pub names: usize,
+    pub number: usize,
+}
+
+// One field by its role and kind, where there is one.
+fn slot(
+    s: &[u8],
+    c: Cursor,
+    role: u8,
+    kind: u8,
+    starts: &mut [u16; 1024],
+    sizes: &mut [u16; 1024],
+    hints: &mut [u16; 4096],
+    n: usize,
+) -> Step
+    requires { ⌜ InLine (now s) c × (role ≡ 0 → ⊥) ⌝ }
+    ensures follows { λ r. ⌜ Follows (now (s .entry)) c (restOf (takeField (oneSlot role (kindAt kind)) (leftAt (now (s .entry)) c))) (r .cursor) × (numberTaken (takeField (oneSlot role (kindAt kind)) (leftAt (now (s .entry)) c)) ≡ r .number) × (r .number < 4294967296) ⌝ }
+    ensures keeps { λ r. ⌜ ((want : List (List ℕ)) → Holds (now (s .entry)) (now (starts .entry)) (now (sizes .entry)) (now (hints .entry)) n want → Holds (now (s .entry)) (now (starts .exit)) (now (sizes .exit)) (now (hints .exit)) (r .names) (notes (termsOf (takeField (oneSlot role (kindAt kind)) (leftAt (now (s .entry)) c))) want)) ⌝ }
+{
+    if role == 1 {
+        let t = term_field(s, c, kind, starts, sizes, hints, n);
+        let d = t.cursor;
+        return Step {
+            cursor: d,
+            names: t.number,
+            number: 0,
+        };
+    }
+    if role == 2 {
+        let d = text_field(s, c, kind);
+        return Step {
+            cursor: d,
+            names: n,
+            number: 0,
+        };
+    }
+    if role == 3 {
+        let t = count_field(s, c);
+        let d = t.cursor;
+        return Step {
+            cursor: d,
+            names: n,
+            number: t.number,
+        };
+    }
+    let t = choice_field(s, c);
+    let d = t.cursor;
+    Step {
+        cursor: d,
+        names: n,
+        number: t.number,
+    }
+}
+
+// The fields of a line behind its word: the cursor, the number of names, and the first two numbers.
+pub struct Filled {
+    pub cursor: Cursor,
+    pub names: usize,
+    pub first: usize,
+    pub second: usize,
+}
+
+// The fields that the slots of a row take.
+fn slots(
+    s: &[u8],
+    c: Cursor,
+    row: Row,
+    starts: &mut [u16; 1024],
+    sizes: &mut [u16; 1024],
+    hints: &mut [u16; 4096],
+    n: usize,
+) -> Filled
+    requires { ⌜ InLine (now s) c × (c .at ≤ c .end + 1) ⌝ }
+    ensures { λ r. ⌜ TookSlots (now (s .entry)) c (takeSlots (rowOf row .slots) (leftAt (now (s .entry)) c)) (r .cursor) (r .first) (r .second) ⌝ }
+    ensures keeps { λ r. ⌜ (r .cursor .at ≤ c .end + 1 → (want : List (List ℕ)) → Holds (now (s .entry)) (now (starts .entry)) (now (sizes .entry)) (now (hints .entry)) n want → Holds (now (s .entry)) (now (starts .exit)) (now (sizes .exit)) (now (hints .exit)) (r .names) (notes (termsIn (takeSlots (rowOf row .slots) (leftAt (now (s .entry)) c))) want)) ⌝ }
+{
+    if row.6 == 1 {
+        return Filled {
+            cursor: c,
+            names: n,
+            first: 0,
+            second: 0,
+        };
+    }
+    if row.0 == 0 {
+        return Filled {
+            cursor: c,
+            names: n,
+            first: 0,
+            second: 0,
+        };
+    }
+    let a = slot(s, c, row.0, row.1, starts, sizes, hints, n);
+    let ca = a.cursor;
+    if row.2 == 0 {
+        return Filled {
+            cursor: ca,
+            names: a.names,
+            first: a.number,
+            second: 0,
+        };
+    }
+    let b = slot(s, ca, row.2, row.3, starts, sizes, hints, a.names);
+    let cb = b.cursor;
+    if row.4 == 0 {
+        return Filled {
+            cursor: cb,
+            names: b.names,
+            first: a.number,
+            second: b.number,
+        };
+    }
+    let d = slot(s, cb, row.4, row.5, starts, sizes, hints, b.names);
+    let cd = d.cursor;
+    Filled {
+        cursor: cd,
+        names: d.names,
+        first: a.number,
+        second: b.number,
+    }
+}
+
+// What stands behind the slots.
+fn tail(
+    s: &[u8],
+    c: Cursor,
+    kind: u8,
+    width: usize,
+    starts: &mut [u16; 1024],
+    sizes: &mut [u16; 1024],
+    hints: &mut [u16; 4096],
+    n: usize,
+) -> Step
+    requires { ⌜ InLine (now s) c × (c .at ≤ c .end + 1) ⌝ }
+    ensures follows { λ r. ⌜ Follows (now (s .entry)) c (restIn (takeTail (tailOf kind) width (leftAt (now (s .entry)) c))) (r .cursor) × (r .cursor .at ≤ c .end + 1 → columnsOf (tailOf kind) (termsIn (takeTail (tailOf kind) width (leftAt (now (s .entry)) c))) ≡ r .number) ⌝ }
+    ensures keeps { λ r. ⌜ (r .cursor .at ≤ c .end + 1 → (want : List (List ℕ)) → Holds (now (s .entry)) (now (starts .entry)) (now (sizes .entry)) (now (hints .entry)) n want → Holds (now (s .entry)) (now (starts .exit)) (now (sizes .exit)) (now (hints .exit)) (r .names) (notes (termsIn (takeTail (tailOf kind) width (leftAt (now (s .entry)) c))) want)) ⌝ }
+{
+    if kind == 1 {
+        let k = fields_left(s, c);
+        let t = variable_fields(s, c, k, starts, sizes, hints, n);
+        let d = t.cursor;
+        return Step {
+            cursor: d,
+            names: t.number,
+            number: k,
+        };
+    }
+    if kind == 2 {
+        let t = variable_fields(s, c, width, starts, sizes, hints, n);
+        let d = t.cursor;
+        return Step {
+            cursor: d,
+            names: t.number,
+            number: 0,
+        };
+    }
+    let d = plain_tail(s, c, kind, width);
+    Step {
+        cursor: d,
+        names: n,
+        number: 0,
+    }
+}
+
+// What stands behind the slots where it holds no variables.
+fn plain_tail(s: &[u8], c: Cursor, kind: u8, width: usize) -> Cursor
+    requires { ⌜ InLine (now s) c × (c .at ≤ c .end + 1) × (kind ≡ 1 → ⊥) × (kind ≡ 2 → ⊥) ⌝ }
+    ensures { λ r. ⌜ Follows (now (s .entry)) c (restIn (takeTail (tailOf kind) width (leftAt (now (s .entry)) c))) r ⌝ }
+{
+    if kind == 3 {
+        return text_fields(s, c, 5, width);
+    }
+    if kind == 4 {
+        return text_fields(s, c, 6, width);
+    }
+    if kind == 5 {
+        return value_fields(s, c, width);
+    }
+    if kind == 6 {
+        return value_fields(s, c, 1);
+    }
+    c
+}
+
+// The fields of a whole line behind its word. They are all taken exactly if the cursor stands one past the line's end.
+pub struct Said {
+    pub cursor: Cursor,
+    pub names: usize,
+    pub first: usize,
+    pub second: usize,
+    pub columns: usize,
+}
+
+fn fields(
+    s: &[u8],
+    c: Cursor,
+    row: Row,
+    width: usize,
+    starts: &mut [u16; 1024],
+    sizes: &mut [u16; 1024],
+    hints: &mut [u16; 4096],
+    n: usize,
+) -> Said
+    requires { ⌜ InLine (now s) c × (c .at ≤ c .end + 1) ⌝ }
+    ensures says { λ r. ⌜ Says c (takeLine (rowOf row) width (leftAt (now (s .entry)) c)) (rowOf row .tail) (r .cursor) (r .first) (r .second) (r .columns) ⌝ }
+    ensures keeps { λ r. ⌜ (r .cursor .at ≡ c .end + 1 → (want : List (List ℕ)) → Holds (now (s .entry)) (now (starts .entry)) (now (sizes .entry)) (now (hints .entry)) n want → Holds (now (s .entry)) (now (starts .exit)) (now (sizes .exit)) (now (hints .exit)) (r .names) (notes (termsIn (takeLine (rowOf row) width (leftAt (now (s .entry)) c))) want)) ⌝ }
+{
+    let a = slots(s, c, row, starts, sizes, hints, n);
+    let ca = a.cursor;
+    if ca.end + 1 < ca.at {
+        return Said {
+            cursor: ca,
+            names: a.names,
+            first: a.first,
+            second: a.second,
+            columns: 0,
+        };
+    }
+    let t = tail(s, ca, row.6, width, starts, sizes, hints, a.names);
+    let ct = t.cursor;
+    Said {
+        cursor: ct,
+        names: t.names,
+        first: a.first,
+        second: a.second,
+        columns: t.number,
+    }
+}
+
+// Which sorts of lines open a level or an entry of their own.
+const OPENS: [u8; 12] = [0, 0, 1, 1, 0, 0, 0, 0, 1, 0, 0, 1];
+
+pub fn opens_level(sort: u8) -> bool
+    requires { ⌜ sort ≤ 11 ⌝ }
+    ensures { λ r. ⌜ r ≡ opens (sortAt sort) ⌝ }
+{
+    let i = sort as usize;
+    OPENS[i] == 1
+}
+
+// What a good line asks for: its row, its first two numbers, and the number of names kept so far.
+pub struct Asked {
+    pub row: Row,
+    pub first: usize,
+    pub second: usize,
+    pub names: usize,
+}
+
+pub enum Line {
+    Asks(Asked),
+    Malformed,
+    OverBound,
+}
+
+// A line of a sort, at a level, after so many others: its word, its fields, and then the bounds.
+pub fn read_line(
+    s: &[u8],
+    c: Cursor,
+    sort: u8,
+    level: u8,
+    width: usize,
+    lines: usize,
+    starts: &mut [u16; 1024],
+    sizes: &mut [u16; 1024],
+    hints: &mut [u16; 4096],
+    n: usize,
+) -> Line
+    requires { ⌜ InLine (now s) c × (c .at ≤ c .end) × (sort ≤ 11) ⌝ }
+    ensures { λ r. ⌜ ((m : Tally) → m .lines ≡ lines → m .wide ≤ 64 → Holds (now (s .entry)) (now (starts .entry)) (now (sizes .entry)) (now (hints .entry)) n (m .names) → LineIs (now (s .entry)) (now (starts .exit)) (now (sizes .exit)) (now (hints .exit)) c sort level width m r) ⌝ }
+    ensures small { λ r. ⌜ Small sort level r ⌝ }
+{
+    let at = c.at;
+    let field = c.next_field(s);
+    match field {
+        Field::At(e, next) => {
+            let found = lookup(sort, &s[at..e]);
+            match found {
+                Found::Is(row) => {
+                    let f = fields(s, next, row, width, starts, sizes, hints, n);
+                    let d = f.cursor;
+                    if d.at != d.end + 1 {
+                        return Line::Malformed;
+                    }
+                    if 2048 <= lines {
+                        return Line::OverBound;
+                    }
+                    if 64 < f.columns {
+                        return Line::OverBound;
+                    }
+                    if 1024 < f.names {
+                        return Line::OverBound;
+                    }
+                    if level == 0 {
+                        if opens_level(sort) {
+                            return Line::OverBound;
+                        }
+                    }
+                    return Line::Asks(Asked {
+                        row,
+                        first: f.first,
+                        second: f.second,
+                        names: f.names,
+                    });
+                }
+                Found::None => {
+                    return Line::Malformed;
+                }
+            }
+        }
+        Field::None => {
+            return Line::Malformed;
+        }
+    }
+}
