@@ -34,6 +34,7 @@ putFlag (provided e) = bytes "1"
 
 unfoldable mutual
   unfolding putTriples putRows putArity decimal
+
   pub put : Pattern → List Line → List Line
   put (bgp ts) t = (bytes "bgp" ∷ decimal (length ts) ∷ []) ∷ putTriples ts t
   put (path s x o) t = (bytes "path" ∷ s ∷ x ∷ o ∷ []) ∷ t
@@ -113,6 +114,7 @@ putSets (x ∷ xs) t = (bytes "set" ∷ decimal (length (x .positions)) ∷ deci
 -- `leaf value`, `ref k`, `un name`, `bin name`, `tern name`, `nary name n`, and the parts below
 unfoldable mutual
   unfolding putValues putArity
+
   pub putFilter : Filter → List Line → List Line
   putFilter (leaf v) t = (bytes "leaf" ∷ putValues (v ∷ [])) ∷ t
   putFilter (ref k) t = (bytes "ref" ∷ k ∷ []) ∷ t

@@ -83,7 +83,7 @@ pub data FilterWord : Type 0 where
 mutual
   pub data Filter : Type 0 where
     leaf : Value → Filter
-    ref : Bytes → Filter                            -- a column's position
+    ref : Bytes → Filter  -- a column's position
     function : FilterWord → Bytes → Filters → Filter  -- the function's name, its parts
 
   pub data Filters : Type 0 where

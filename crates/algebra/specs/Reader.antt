@@ -13,7 +13,6 @@ use Rattle.algebra.specs.Tally.{Limits, Tally, start, within}
 
 infixl 20 _>>=_
 infixl 20 _>>_
-
 -- malformed is number 1, over a bound number 2
 pub data Refusal : Type 0 where
   malformed overBound : Refusal

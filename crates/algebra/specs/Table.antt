@@ -11,16 +11,16 @@ use Rattle.algebra.specs.Word.{PatternWord, BGP, PATH, JOIN, UNION, MINU
 -- what stands in a field
 pub data Slot : Type 0 where
   term text : Kind → Slot  -- a term, whose variable is counted; something else
-  count choice : Slot      -- a number of lines to come; 0 or 1 of them
+  count choice : Slot  -- a number of lines to come; 0 or 1 of them
 
 -- what stands behind those fields
 pub data Tail : Type 0 where
   nothing : Tail
-  columns : Tail           -- any number of variables, a project's columns
-  variables : Tail         -- as many variables as the line above says
-  texts : Kind → Tail      -- as many fields of that kind
-  values : Tail            -- as many values of three fields
-  value : Tail             -- one value of three fields
+  columns : Tail  -- any number of variables, a project's columns
+  variables : Tail  -- as many variables as the line above says
+  texts : Kind → Tail  -- as many fields of that kind
+  values : Tail  -- as many values of three fields
+  value : Tail  -- one value of three fields
 
 -- the sorts of lines
 pub data Sort : Type 0 where
@@ -40,7 +40,6 @@ abbrev pub _of_ : Amount → Sort → Below
 _of_ a s = record { amount = a; sort = s }
 
 infix 90 _of_
-
 pub record Row : Type 0 where
   pub slots : List Slot
   pub tail : Tail

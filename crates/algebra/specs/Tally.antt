@@ -16,7 +16,7 @@ pub record Limits : Type 0 where
   pub lines : ℕ
   pub depth : ℕ
   pub columns : ℕ  -- of one project
-  pub names : ℕ    -- distinct variables
+  pub names : ℕ  -- distinct variables
   pub entries : ℕ  -- of one list
 
 -- document 01's bounds
@@ -29,8 +29,8 @@ roomy n = record { bytes = n; lines = n; depth = n; columns = n; names = n; entr
 
 pub record Tally : Type 0 where
   pub lines : ℕ
-  pub wide : ℕ           -- the columns of the widest project
-  pub names : List Bytes -- the distinct variables by first place; in a list of pairs the first fields that may not be repeated
+  pub wide : ℕ  -- the columns of the widest project
+  pub names : List Bytes  -- the distinct variables by first place; in a list of pairs the first fields that may not be repeated
 
 abbrev pub start : Tally
 start = record { lines = 0; wide = 0; names = [] }
@@ -136,6 +136,7 @@ tallySets (x ∷ xs) m = tallySets xs (tallyRows (x .rows) (noted [] (noted [] m
 
 unfoldable mutual
   unfolding noted
+
   pub tallyFilter : Filter → Tally → Tally
   tallyFilter (leaf v) m = noted [] m
   tallyFilter (ref k) m = noted [] m

@@ -19,26 +19,26 @@ pub data Direction : Type 0 where
 mutual
   pub data Pattern : Type 0 where
     bgp : List Triple → Pattern
-    path : Bytes → Bytes → Bytes → Pattern               -- subject, text, object
-    join union minus : Pattern → Pattern → Pattern       -- left, right
+    path : Bytes → Bytes → Bytes → Pattern  -- subject, text, object
+    join union minus : Pattern → Pattern → Pattern  -- left, right
     leftjoin : Pattern → Pattern → Condition → Pattern
     filter : Pattern → Expression → Pattern
-    graph : Bytes → Pattern → Pattern                    -- name
-    extend : Bytes → Pattern → Expression → Pattern      -- variable
-    values : List Bytes → List (List Bytes) → Pattern    -- columns, rows
+    graph : Bytes → Pattern → Pattern  -- name
+    extend : Bytes → Pattern → Expression → Pattern  -- variable
+    values : List Bytes → List (List Bytes) → Pattern  -- columns, rows
     orderby : Pattern → Orders → Pattern
-    project : List Bytes → Pattern → Pattern             -- columns
+    project : List Bytes → Pattern → Pattern  -- columns
     distinct reduced : Pattern → Pattern
-    slice : Bytes → Bytes → Pattern → Pattern            -- start, length
+    slice : Bytes → Bytes → Pattern → Pattern  -- start, length
     group : List Bytes → Pattern → Aggregates → Pattern  -- keys
-    service : Bytes → Bytes → Pattern → Pattern          -- name, silent
+    service : Bytes → Bytes → Pattern → Pattern  -- name, silent
 
   pub data Expression : Type 0 where
     term : Bytes → Expression
     bound : Bytes → Expression
     exists : Pattern → Expression
     apply : Op → Expressions → Expression
-    call : Bytes → Expressions → Expression              -- a function's name
+    call : Bytes → Expressions → Expression  -- a function's name
 
   -- a left join's expression, if any
   pub data Condition : Type 0 where

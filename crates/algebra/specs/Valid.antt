@@ -33,6 +33,7 @@ Takes (counted n) k = (n ≤ k) × (k - n ≤ most)
 
 unfoldable mutual
   unfolding Triples Rows Takes
+
   pub Valid : Pattern → Type 0
   Valid (bgp ts) = (length ts ≤ most) × Triples ts
   Valid (path s x o) = Fits node s × Fits opaque x × Fits node o
@@ -113,6 +114,7 @@ ValidSets (x ∷ xs) = (length (x .positions) ≤ most) × (length (x .rows) ≤
 
 unfoldable mutual
   unfolding ValidValue Takes
+
   pub ValidFilter : Filter → Type 0
   ValidFilter (leaf v) = ValidValue v
   ValidFilter (ref k) = Fits integer k

@@ -105,11 +105,17 @@ module _ (s : Bytes) (list : Bool) (sort level : ℕ) where
 
   pub going-start : (a b h p l w c : List ℕ) (k n : ℕ) → length s ≤ 16384 → n ≡ length (wantsOf list 0 0) → Stacked p l w c k (replicate n (want (sortAt sort) level 0) ++ []) → Holds s a b h 0 [] → Going a b h p l w c 0 k 0 0 64
   going-start a b h p l w c k n short e st q = record {
-    short = short; inside = omega arith; few = omega arith; names = omega arith;
-    ws = wantsOf list sort level; m = start;
+    short = short;
+    inside = omega arith;
+    few = omega arith;
+    names = omega arith;
+    ws = wantsOf list sort level;
+    m = start;
     stacked = subst (Stacked p l w c k) (roots-are n e) st;
     so = check-start (moreOf list 64 sort level) (wantsOf list sort level) s short;
-    counts = refl; wide = omega arith; holds = q;
+    counts = refl;
+    wide = omega arith;
+    holds = q;
   }
 
   module _ (a b h p l w c : List ℕ) (at k lines n left : ℕ) (g : Going a b h p l w c at k lines n left) where
@@ -180,9 +186,17 @@ module _ (s : Bytes) (list : Bool) (sort level : ℕ) where
               going-on t e =
                   let q = was-next s p″ l″ w″ c″ x y z text (linesFrom s (d .end + 1)) (moreOf list rest sort level) (top .ws) (g .m) v turned t e in
                   record {
-                    short = g .short; inside = omega arith; few = let f = g .few in let u = line .low in omega arith; names = q .7;
-                    ws = q .0; m = q .1; stacked = q .3; so = so-ready ∙ q .2;
-                    counts = q .4 ∙ (ap suc (g .counts) ∙ sym (add-one lines)); wide = q .5; holds = q .6;
+                    short = g .short;
+                    inside = omega arith;
+                    few = let f = g .few in let u = line .low in omega arith;
+                    names = q .7;
+                    ws = q .0;
+                    m = q .1;
+                    stacked = q .3;
+                    so = so-ready ∙ q .2;
+                    counts = q .4 ∙ (ap suc (g .counts) ∙ sym (add-one lines));
+                    wide = q .5;
+                    holds = q .6;
                   }
 
 -- ---- the same at equal places

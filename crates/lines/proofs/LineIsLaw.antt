@@ -80,11 +80,21 @@ module _ (s a l h : List ℕ) (c : Cursor) (e : ℕ) (d : Cursor) (i : InLine s 
         is-asked wide lines cols room shallow tidy =
             let long : length (notes (said .terms) (m .names)) ≤ 1024 = let g = holds-long s a l h n _ keeps-said room in omega arith in
             let v = says .whole z in
-            let w = within-yes (said .terms) m (rowOf row .tail) wide lines (rw (v .4) cols) long in
-            (said .numbers, counted (rowOf row .tail) (said .terms) m,
-            rw fields-are (line-asks (sortAt sort) level width (field s c e d i here) (leftAt s d) m (rowOf row) found said line-said shallow (w .0)),
-            v .2, v .3, says .small .0, says .small .1, counted-lines (said .terms) m (rowOf row .tail), w .1,
-            rw (counted-names (said .terms) m (rowOf row .tail)) keeps-said, room, subst (Tidy sort) q tidy, shallow)
+            let w = within-yes (said .terms) m (rowOf row .tail) wide lines (rw (v .4) cols) long in (
+              said .numbers,
+              counted (rowOf row .tail) (said .terms) m,
+              rw fields-are (line-asks (sortAt sort) level width (field s c e d i here) (leftAt s d) m (rowOf row) found said line-said shallow (w .0)),
+              v .2,
+              v .3,
+              says .small .0,
+              says .small .1,
+              counted-lines (said .terms) m (rowOf row .tail),
+              w .1,
+              rw (counted-names (said .terms) m (rowOf row .tail)) keeps-said,
+              room,
+              subst (Tidy sort) q tidy,
+              shallow,
+            )
 
 -- a sort that opens no level, or a level that is left
 pub not-opening : (sort level : ℕ) (t : Bool) → t ≡ opens (sortAt sort) → t ≡ false → opens (sortAt sort) ≡ true → level ≡ 0 → ⊥

@@ -84,11 +84,11 @@ module _ (sort h level : ℕ) (c : Code) (first second : ℕ) (tidy : Tidy sort 
       by-opening (Fitting k (c .9) level)
       (λ e. record { room = let q = under .opening e in let s = slack-small (sortAt (c .9)) in omega arith; known = tidy .0 .0 })
       (λ e.
-        let ej = zj (no-amount (c .13) (c .14) first second (tidy .2 e .0 .2) (tidy .2 e .0 .3)) in
-        let ek = zk (no-amount (c .10) (c .11) first second (tidy .2 e .0 .0) (tidy .2 e .0 .1)) in
-        ⊎-elim (λ z. absurd (nz (no-amount (c .7) (c .8) first second (z .0) (z .1))))
-        (λ o. record { room = let q = under .closed e in let s : slack (sortAt (c .9)) ≡ 0 = rw o in omega arith; known = tidy .0 .0 })
-        (tidy .2 e .1))
+      let ej = zj (no-amount (c .13) (c .14) first second (tidy .2 e .0 .2) (tidy .2 e .0 .3)) in
+      let ek = zk (no-amount (c .10) (c .11) first second (tidy .2 e .0 .0) (tidy .2 e .0 .1)) in
+      ⊎-elim (λ z. absurd (nz (no-amount (c .7) (c .8) first second (z .0) (z .1))))
+      (λ o. record { room = let q = under .closed e in let s : slack (sortAt (c .9)) ≡ 0 = rw o in omega arith; known = tidy .0 .0 })
+      (tidy .2 e .1))
 
 pub groups-in-turn : (c : Code) (level first second : ℕ) (ws : List Want)
     → replicate (amountIn (c .7) (c .8) first second) (want (sortAt (c .9)) level first) ++ (replicate (amountIn (c .10) (c .11) first second) (want (sortAt (c .12)) level first) ++ (replicate (amountIn (c .13) (c .14) first second) (want (sortAt (c .15)) level first) ++ ws)) ≡ groups c level first second ++ ws

@@ -138,9 +138,9 @@ module _ (s : Bytes) (c a : Cursor) (row : Code) (w x y : ℕ) (slots : TookSlot
         let t = taken s c a _ first-follows fine-c in
         ⊎-elim
         (λ (q : d .at ≤ a .end + 1).
-          let u = taken s a d _ tail q in
-          let more : leftAt s d ≡ [] → ⊥ = some-left s d (let z = ends in let y : d .at ≡ c .end + 1 → ⊥ = h in omega arith) in
-          line-is (t .0) (u .0) (t .1) (t .2) (u .1) ∙ over (u .0) (t .0) (λ z. more (sym (u .2) ∙ z)))
+        let u = taken s a d _ tail q in
+        let more : leftAt s d ≡ [] → ⊥ = some-left s d (let z = ends in let y : d .at ≡ c .end + 1 → ⊥ = h in omega arith) in
+        line-is (t .0) (u .0) (t .1) (t .2) (u .1) ∙ over (u .0) (t .0) (λ z. more (sym (u .2) ∙ z)))
         (λ (q : a .end + 1 < d .at). let m = missed s a d _ tail q in take-lost (t .0) (t .1) (t .2) m)
         (le-or-lt (d .at) (a .end + 1))
       where
@@ -160,9 +160,13 @@ module _ (s : Bytes) (c a : Cursor) (row : Code) (w x y : ℕ) (slots : TookSlot
           let n = numbers fine-c in
           let e = same-line .0 in
           let j : numbersIn (takeSlots (rowOf row .slots) (leftAt s c)) ≡ v .0 .numbers = ap numbersIn (v .2) in
-          let g : termsIn (takeTail (rowOf row .tail) w (leftAt s a)) ≡ v .1 .terms = ap termsIn (v .3) in
-          (fields [] (v .0 .terms ++ v .1 .terms) (v .0 .numbers), v .4, ap (λ l. getD l 0 0) (sym j) ∙ n .0, ap (λ l. getD l 1 0) (sym j) ∙ n .1,
-          columns-front (rowOf row .tail) (v .0 .terms) (v .1 .terms) (bare (v .0) (v .2)) ∙ (ap (columnsOf (rowOf row .tail)) (sym g) ∙ width (omega arith)));
+          let g : termsIn (takeTail (rowOf row .tail) w (leftAt s a)) ≡ v .1 .terms = ap termsIn (v .3) in (
+            fields [] (v .0 .terms ++ v .1 .terms) (v .0 .numbers),
+            v .4,
+            ap (λ l. getD l 0 0) (sym j) ∙ n .0,
+            ap (λ l. getD l 1 0) (sym j) ∙ n .1,
+            columns-front (rowOf row .tail) (v .0 .terms) (v .1 .terms) (bare (v .0) (v .2)) ∙ (ap (columnsOf (rowOf row .tail)) (sym g) ∙ width (omega arith)),
+          );
       broken = line-broken;
     }
 

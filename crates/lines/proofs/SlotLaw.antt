@@ -142,14 +142,14 @@ steps-fault s stop l h = absurd (omega arith)
 steps-fault s (go {c = c} {d = d} {r = r} {σ = σ} {ss = ss} f n more) l h =
     ⊎-elim
     (λ (q : d .at ≤ c .end + 1).
-      let b = follows-along s c d _ f .0 in
-      let g = follows-fine s c d _ f q in
-      let i = steps-fault s more (omega arith) (omega arith) in
-      (later (takeField σ (leftAt s c)) refl (g .0) (i .0), i .1 ∙ ap (λ e. e + 2) b))
+    let b = follows-along s c d _ f .0 in
+    let g = follows-fine s c d _ f q in
+    let i = steps-fault s more (omega arith) (omega arith) in
+    (later (takeField σ (leftAt s c)) refl (g .0) (i .0), i .1 ∙ ap (λ e. e + 2) b))
     (λ (q : c .end + 1 < d .at).
-      let b = follows-along s c d _ f .0 in
-      let g = follows-fault s c d _ f q in
-      (at-once (takeField σ (leftAt s c)) refl (g .0), let e = fault-last s more (omega arith) in omega arith))
+    let b = follows-along s c d _ f .0 in
+    let g = follows-fault s c d _ f q in
+    (at-once (takeField σ (leftAt s c)) refl (g .0), let e = fault-last s more (omega arith) in omega arith))
     (le-or-lt (d .at) (c .end + 1))
   where
     inner : (t : Took) (o : Option Fields) → restIn o ≡ none → restIn (mapped (λ u. fields (u .rest) (t .terms ++ u .terms) (t .number ∷ u .numbers)) o) ≡ none

@@ -35,10 +35,15 @@ module _ (p l w c : List ℕ) where
   -- the nearest parent that awaits children
   pub ready-top : (ρ : More) (ws : List Want) (k h : ℕ) → Settled c k h → Stacked p l w c k ws → 0 < h → Readied p l w c ρ ws ρ h
   unfolding Readied
-  ready-top ρ ws k h q st up =
-      (λ z. absurd (omega arith), λ nz. (ws, refl,
+  ready-top ρ ws k h q st up = (
+    λ z. absurd (omega arith),
+    λ nz. (
+      ws,
+      refl,
       record { entries = st .entries; low = let a = q .high in let b = st .low in omega arith; wants = settle-wants p l w c k h q ∙ st .wants; room = room-settle p l k h (q .high) (st .room) },
-      q .waits (h - 1) (omega arith)))
+      q .waits (h - 1) (omega arith),
+    ),
+  )
 
   settled-none : (ws : List Want) (k h : ℕ) → Settled c k h → Stacked p l w c k ws → h ≤ 0 → ws ≡ []
   settled-none ws k h q st z = let e : h ≡ 0 = omega arith in sym (st .wants) ∙ (sym (settle-wants p l w c k h q) ∙ (ap (wantsIn p l w c) e ∙ wants-none p l w c))
@@ -163,8 +168,13 @@ module _ (s p l w c : List ℕ) (at : Cursor) (ls : List Line) (ρ : More) (ws :
   turn-asked x d g e room low pushed = go (subst (LineIs s a b h at (getD p (k - 1) 0) (getD l (k - 1) 0) (getD w (k - 1) 0) m) e is)
     where
       go : LineIs s a b h at (getD p (k - 1) 0) (getD l (k - 1) 0) (getD w (k - 1) 0) m (Asks x) → TurnIs s p′ l′ w′ c′ a b h text ls ρ ws m (U.Next (record { height = g; names = x .names }))
-      go q =
-          (groups (x .row) d (x .first) (x .second) ++ wantsIn p l w (set c (k - 1) (getD c (k - 1) 0 - 1)) k, q .1,
-          turn-next s p l w c a b h text ls ρ ws m k up st waits (q .0) d (x .row) (x .first) (x .second) (q .1) (rw low (q .2)) (q .3) (q .4),
-          pushed _ (getD p (k - 1) 0) (taken-off s p l w c a b h text ls ρ ws m k up st waits) (q .11) (beneath (getD p (k - 1) 0) (getD l (k - 1) 0) k up room (q .12) d low),
-          q .7, q .8, q .9, q .10)
+      go q = (
+        groups (x .row) d (x .first) (x .second) ++ wantsIn p l w (set c (k - 1) (getD c (k - 1) 0 - 1)) k,
+        q .1,
+        turn-next s p l w c a b h text ls ρ ws m k up st waits (q .0) d (x .row) (x .first) (x .second) (q .1) (rw low (q .2)) (q .3) (q .4),
+        pushed _ (getD p (k - 1) 0) (taken-off s p l w c a b h text ls ρ ws m k up st waits) (q .11) (beneath (getD p (k - 1) 0) (getD l (k - 1) 0) k up room (q .12) d low),
+        q .7,
+        q .8,
+        q .9,
+        q .10,
+      )

@@ -1,11 +1,11 @@
 // A text line by line: what is to come, one line, what it asks for; then missing or left-over lines.
-use algebra::Answer;
-use cursor::Cursor;
 use crate::line::Line;
 use crate::line::opens_level;
 use crate::line::read_line;
 use crate::stack::push;
 use crate::stack::push_row;
+use algebra::Answer;
+use cursor::Cursor;
 ghost use mathlib.Core.Path.{_≡_};
 ghost use Prim.Native.Nat.{ℕ, suc, _+_, _-_, _*_, _≤_, _<_};
 ghost use mathlib.Core.List.{List, [], _∷_};
@@ -150,7 +150,17 @@ pub fn check_text(
     let mut levels = [0u8; 260];
     let mut widths = [0usize; 260];
     let mut counts = [0u64; 260];
-    let h = push(&mut sorts, &mut levels, &mut widths, &mut counts, 0, sort, level, 0, roots(list));
+    let h = push(
+        &mut sorts,
+        &mut levels,
+        &mut widths,
+        &mut counts,
+        0,
+        sort,
+        level,
+        0,
+        roots(list),
+    );
     let mut c = Cursor::new(h);
     let mut lines = 0;
     let mut n = 0;
@@ -160,12 +170,33 @@ pub fn check_text(
         if d.end == s.len() {
             return Answer::Malformed;
         }
-        let q = ready(&mut sorts, &mut levels, &mut widths, &mut counts, d, list, sort, level, left);
+        let q = ready(
+            &mut sorts,
+            &mut levels,
+            &mut widths,
+            &mut counts,
+            d,
+            list,
+            sort,
+            level,
+            left,
+        );
         if q.height == 0 {
             return Answer::Malformed;
         }
         let t = take_turn(
-            s, d, q.height, lines, &mut sorts, &mut levels, &mut widths, &mut counts, starts, sizes, hints, n,
+            s,
+            d,
+            q.height,
+            lines,
+            &mut sorts,
+            &mut levels,
+            &mut widths,
+            &mut counts,
+            starts,
+            sizes,
+            hints,
+            n,
         );
         match t {
             Turn::Next(v) => {

@@ -1,6 +1,4 @@
 // One line: its word, the fields that the word's row of the table asks for, and the bounds.
-use cursor::Cursor;
-use cursor::Field;
 use crate::fields::Taken;
 use crate::fields::choice_field;
 use crate::fields::count_field;
@@ -10,6 +8,8 @@ use crate::fields::text_field;
 use crate::fields::text_fields;
 use crate::fields::value_fields;
 use crate::fields::variable_fields;
+use cursor::Cursor;
+use cursor::Field;
 use words::Found;
 use words::Row;
 use words::lookup;

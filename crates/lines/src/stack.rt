@@ -73,9 +73,29 @@ pub fn push_row(
     ensures { λ r. ⌜ ((ws : List Want) (sort : ℕ) → Stacked (now (sorts .entry)) (now (levels .entry)) (now (widths .entry)) (now (counts .entry)) h ws → Tidy sort (Is row) → Beneath sort h level → Stacked (now (sorts .exit)) (now (levels .exit)) (now (widths .exit)) (now (counts .exit)) r (groups row level first second ++ ws)) ⌝ }
 {
     let third = amount(row.13, row.14, first, second);
-    let i = push(sorts, levels, widths, counts, h, row.15, level, first, third);
+    let i = push(
+        sorts,
+        levels,
+        widths,
+        counts,
+        h,
+        row.15,
+        level,
+        first,
+        third,
+    );
     let next = amount(row.10, row.11, first, second);
     let j = push(sorts, levels, widths, counts, i, row.12, level, first, next);
     let nearest = amount(row.7, row.8, first, second);
-    push(sorts, levels, widths, counts, j, row.9, level, first, nearest)
+    push(
+        sorts,
+        levels,
+        widths,
+        counts,
+        j,
+        row.9,
+        level,
+        first,
+        nearest,
+    )
 }

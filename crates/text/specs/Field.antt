@@ -119,20 +119,20 @@ isForm f = same f (bytes "select") || (same f (bytes "ask") || (same f (bytes "c
 
 pub data Kind : Type 0 where
   variable : Kind  -- ?name
-  node : Kind      -- any term
-  plain : Kind     -- a term that is no blank node
-  name : Kind      -- an IRI or a variable
+  node : Kind  -- any term
+  plain : Kind  -- a term that is no blank node
+  name : Kind  -- an IRI or a variable
   constant : Kind  -- an IRI or a literal
-  cell : Kind      -- an IRI, a literal, or - for unbound
+  cell : Kind  -- an IRI, a literal, or - for unbound
   integer : Kind
-  limit : Kind     -- an integer, or - for none
-  flag : Kind      -- 0 or 1
-  opaque : Kind    -- one byte or more
-  lexical : Kind   -- a lexical form: any bytes, or none
-  absent : Kind    -- -
-  tag : Kind       -- a language tag
+  limit : Kind  -- an integer, or - for none
+  flag : Kind  -- 0 or 1
+  opaque : Kind  -- one byte or more
+  lexical : Kind  -- a lexical form: any bytes, or none
+  absent : Kind  -- -
+  tag : Kind  -- a language tag
   datatype : Kind  -- a datatype IRI
-  form : Kind      -- a query's kind
+  form : Kind  -- a query's kind
 
 unfoldable pub isKind : Kind → Bytes → Bool
 unfolding isVar isIri isLiteral isBlank isDash isFlag numberOf isTag isDatatype isForm

@@ -35,11 +35,126 @@ pub enum Found {
     None,
 }
 
-const WORDS: [u8; 227] = *b"tcolsbgppathjoinunionminusleftjoinfiltergraphextendvaluesorderbyprojectdistinctreducedslicegroupservicetermboundexistscallorandeqsamegtgeltleaddsubmuldivinplusnegnotifcoalescerowascdescaggaggallquerysetatrowleafrefunbinternnary";
+const WORDS: [u8; 227] =
+    *b"tcolsbgppathjoinunionminusleftjoinfiltergraphextendvaluesorderbyprojectdistinctreducedslicegroupservicetermboundexistscallorandeqsamegtgeltleaddsubmuldivinplusnegnotifcoalescerowascdescaggaggallquerysetatrowleafrefunbinternnary";
 
-const STARTS: [usize; 56] = [0, 1, 5, 8, 12, 16, 21, 26, 34, 40, 45, 51, 57, 64, 71, 79, 86, 91, 96, 103, 107, 112, 118, 122, 124, 127, 129, 133, 135, 137, 139, 141, 144, 147, 150, 153, 155, 159, 162, 165, 167, 175, 178, 181, 185, 188, 194, 199, 202, 204, 207, 211, 214, 216, 219, 223];
+const STARTS: [usize; 56] = [
+    0,
+    1,
+    5,
+    8,
+    12,
+    16,
+    21,
+    26,
+    34,
+    40,
+    45,
+    51,
+    57,
+    64,
+    71,
+    79,
+    86,
+    91,
+    96,
+    103,
+    107,
+    112,
+    118,
+    122,
+    124,
+    127,
+    129,
+    133,
+    135,
+    137,
+    139,
+    141,
+    144,
+    147,
+    150,
+    153,
+    155,
+    159,
+    162,
+    165,
+    167,
+    175,
+    178,
+    181,
+    185,
+    188,
+    194,
+    199,
+    202,
+    204,
+    207,
+    211,
+    214,
+    216,
+    219,
+    223,
+];
 
-const SIZES: [usize; 56] = [1, 4, 3, 4, 4, 5, 5, 8, 6, 5, 6, 6, 7, 7, 8, 7, 5, 5, 7, 4, 5, 6, 4, 2, 3, 2, 4, 2, 2, 2, 2, 3, 3, 3, 3, 2, 4, 3, 3, 2, 8, 3, 3, 4, 3, 6, 5, 3, 2, 3, 4, 3, 2, 3, 4, 4];
+const SIZES: [usize; 56] = [
+    1,
+    4,
+    3,
+    4,
+    4,
+    5,
+    5,
+    8,
+    6,
+    5,
+    6,
+    6,
+    7,
+    7,
+    8,
+    7,
+    5,
+    5,
+    7,
+    4,
+    5,
+    6,
+    4,
+    2,
+    3,
+    2,
+    4,
+    2,
+    2,
+    2,
+    2,
+    3,
+    3,
+    3,
+    3,
+    2,
+    4,
+    3,
+    3,
+    2,
+    8,
+    3,
+    3,
+    4,
+    3,
+    6,
+    5,
+    3,
+    2,
+    3,
+    4,
+    3,
+    2,
+    3,
+    4,
+    4,
+];
 
 // The row of each word, a hexadecimal digit a number.
 const ROWS: [u64; 56] = [
@@ -104,14 +219,49 @@ const ROWS: [u64; 56] = [
 // Where the words of each sort begin, and the end.
 const FIRST: [usize; 13] = [0, 1, 2, 19, 41, 42, 44, 46, 47, 48, 49, 50, 56];
 
-const DOMAINS: [u8; 128] = *b"PlainStringLanguageTaggedStringIriFloatDoubleUnsignedLongNonNegativeLongUnsignedIntNonNegativeIntLongIntBooleanNullTupleMapOther";
+const DOMAINS: [u8; 128] =
+    *b"PlainStringLanguageTaggedStringIriFloatDoubleUnsignedLongNonNegativeLongUnsignedIntNonNegativeIntLongIntBooleanNullTupleMapOther";
 
-const DOMAIN_STARTS: [usize; 16] = [0, 11, 31, 34, 39, 45, 57, 72, 83, 97, 101, 104, 111, 115, 120, 123];
+const DOMAIN_STARTS: [usize; 16] = [
+    0,
+    11,
+    31,
+    34,
+    39,
+    45,
+    57,
+    72,
+    83,
+    97,
+    101,
+    104,
+    111,
+    115,
+    120,
+    123,
+];
 
 const DOMAIN_SIZES: [usize; 16] = [11, 20, 3, 5, 6, 12, 15, 11, 14, 4, 3, 7, 4, 5, 3, 5];
 
 // The kind of each domain's extra.
-const EXTRAS: [u8; 16] = [11, 12, 11, 13, 13, 13, 13, 13, 13, 13, 13, 13, 11, 11, 11, 13];
+const EXTRAS: [u8; 16] = [
+    11,
+    12,
+    11,
+    13,
+    13,
+    13,
+    13,
+    13,
+    13,
+    13,
+    13,
+    13,
+    11,
+    11,
+    11,
+    13,
+];
 
 fn is_word(f: &[u8], i: usize) -> bool
     requires { ⌜ i < 56 ⌝ }

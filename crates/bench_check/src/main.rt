@@ -1,0 +1,65 @@
+// Reads a tree from standard input, checks it as often as the first argument says and once more, and writes the number of the check,
+// and a mix of entries of the table after each check, which keeps every check in the compiled program.
+use algebra::number;
+use libc::STDIN_FILENO;
+use libc::STDOUT_FILENO;
+use reading::check_tree;
+use text::Number;
+use text::number_of;
+
+fn entry(starts: &[u16; 1024], sizes: &[u16; 1024], hints: &[u16; 4096], k: u32) -> u16 {
+    let i = (k % 1024) as usize;
+    starts[i] ^ sizes[i] ^ hints[i]
+}
+
+fn again(
+    text: &[u8],
+    starts: &mut [u16; 1024],
+    sizes: &mut [u16; 1024],
+    hints: &mut [u16; 4096],
+    times: u32,
+) -> u16 {
+    let mut mix: u16 = 0;
+    let mut k = times;
+    while k > 0 {
+        check_tree(text, starts, sizes, hints);
+        mix = mix ^ entry(starts, sizes, hints, k);
+        k -= 1;
+    }
+    mix
+}
+
+fn run(
+    text: &[u8],
+    starts: &mut [u16; 1024],
+    sizes: &mut [u16; 1024],
+    hints: &mut [u16; 4096],
+    times: &[u8],
+) {
+    let Number::Is(n) = number_of(times) else {
+        return;
+    };
+    let mix = again(text, starts, sizes, hints, n);
+    let a = check_tree(text, starts, sizes, hints);
+    io::print_decimal(STDOUT_FILENO, number(a));
+    io::write_all(STDOUT_FILENO, b"\t");
+    io::print_decimal(STDOUT_FILENO, mix as u64);
+    io::write_all(STDOUT_FILENO, b"\n");
+}
+
+fn main() {
+    let mut word = [0u8; 16];
+    let size = os::arg(1, &mut word);
+    let mut text = [0u8; 20480];
+    let n = io::read_full(STDIN_FILENO, &mut text);
+    let mut starts = [0u16; 1024];
+    let mut sizes = [0u16; 1024];
+    let mut hints = [0u16; 4096];
+    run(
+        &text[..n],
+        &mut starts,
+        &mut sizes,
+        &mut hints,
+        &word[..size],
+    );
+}

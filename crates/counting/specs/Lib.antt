@@ -1,0 +1,11 @@
+pub mod Bag
+pub mod Row
+pub mod Condition
+pub mod Scope
+pub mod Answer
+pub mod Countable
+pub mod Rename
+pub mod Merge
+pub mod Expected
+pub mod Fit
+pub mod Premises
