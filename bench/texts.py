@@ -26,7 +26,7 @@ def place(name):
     """Where the hint for a name stands, by crates/names."""
     h = 0
     for b in name.encode():
-        h = (h * 33 + b) % 4096
+        h = (h * 471 + b) % 4096
     return h
 
 

@@ -20,7 +20,7 @@ use Rattle.names.specs.Names.{hashOf, nameAt, listing, Hinted, kept, Hol
 
 -- ---- the hash
 
-pub hash-next : (f : Bytes) (i h b : ℕ) → i < length f → b ≡ getD f i 0 → hashOf h (drop i f) ≡ hashOf ((h * 33 + b) % 4096) (drop (i + 1) f)
+pub hash-next : (f : Bytes) (i h b : ℕ) → i < length f → b ≡ getD f i 0 → hashOf h (drop i f) ≡ hashOf ((h * 471 + b) % 4096) (drop (i + 1) f)
 unfolding hashOf
 hash-next f i h b k e = rw (e, add-one, drop-cons f i 0 k)
 

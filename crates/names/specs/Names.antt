@@ -10,7 +10,7 @@ use Rattle.algebra.specs.Valid.{mem}
 -- a name's place among the hints, from h on
 unfoldable pub hashOf : ℕ → Bytes → ℕ
 hashOf h [] = h
-hashOf h (b ∷ bs) = hashOf ((h * 33 + b) % 4096) bs
+hashOf h (b ∷ bs) = hashOf ((h * 471 + b) % 4096) bs
 
 -- the name at an entry: the piece of the text s that the start and the size there tell
 abbrev pub nameAt : Bytes → List ℕ → List ℕ → ℕ → Bytes

@@ -24,24 +24,13 @@ fn byte(x: u8) -> usize
     x as usize
 }
 
-// Every entry becomes 0.
-fn zero(a: &mut [u16])
-    ensures { λ r. ⌜ Zeros (length (now (a .entry))) (now (a .exit)) ⌝ }
-{
-    let mut i = 0;
-    while i < a.len() {
-        a[i] = 0;
-        i += 1;
-    }
-}
-
 // The table is cleared.
 pub fn clear(starts: &mut [u16; 1024], sizes: &mut [u16; 1024], hints: &mut [u16; 4096])
     ensures { λ r. ⌜ Zeros 1024 (now (starts .exit)) × Zeros 1024 (now (sizes .exit)) × Zeros 4096 (now (hints .exit)) ⌝ }
 {
-    zero(starts);
-    zero(sizes);
-    zero(hints);
+    *starts = [0; 1024];
+    *sizes = [0; 1024];
+    *hints = [0; 4096];
 }
 
 // Where the hint for a name stands.
@@ -51,7 +40,7 @@ fn place(f: &[u8]) -> usize
     let mut h: usize = 0;
     let mut i = 0;
     while i < f.len() {
-        h = (h * 33 + byte(f[i])) % 4096;
+        h = (h * 471 + byte(f[i])) % 4096;
         i += 1;
     }
     h
