@@ -10,7 +10,7 @@ use Rattle.counting.specs.Bag.{Sub, Inj, mem, total, tick, count}
 use Rattle.counting.specs.Row.{Cell, Row, bind, named, cells, cut, sameRow}
 use Rattle.counting.specs.Scope.{inScope, names}
 use Rattle.counting.specs.Answer.{eval, answer}
-use Rattle.counting.specs.Rename.{renameInGraphPattern}
+use Rattle.scoping.specs.Rename.{renameInGraphPattern}
 use Rattle.counting.proofs.Basics.{split, either, same-eq, mem-here, mem-there, mem-left, mem-right, map-map}
 use Rattle.counting.proofs.Every.{map-every}
 use Rattle.counting.proofs.Sums.{total-map}

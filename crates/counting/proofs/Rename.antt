@@ -12,7 +12,7 @@ use Rattle.counting.specs.Row.{sameCell, isBound, Row, bind, merge, cut,
 use Rattle.counting.specs.Condition.{truth, connective, wordTruth, value, termOf, termsOf, truthOf, truthsOf, isTrue, passes}
 use Rattle.counting.specs.Scope.{fieldVars, tripleVars, inScope, expressionVars, expressionsVars, conditionVars, namesWith, names}
 use Rattle.counting.specs.Answer.{ways, isIn, terms, bgpRows, pairs, orElse, extendBy, lineRows, removed, eval}
-use Rattle.counting.specs.Rename.{renameInTerm, renameInTriple, renameInGraphPattern, renameInExpression, renameInCondition, renameInExpressions}
+use Rattle.scoping.specs.Rename.{renameInTerm, renameInTriple, renameInGraphPattern, renameInExpression, renameInCondition, renameInExpressions}
 use Rattle.counting.proofs.Basics.{either, mem-nil, mem-here, mem-cases, sub-left, sub-right, sub-append, sub-rest, any-map, map-append, map-map, map-cong, each-cong, each-map, map-each, map-when, keep-map, once-map}
 use Rattle.counting.proofs.Push.{push, push-at, mem-inj, push-empty, push-bind, push-merge, push-cut, push-named, oneTerm-push, push-extend, agree-push, shares-push, sameOn-push}
 

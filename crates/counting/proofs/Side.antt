@@ -15,7 +15,7 @@ use Rattle.counting.specs.Row.{Cell, orCell, Row, empty, merge, cut, agr
 use Rattle.counting.specs.Condition.{passes}
 use Rattle.counting.specs.Scope.{inScope, namesWith, names}
 use Rattle.counting.specs.Answer.{pairs, lineRows, eval, answer}
-use Rattle.counting.specs.Rename.{renameInGraphPattern}
+use Rattle.scoping.specs.Rename.{renameInGraphPattern}
 use Rattle.counting.specs.Merge.{Constant, Side, whole, columnAt, constantColumns, constantTerms, bindConstants, withoutConstants, renamedColumns, renamedPattern, freeColumns}
 use Rattle.counting.specs.Expected.{constantRow, rows}
 use Rattle.counting.specs.Fit.{inside, SideFit}

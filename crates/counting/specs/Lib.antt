@@ -4,7 +4,6 @@ pub mod Condition
 pub mod Scope
 pub mod Answer
 pub mod Countable
-pub mod Rename
 pub mod Merge
 pub mod Expected
 pub mod Fit

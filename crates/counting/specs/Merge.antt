@@ -9,7 +9,7 @@ use lib.Dec.{eqb}
 use Rattle.text.specs.Text.{Bytes}
 use Rattle.algebra.specs.Tree.{Pattern, bgp, path, join, union, minus, leftjoin, filter, graph, extend, values, orderby, project, distinct, reduced, slice, group, service}
 use Rattle.counting.specs.Bag.{any, mem, keep}
-use Rattle.counting.specs.Rename.{renameInGraphPattern}
+use Rattle.scoping.specs.Rename.{renameInGraphPattern}
 
 -- a line of a join list
 pub record Pair : Type 0 where

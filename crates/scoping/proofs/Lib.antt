@@ -1,0 +1,16 @@
+pub mod Sets
+pub mod Standard
+pub mod Walked
+pub mod FirstPlaces
+pub mod Named
+pub mod Numbered
+pub mod Decimal
+pub mod Agree
+pub mod Labels
+pub mod Closed
+pub mod Index
+pub mod Meet
+pub mod NewVariables
+pub mod Theorem
+pub mod Renamed
+pub mod Worked

@@ -1,0 +1,101 @@
+-- Under document 01's premises: a side's names stay apart, become variables, and a left and a right name meet exactly if they are the two columns of one join pair. Assumes nothing.
+use mathlib.Core.Path.{_≡_, refl, sym, ap, ap₂, _∙_}
+use mathlib.Core.List.{List, [], _∷_}
+use mathlib.Core.Bool.{Bool, true, false, _||_, or-true}
+use Prim.Native.Nat.{ℕ, suc, _≤_, _<_}
+use native.Mathlib.Omega.{arith}
+use lib.ListN.{length, getD}
+use Rattle.text.specs.Text.{Bytes, same}
+use Rattle.text.specs.Field.{most, isVar}
+use Rattle.text.proofs.Basics.{same-refl}
+use Rattle.algebra.specs.Valid.{mem}
+use Rattle.algebra.specs.Tree.{Pattern, project}
+use Rattle.scoping.specs.Sets.{Once}
+use Rattle.scoping.specs.Variables.{variablesInPattern}
+use Rattle.scoping.specs.Label.{isLabel, prefixJ, prefixL, prefixR}
+use Rattle.scoping.specs.Numbering.{byPlace, numbered}
+use Rattle.scoping.specs.Pushes.{allPushes, newName}
+use Rattle.scoping.specs.Premises.{columnsAt, Within, Apart, Different, Premises, Known, sideName, isPair}
+use Rattle.scoping.proofs.Sets.{not-same}
+use Rattle.scoping.proofs.Numbered.{numbered-mem}
+use Rattle.scoping.proofs.Agree.{renamed-by-pushes}
+use Rattle.scoping.proofs.Closed.{Plain, indexOf, new-name-target}
+use Rattle.scoping.proofs.Index.{mem-at, index-at}
+use Rattle.scoping.proofs.NewVariables.{target-variable}
+use Rattle.scoping.proofs.Meet.{new-names-apart, new-names-meet}
+
+-- ---- from the premises
+
+plain-of : (vs : List Bytes) → ((w : Bytes) → mem w vs ≡ true → isLabel w ≡ false) → Plain vs
+unfolding mem
+plain-of [] h = tt
+plain-of (v ∷ vs) h =
+    (h v (ap (λ (b : Bool). b || mem v vs) (same-refl v)), plain-of vs (λ w k. h w (ap (λ (b : Bool). same w v || b) k ∙ or-true (same w v))))
+
+plain-columns : (cs : List Bytes) (is : List ℕ) → ((w : Bytes) → mem w cs ≡ true → isLabel w ≡ false) → Within (length cs) is → Plain (columnsAt cs is)
+unfolding columnsAt
+plain-columns cs [] h k = tt
+plain-columns cs (i ∷ is) h k = (h (getD cs i []) (mem-at cs i (k .0)), plain-columns cs is h (k .1))
+
+column-other : (cs : List Bytes) → Once cs → (i : ℕ) → i < length cs → (is : List ℕ) → Within (length cs) is → Apart i is → mem (getD cs i []) (columnsAt cs is) ≡ false
+unfolding mem columnsAt
+column-other cs o i h [] k d = refl
+column-other cs o i h (j ∷ is) k d =
+    ap (λ (b : Bool). b || mem (getD cs i []) (columnsAt cs is))
+    (not-same (getD cs i []) (getD cs j []) (λ e. d .0 (sym (index-at cs i o h) ∙ ap (λ (n : Bytes). indexOf n cs) e ∙ index-at cs j o (k .0))))
+    ∙ column-other cs o i h is (k .1) (d .1)
+
+once-columns : (cs : List Bytes) → Once cs → (is : List ℕ) → Within (length cs) is → Different is → Once (columnsAt cs is)
+unfolding columnsAt
+once-columns cs o [] k d = tt
+once-columns cs o (i ∷ is) k d = (column-other cs o i (k .0) is (k .1) (d .0), once-columns cs o is (k .1) (d .1))
+
+columns-length : (cs : List Bytes) (is : List ℕ) → length (columnsAt cs is) ≡ length is
+unfolding columnsAt
+columns-length cs [] = refl
+columns-length cs (i ∷ is) = ap suc (columns-length cs is)
+
+module _ (cs : List Bytes) (p : Pattern) (is : List ℕ) (s : Premises cs p is) where
+  column-numbered : (w : Bytes) → mem w cs ≡ true → mem w (numbered (project cs p)) ≡ true
+  unfolding variablesInPattern
+  column-numbered w h = numbered-mem (project cs p) (s .valid) w ∙ ap (λ (b : Bool). b || mem w (variablesInPattern (project cs p) .hidden)) h
+
+  names-plain : Plain (numbered (project cs p))
+  names-plain = plain-of (numbered (project cs p)) (s .plain)
+
+  joins-plain : Plain (columnsAt cs is)
+  joins-plain = plain-columns cs is (λ w h. s .plain w (column-numbered w h)) (s .positions)
+
+  joins-once : Once (columnsAt cs is)
+  joins-once = once-columns cs (s .columns) is (s .positions) (s .different)
+
+  by-pushes : (prefix : ℕ) (w : Bytes) → sideName prefix cs p is w ≡ newName (allPushes prefix (numbered (project cs p)) (columnsAt cs is)) w
+  unfolding sideName
+  by-pushes prefix w = renamed-by-pushes prefix (numbered (project cs p)) (columnsAt cs is) w
+
+  -- renaming keeps apart all names in scope or hidden
+  pub side-apart : (prefix : ℕ) → (prefix ≡ prefixJ → ⊥) → (w u : Bytes) → mem w (numbered (project cs p)) ≡ true → mem u (numbered (project cs p)) ≡ true
+      → sideName prefix cs p is w ≡ sideName prefix cs p is u → w ≡ u
+  side-apart prefix d w u h k e =
+      new-names-apart prefix d (numbered (project cs p)) (columnsAt cs is) names-plain joins-plain w u h k (sym (by-pushes prefix w) ∙ e ∙ by-pushes prefix u)
+
+  -- and all names of the tree, where expressions name no others
+  pub tree-apart : (prefix : ℕ) → (prefix ≡ prefixJ → ⊥) → Known (project cs p) → (w u : Bytes) → mem w (byPlace (project cs p)) ≡ true → mem u (byPlace (project cs p)) ≡ true
+      → sideName prefix cs p is w ≡ sideName prefix cs p is u → w ≡ u
+  tree-apart prefix d known w u h k = side-apart prefix d w u (known w h) (known u k)
+
+  -- and makes variables of them
+  pub side-variables : (prefix : ℕ) → length (numbered (project cs p)) ≤ most → length is ≤ most → (w : Bytes) → mem w (numbered (project cs p)) ≡ true
+      → isVar (sideName prefix cs p is w) ≡ true
+  side-variables prefix a b w h =
+      ap isVar (by-pushes prefix w ∙ new-name-target prefix (numbered (project cs p)) (columnsAt cs is) names-plain joins-plain w h)
+      ∙ target-variable prefix (numbered (project cs p)) (columnsAt cs is) w h a (omega (arith, columns-length cs is))
+
+-- a left and a right name become one exactly if they are the two columns of one join pair
+pub sides-meet : (cs : List Bytes) (p : Pattern) (is : List ℕ) (ds : List Bytes) (q : Pattern) (ks : List ℕ) → Premises cs p is → Premises ds q ks
+    → (w u : Bytes) → mem w (numbered (project cs p)) ≡ true → mem u (numbered (project ds q)) ≡ true
+    → same (sideName prefixL cs p is w) (sideName prefixR ds q ks u) ≡ isPair (columnsAt cs is) (columnsAt ds ks) w u
+sides-meet cs p is ds q ks s t w u h k =
+    ap₂ same (by-pushes cs p is s prefixL w) (by-pushes ds q ks t prefixR u)
+    ∙ new-names-meet (numbered (project cs p)) (columnsAt cs is) (numbered (project ds q)) (columnsAt ds ks)
+    (names-plain cs p is s) (joins-plain cs p is s) (names-plain ds q ks t) (joins-plain ds q ks t) (joins-once cs p is s) (joins-once ds q ks t) w u h k

@@ -1,0 +1,11 @@
+pub mod Sets
+pub mod Variables
+pub mod InScope
+pub mod Places
+pub mod Rename
+pub mod Numbering
+pub mod Label
+pub mod Standardize
+pub mod Pushes
+pub mod Premises
+pub mod Cases

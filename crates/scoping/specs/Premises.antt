@@ -1,0 +1,56 @@
+-- What document 01 supposes of the two sides of a merge for their names, and the pairs of a join list. Assumes nothing.
+use mathlib.Core.Path.{_≡_}
+use mathlib.Core.Bool.{Bool, true, false, _||_, _&&_}
+use mathlib.Core.List.{List, [], _∷_}
+use Prim.Native.Nat.{ℕ, _<_}
+use lib.ListN.{length, getD}
+use Rattle.text.specs.Text.{Bytes, same}
+use Rattle.algebra.specs.Valid.{mem, Valid}
+use Rattle.algebra.specs.Tree.{Pattern, project}
+use Rattle.scoping.specs.Sets.{Once}
+use Rattle.scoping.specs.Label.{isLabel, prefixL, prefixR}
+use Rattle.scoping.specs.Numbering.{byPlace, numbered}
+use Rattle.scoping.specs.Standardize.{standardizeVariables, renamed}
+
+-- left_join_variables, right_join_variables: the columns at positions
+unfoldable pub columnsAt : List Bytes → List ℕ → List Bytes
+columnsAt cs [] = []
+columnsAt cs (i ∷ is) = getD cs i [] ∷ columnsAt cs is
+
+-- every position is a column's: else refusal 3
+abbrev pub Within : ℕ → List ℕ → Type 0
+Within n [] = Unit {0}
+Within n (i ∷ is) = (i < n) × Within n is
+
+-- no position twice
+abbrev pub Apart : ℕ → List ℕ → Type 0
+Apart i [] = Unit {0}
+Apart i (j ∷ is) = (i ≡ j → ⊥) × Apart i is
+
+abbrev pub Different : List ℕ → Type 0
+Different [] = Unit {0}
+Different (i ∷ is) = Apart i is × Different is
+
+-- of a tree `project cs p` and its side's positions in the join list
+pub record Premises (cs : List Bytes) (p : Pattern) (is : List ℕ) : Type 0 where
+  pub valid : Valid (project cs p)
+  pub plain : (w : Bytes) → mem w (numbered (project cs p)) ≡ true → isLabel w ≡ false  -- no name ends in "Label"
+  pub columns : Once cs  -- no column twice
+  pub positions : Within (length cs) is
+  pub different : Different is  -- no position twice on its side
+
+-- "every variable in an expression is in scope or hidden in that tree"
+abbrev pub Known : Pattern → Type 0
+Known p = (w : Bytes) → mem w (byPlace p) ≡ true → mem w (numbered p) ≡ true
+
+-- a name of a tree in the merge: mapping.get(variable).unwrap_or(variable), with the map for the side's prefix and join variables
+unfoldable pub sideName : ℕ → List Bytes → Pattern → List ℕ → Bytes → Bytes
+unfolding renamed standardizeVariables numbered columnsAt
+sideName prefix cs p is w = renamed (standardizeVariables prefix (numbered (project cs p)) (columnsAt cs is)) w
+
+-- the two names are the columns of one pair of join variables
+unfoldable pub isPair : List Bytes → List Bytes → Bytes → Bytes → Bool
+unfolding same
+isPair [] rs a b = false
+isPair (l ∷ ls) [] a b = false
+isPair (l ∷ ls) (r ∷ rs) a b = (same l a && same r b) || isPair ls rs a b

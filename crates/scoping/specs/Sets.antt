@@ -1,0 +1,39 @@
+-- Lists of names read as sets, and the variables among fields. Assumes nothing.
+use mathlib.Core.Path.{_≡_}
+use mathlib.Core.Bool.{Bool, true, false, cond}
+use mathlib.Core.List.{List, [], _∷_, _++_}
+use Rattle.text.specs.Text.{Bytes}
+use Rattle.text.specs.Field.{isVar}
+use Rattle.algebra.specs.Tree.{Triple, Aggregates, aend, agg, aggall}
+use Rattle.algebra.specs.Valid.{mem}
+
+-- two lists are the same set
+abbrev pub Alike : List Bytes → List Bytes → Type 0
+Alike xs ys = (v : Bytes) → mem v xs ≡ mem v ys
+
+-- no name twice
+abbrev pub Once : List Bytes → Type 0
+Once [] = Unit {0}
+Once (v ∷ vs) = (mem v vs ≡ false) × Once vs
+
+-- the names that pass a test
+unfoldable pub keep : (Bytes → Bool) → List Bytes → List Bytes
+keep f [] = []
+keep f (v ∷ vs) = cond (f v) (v ∷ keep f vs) (keep f vs)
+
+-- the variables among fields that may be other terms
+unfoldable pub variablesOf : List Bytes → List Bytes
+unfolding keep isVar
+variablesOf fs = keep isVar fs
+
+-- the variables of `t` lines: subject, predicate, object
+unfoldable pub tripleVariables : List Triple → List Bytes
+unfolding variablesOf
+tripleVariables [] = []
+tripleVariables (t ∷ ts) = variablesOf (t .subj ∷ t .pred ∷ t .obj ∷ []) ++ tripleVariables ts
+
+-- the variables that a group's aggregates set
+unfoldable pub aggregateVariables : Aggregates → List Bytes
+aggregateVariables aend = []
+aggregateVariables (agg v n d e rs) = v ∷ aggregateVariables rs
+aggregateVariables (aggall v d rs) = v ∷ aggregateVariables rs
