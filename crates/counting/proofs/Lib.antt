@@ -15,6 +15,7 @@ pub mod Pairs
 pub mod Fits
 pub mod Roots
 pub mod Theorem
+pub mod Naming
 pub mod Decide
 pub mod Standard
 pub mod Worked

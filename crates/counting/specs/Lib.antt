@@ -8,3 +8,4 @@ pub mod Merge
 pub mod Expected
 pub mod Fit
 pub mod Premises
+pub mod Naming

@@ -36,12 +36,12 @@ notes-variables (f ∷ fs) ns = go (isVar f) refl (notes-variables fs ns) (notes
 
 -- ---- names of places
 
-namesOf-append : (xs ys : List Place) → namesOf (xs ++ ys) ≡ namesOf xs ++ namesOf ys
+pub namesOf-append : (xs ys : List Place) → namesOf (xs ++ ys) ≡ namesOf xs ++ namesOf ys
 unfolding namesOf
 namesOf-append [] ys = refl
 namesOf-append (x ∷ xs) ys = ap (λ (l : List Bytes). x .name ∷ l) (namesOf-append xs ys)
 
-namesOf-marked : (m : Mark) (vs : List Bytes) → namesOf (marked m vs) ≡ vs
+pub namesOf-marked : (m : Mark) (vs : List Bytes) → namesOf (marked m vs) ≡ vs
 unfolding namesOf marked
 namesOf-marked m [] = refl
 namesOf-marked m (v ∷ vs) = ap (λ (l : List Bytes). v ∷ l) (namesOf-marked m vs)

@@ -1,9 +1,11 @@
 pub mod Sets
+pub mod Union
 pub mod Standard
 pub mod Walked
 pub mod FirstPlaces
 pub mod Named
 pub mod Numbered
+pub mod ScopedOrHidden
 pub mod Decimal
 pub mod Agree
 pub mod Labels
@@ -13,4 +15,5 @@ pub mod Meet
 pub mod NewVariables
 pub mod Theorem
 pub mod Renamed
+pub mod Services
 pub mod Worked

@@ -12,6 +12,7 @@ use Rattle.algebra.specs.Tree.{Expression, term, bound, exists, apply, call, Co
 use Rattle.scoping.specs.Sets.{variablesOf, tripleVariables}
 use Rattle.scoping.specs.Places.{Mark, silent, Place, under, marked, places, placesE, placesC, placesEs, placesOs, placesAs, namesOf}
 use Rattle.scoping.proofs.Sets.{mem-append, mem-keep}
+use Rattle.scoping.proofs.FirstPlaces.{namesOf-append, namesOf-marked}
 
 -- all these are variables
 record Variables (vs : List Bytes) : Type 0 where
@@ -28,21 +29,11 @@ none-named : Named []
 unfolding namesOf mem
 none-named = record { at = λ v h. absurd (false≢true h) }
 
-namesOf-append : (xs ys : List Place) → namesOf (xs ++ ys) ≡ namesOf xs ++ namesOf ys
-unfolding namesOf
-namesOf-append [] ys = refl
-namesOf-append (x ∷ xs) ys = ap (λ (l : List Bytes). x .name ∷ l) (namesOf-append xs ys)
-
 infixr 20 _and_
 _and_ : {xs ys : List Place} → Named xs → Named ys → Named (xs ++ ys)
 _and_ {xs} {ys} a b = record {
   at = λ v h. or-split (mem v (namesOf xs)) (mem v (namesOf ys)) (isVar v) (sym (mem-append v (namesOf xs) (namesOf ys)) ∙ ap (mem v) (sym (namesOf-append xs ys)) ∙ h) (a .at v) (b .at v);
 }
-
-namesOf-marked : (m : Mark) (vs : List Bytes) → namesOf (marked m vs) ≡ vs
-unfolding namesOf marked
-namesOf-marked m [] = refl
-namesOf-marked m (v ∷ vs) = ap (λ (l : List Bytes). v ∷ l) (namesOf-marked m vs)
 
 marked-named : (m : Mark) (vs : List Bytes) → Variables vs → Named (marked m vs)
 marked-named m vs a = record { at = λ v h. a .at v (ap (mem v) (sym (namesOf-marked m vs)) ∙ h) }

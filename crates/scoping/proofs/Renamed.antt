@@ -1,4 +1,4 @@
--- Renaming renames both sets of a tree and leaves the names of services. Assumes nothing.
+-- Renaming renames both sets of a tree. Assumes nothing.
 use mathlib.Core.Path.{_≡_, refl, sym, ap, ap₂, _∙_}
 use mathlib.Core.List.{List, [], _∷_, _++_, map}
 use mathlib.Core.Bool.{Bool, true, false, cond}
@@ -9,7 +9,6 @@ use Rattle.algebra.specs.Tree.{Pattern, bgp, path, join, union, minus, leftjoin
 use Rattle.algebra.specs.Tree.{Aggregates, aend, agg, aggall}
 use Rattle.scoping.specs.Sets.{keep, variablesOf, tripleVariables, aggregateVariables}
 use Rattle.scoping.specs.Variables.{PatternVariables, variables, withUnion, withProject, projectOnto, variablesInPattern}
-use Rattle.scoping.specs.InScope.{serviceNames}
 use Rattle.scoping.specs.Rename.{renameInTerm, renameInTriple, renameInGraphPattern, renameAggregates}
 
 -- a name is renamed to a variable if it is one
@@ -84,24 +83,3 @@ module _ (f : Bytes → Bytes) (to : ToVariables f) where
   variables-renamed (slice s l p) = variables-renamed p
   variables-renamed (service n s p) = variables-renamed p
   variables-renamed (filter p e) = variables-renamed p
-
--- "Renaming leaves a Service name as it is"
-pub services-stay : (f : Bytes → Bytes) (p : Pattern) → serviceNames (renameInGraphPattern f p) ≡ serviceNames p
-unfolding serviceNames renameInGraphPattern
-services-stay f (bgp ts) = refl
-services-stay f (path s t o) = refl
-services-stay f (values cs rs) = refl
-services-stay f (join p q) = ap₂ _++_ (services-stay f p) (services-stay f q)
-services-stay f (leftjoin p q c) = ap₂ _++_ (services-stay f p) (services-stay f q)
-services-stay f (union p q) = ap₂ _++_ (services-stay f p) (services-stay f q)
-services-stay f (graph n p) = services-stay f p
-services-stay f (extend v p e) = services-stay f p
-services-stay f (minus p q) = services-stay f p
-services-stay f (project cs p) = refl
-services-stay f (group ks p rs) = refl
-services-stay f (orderby p os) = services-stay f p
-services-stay f (distinct p) = services-stay f p
-services-stay f (reduced p) = services-stay f p
-services-stay f (slice s l p) = services-stay f p
-services-stay f (service n s p) = ap (λ (l : List Bytes). variablesOf (n ∷ []) ++ l) (services-stay f p)
-services-stay f (filter p e) = services-stay f p

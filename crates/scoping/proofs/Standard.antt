@@ -8,22 +8,8 @@ use Rattle.algebra.specs.Tree.{Pattern, bgp, path, join, union, minus, leftjoin
 use Rattle.scoping.specs.Sets.{Alike, variablesOf, tripleVariables, aggregateVariables}
 use Rattle.scoping.specs.Variables.{variablesInPattern}
 use Rattle.scoping.specs.InScope.{inScope, serviceNames}
-use Rattle.scoping.proofs.Sets.{mem-append, swap-inner}
-
--- s is the union of i and u
-record Union (s i u : List Bytes) : Type 0 where
-  at : (v : Bytes) → mem v s ≡ (mem v i || mem v u)
-
-both : {s t i j u w : List Bytes} → Union s i u → Union t j w → Union (s ++ t) (i ++ j) (u ++ w)
-both {s} {t} {i} {j} {u} {w} h k = record { at = λ v. simp mem-append (simp (h .at v, k .at v) (swap-inner (mem v i) (mem v u) (mem v j) (mem v w))) }
-
-first : (s : List Bytes) → Union s s []
-unfolding mem
-first s = record { at = λ v. sym (or-false (mem v s)) }
-
-last : (s : List Bytes) → Union s [] s
-unfolding mem
-last s = record { at = λ v. refl }
+use Rattle.scoping.proofs.Sets.{mem-append}
+use Rattle.scoping.proofs.Union.{Union, both, first, last}
 
 standard : (p : Pattern) → Union (inScope p) (variablesInPattern p .in-scope) (serviceNames p)
 unfolding inScope variablesInPattern serviceNames

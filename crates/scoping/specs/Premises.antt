@@ -39,7 +39,7 @@ pub record Premises (cs : List Bytes) (p : Pattern) (is : List ℕ) : Type 0 whe
   pub positions : Within (length cs) is
   pub different : Different is  -- no position twice on its side
 
--- "every variable in an expression is in scope or hidden in that tree"
+-- "every variable in an expression is in scope or hidden in that tree"; here a name of a service too
 abbrev pub Known : Pattern → Type 0
 Known p = (w : Bytes) → mem w (byPlace p) ≡ true → mem w (numbered p) ≡ true
 
