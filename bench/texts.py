@@ -4,8 +4,9 @@
     python3 texts.py FOLDER
 
 writes FOLDER/SHAPE-NAMES-SIZE. The shapes are one basic graph pattern, and a query with joins, optional parts and
-filters. The names are four; as many as the text has room for, up to 1,024; or as many that all have the same place
-among the hints of the table of names. A text is as long as whole lines allow, up to its size in bytes.
+filters. The names are four, or as many as the text has room for, up to 1,024: of two letters in order, of three letters
+at random, words with a number, or such that all have the same place among the hints of the table of names. A text is as
+long as whole lines allow, up to its size in bytes.
 """
 import itertools
 import os
@@ -15,6 +16,7 @@ SIZES = (1024, 4096, 16384)
 LETTERS = "abcdefghijklmnopqrstuvwxyzABCDEFGHIJKLMNOPQRSTUVWXYZ0123456789"
 TYPE = "<http://www.wikidata.org/prop/direct/P31>"
 PLACE = "<http://www.wikidata.org/prop/direct/P131>"
+WORDS = "bay relay event breaker line bus feeder trip zone time".split()
 ITEM = "<http://www.wikidata.org/entity/Q515>"
 
 
@@ -36,6 +38,20 @@ def few():
 
 def many():
     return itertools.islice(words(2), 1024)
+
+
+def random():
+    """Names by a generator of our own, the same under every version of Python."""
+    x, seen = 1, {}
+    while len(seen) < 1024:
+        x = (x * 1103515245 + 12345) % 2147483648
+        k = x >> 8
+        seen["?" + LETTERS[k % 26] + LETTERS[k // 26 % 26] + LETTERS[k // 676 % 26]] = True
+    return iter(seen)
+
+
+def words_with_number():
+    return ("?%s%d" % (WORDS[i % len(WORDS)], i // len(WORDS)) for i in range(1024))
 
 
 def alike():
@@ -78,8 +94,9 @@ def query(names, size):
 
 
 def main(folder):
-    for shape, names, size in itertools.product((triples, query), (few, many, alike), SIZES):
-        with open(os.path.join(folder, "%s-%s-%d" % (shape.__name__, names.__name__, size)), "w", newline="\n") as f:
+    kinds = {"few": few, "many": many, "random": random, "worded": words_with_number, "alike": alike}
+    for shape, (kind, names), size in itertools.product((triples, query), kinds.items(), SIZES):
+        with open(os.path.join(folder, "%s-%s-%d" % (shape.__name__, kind, size)), "w", newline="\n") as f:
             f.write(shape(itertools.cycle(names()), size))
 
 
