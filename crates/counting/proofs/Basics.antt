@@ -5,6 +5,7 @@ use mathlib.Core.Bool.{Bool, true, false, not, _&&_, _||_, false≢true, true≢
 use mathlib.Core.List.{List, [], _∷_, _++_, map}
 use lib.Dec.{T, eqb, eqb→eq, eqb-refl}
 use Rattle.text.specs.Text.{Bytes, same}
+use Rattle.text.proofs.Basics.{and-left, and-right, and-both, same-refl, same-eq}
 use Rattle.counting.specs.Bag.{Sub, all, any, mem, each, when, keep, once}
 
 -- ---- Booleans
@@ -25,25 +26,6 @@ both-ways true b f g = sym (f refl)
 both-ways false true f g = g refl
 both-ways false false f g = refl
 
-pub T→so : (b : Bool) → T b → b ≡ true
-T→so true t = refl
-T→so false t = absurd t
-
-pub so→T : (b : Bool) → b ≡ true → T b
-so→T true t = tt
-so→T false t = false≢true t
-
-pub and-left : (a b : Bool) → (a && b) ≡ true → a ≡ true
-and-left true b e = refl
-and-left false b e = e
-
-pub and-right : (a b : Bool) → (a && b) ≡ true → b ≡ true
-and-right true b e = e
-and-right false b e = absurd (false≢true e)
-
-pub and-both : (a b : Bool) → a ≡ true → b ≡ true → (a && b) ≡ true
-and-both a b p q = ap₂ _&&_ p q
-
 pub or-cases : (a b : Bool) → (a || b) ≡ true → (a ≡ true) ⊎ (b ≡ true)
 or-cases true b e = inl refl
 or-cases false b e = inr e
@@ -60,18 +42,6 @@ either f g (inl a) = f a
 either f g (inr b) = g b
 
 -- ---- byte strings
-
-pub same-refl : (a : Bytes) → same a a ≡ true
-unfolding same
-same-refl [] = refl
-same-refl (x ∷ xs) = and-both (eqb x x) (same xs xs) (T→so (eqb x x) (eqb-refl x)) (same-refl xs)
-
-pub same-eq : (a b : Bytes) → same a b ≡ true → a ≡ b
-unfolding same
-same-eq [] [] e = refl
-same-eq [] (y ∷ ys) e = absurd (false≢true e)
-same-eq (x ∷ xs) [] e = absurd (false≢true e)
-same-eq (x ∷ xs) (y ∷ ys) e = ap₂ _∷_ (eqb→eq x y (so→T (eqb x y) (and-left (eqb x y) (same xs ys) e))) (same-eq xs ys (and-right (eqb x y) (same xs ys) e))
 
 pub eq-same : (a b : Bytes) → a ≡ b → same a b ≡ true
 eq-same a b e = subst (λ x. same a x ≡ true) e (same-refl a)

@@ -13,7 +13,8 @@ use Rattle.counting.specs.Row.{Cell, sameCell, Row, bind, cells, sameOn,
 use Rattle.counting.specs.Condition.{value}
 use Rattle.counting.specs.Scope.{fieldVars, tripleVars, inScope}
 use Rattle.counting.specs.Answer.{ways, isIn, terms, bgpRows, eval, answer}
-use Rattle.counting.proofs.Basics.{clash, not-true, both-ways, and-left, and-right, and-both, or-cases, either, same-refl, same-eq, mem-nil, mem-here, mem-there, mem-cases, mem-left, mem-right, mem-append-cases, all-cong, all-at, all-of}
+use Rattle.text.proofs.Basics.{and-left, and-right, and-both, same-refl, same-eq}
+use Rattle.counting.proofs.Basics.{clash, not-true, both-ways, or-cases, either, mem-nil, mem-here, mem-there, mem-cases, mem-left, mem-right, mem-append-cases, all-cong, all-at, all-of}
 use Rattle.counting.proofs.Sums.{cond-zero, total-cong, total-zero, total-map, total-each, total-keep, total-cond, total-mul, cond-tick, count-any, sameCell-eq}
 use Rattle.counting.proofs.Columns.{count-rows}
 

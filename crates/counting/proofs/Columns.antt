@@ -11,7 +11,8 @@ use Rattle.counting.specs.Row.{Cell, Row, bind, named, cells, cut, sameR
 use Rattle.counting.specs.Scope.{inScope, names}
 use Rattle.counting.specs.Answer.{eval, answer}
 use Rattle.scoping.specs.Rename.{renameInGraphPattern}
-use Rattle.counting.proofs.Basics.{split, either, same-eq, mem-here, mem-there, mem-left, mem-right, map-map}
+use Rattle.text.proofs.Basics.{same-eq}
+use Rattle.counting.proofs.Basics.{split, either, mem-here, mem-there, mem-left, mem-right, map-map}
 use Rattle.counting.proofs.Every.{map-every}
 use Rattle.counting.proofs.Sums.{total-map}
 use Rattle.counting.proofs.Only.{Only, only-in}

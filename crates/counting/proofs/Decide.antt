@@ -9,7 +9,8 @@ use Rattle.counting.specs.Row.{cell, oneTerm}
 use Rattle.counting.specs.Scope.{names, namesWith, expressionVars}
 use Rattle.counting.specs.Merge.{Pair, Side, whole, constantColumns, constantTerms, leftJoinVariables, rightJoinVariables}
 use Rattle.counting.specs.Fit.{isPair, inside, SideFit, Fit}
-use Rattle.counting.proofs.Basics.{and-left, and-right, same-eq, eq-same, all-at}
+use Rattle.text.proofs.Basics.{and-left, and-right, same-eq}
+use Rattle.counting.proofs.Basics.{eq-same, all-at}
 
 -- no two names of the list become one
 unfoldable pub keepsApart : List Bytes → (Bytes → Bytes) → Bool

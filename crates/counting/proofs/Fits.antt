@@ -15,7 +15,8 @@ use Rattle.counting.specs.Countable.{expressionsKnown}
 use Rattle.counting.specs.Merge.{Pair, Side, whole, columnAt, constantColumns, constantTerms}
 use Rattle.counting.specs.Fit.{inside, SideFit, Fit}
 use Rattle.counting.specs.Premises.{differentPositions, Premises, Named}
-use Rattle.counting.proofs.Basics.{clash, not-true, T→so, and-left, and-right, and-both, or-inl, or-inr, either, mem-nil, mem-cases, all-at}
+use Rattle.text.proofs.Basics.{T→so, and-left, and-right, and-both}
+use Rattle.counting.proofs.Basics.{clash, not-true, or-inl, or-inr, either, mem-nil, mem-cases, all-at}
 use Rattle.counting.proofs.Only.{only-named, fits-none}
 use Rattle.counting.proofs.Side.{first-inside, at-in}
 

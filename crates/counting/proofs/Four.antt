@@ -7,7 +7,8 @@ use Rattle.text.specs.Text.{Bytes}
 use Rattle.counting.specs.Bag.{Sub, all, mem}
 use Rattle.counting.specs.Row.{Cell, fits, orCell, Row, merge, agree}
 use Rattle.counting.specs.Expected.{agreeAll}
-use Rattle.counting.proofs.Basics.{both-ways, and-left, and-right, same-eq, eq-same, same-sym, all-cong, all-at, all-of}
+use Rattle.text.proofs.Basics.{and-left, and-right, same-eq}
+use Rattle.counting.proofs.Basics.{both-ways, eq-same, same-sym, all-cong, all-at, all-of}
 use Rattle.counting.proofs.Only.{Cover, agree-wider}
 
 -- ---- cells

@@ -13,7 +13,8 @@ use Rattle.counting.specs.Answer.{eval, answer}
 use Rattle.counting.specs.Merge.{Pair, Side, whole, renamedColumns, renamedPattern, freeColumns, leftJoinVariables, rightJoinVariables, mergedColumns, merged}
 use Rattle.counting.specs.Expected.{agreeAll, mergeAll, constantRow, fourRows, makes, rows, expected}
 use Rattle.counting.specs.Fit.{isPair, Fit}
-use Rattle.counting.proofs.Basics.{clash, either, or-cases, and-left, and-right, same-eq, eq-same, mem-nil, mem-eq, mem-there, mem-cases, mem-left, mem-right, mem-append-cases, sub-append, mem-map, mem-unmap}
+use Rattle.text.proofs.Basics.{and-left, and-right, same-eq}
+use Rattle.counting.proofs.Basics.{clash, either, or-cases, eq-same, mem-nil, mem-eq, mem-there, mem-cases, mem-left, mem-right, mem-append-cases, sub-append, mem-map, mem-unmap}
 use Rattle.counting.proofs.Sums.{total-cong, total-map, total-cond, sum-pairs}
 use Rattle.counting.proofs.Only.{Only, only-left, only-sub, fits-none, none-fits, Cover, cover-left, cover-right}
 use Rattle.counting.proofs.Push.{push, Hit, hit, miss, view}

@@ -11,7 +11,8 @@ use Rattle.counting.specs.Row.{Cell, fits, orCell, Row, bind, merge, cut
 use Rattle.counting.specs.Condition.{termOf, passes}
 use Rattle.counting.specs.Scope.{tripleVars, inScope}
 use Rattle.counting.specs.Answer.{ways, isIn, terms, bgpRows, pairs, orElse, extendBy, lineRows, removed, eval}
-use Rattle.counting.proofs.Basics.{split, clash, not-true, both-ways, either, same-eq, mem-there, mem-eq, mem-left, mem-right, all-at, all-of}
+use Rattle.text.proofs.Basics.{same-eq}
+use Rattle.counting.proofs.Basics.{split, clash, not-true, both-ways, either, mem-there, mem-eq, mem-left, mem-right, all-at, all-of}
 use Rattle.counting.proofs.Every.{Every, done, more, every-imp, every-append, every-map, every-each, every-when, every-keep, every-once, every-all, every-cond}
 
 -- the row binds no other names

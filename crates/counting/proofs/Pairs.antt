@@ -9,7 +9,8 @@ use Rattle.counting.specs.Row.{fits, Row, agree, cells, named}
 use Rattle.counting.specs.Merge.{Pair, Side, whole, columnAt, renamedColumns, leftJoinVariables, rightJoinVariables}
 use Rattle.counting.specs.Scope.{names}
 use Rattle.counting.specs.Fit.{isPair, SideFit, Fit}
-use Rattle.counting.proofs.Basics.{split, either, both-ways, and-left, and-right, and-both, or-cases, or-inl, or-inr, same-refl, same-eq, eq-same, mem-left, mem-map, mem-unmap, all-at, all-of}
+use Rattle.text.proofs.Basics.{and-left, and-right, and-both, same-refl, same-eq}
+use Rattle.counting.proofs.Basics.{split, either, both-ways, or-cases, or-inl, or-inr, eq-same, mem-left, mem-map, mem-unmap, all-at, all-of}
 use Rattle.counting.proofs.Only.{only-named, fits-none, none-fits}
 use Rattle.counting.proofs.Push.{push-at}
 use Rattle.counting.proofs.Side.{positions-in, columns-in, read-at, only-columns}

@@ -19,7 +19,8 @@ use Rattle.scoping.specs.Rename.{renameInGraphPattern}
 use Rattle.counting.specs.Merge.{Constant, Side, whole, columnAt, constantColumns, constantTerms, bindConstants, withoutConstants, renamedColumns, renamedPattern, freeColumns}
 use Rattle.counting.specs.Expected.{constantRow, rows}
 use Rattle.counting.specs.Fit.{inside, SideFit}
-use Rattle.counting.proofs.Basics.{so→T, either, and-left, and-right, mem-nil, mem-here, mem-there, mem-eq, mem-cases, mem-left, mem-right, sub-append, mem-map, mem-unmap, map-map}
+use Rattle.text.proofs.Basics.{so→T, and-left, and-right}
+use Rattle.counting.proofs.Basics.{either, mem-nil, mem-here, mem-there, mem-eq, mem-cases, mem-left, mem-right, sub-append, mem-map, mem-unmap, map-map}
 use Rattle.counting.proofs.Every.{every-imp}
 use Rattle.counting.proofs.Sums.{total-cong, total-every, total-map, total-each, total-when}
 use Rattle.counting.proofs.Only.{Only, only-sub, only-named, eval-only, fits-none, agree-of}

@@ -9,7 +9,8 @@ use native.Mathlib.Omega.{arith}
 use Rattle.counting.specs.Bag.{any, each, when, keep, once, total, tick, count}
 use Rattle.counting.specs.Row.{Cell, sameCell, sameRow}
 use Rattle.counting.proofs.Every.{Every, done, more, every-imp}
-use Rattle.counting.proofs.Basics.{clash, both-ways, same-refl, same-eq, and-left, and-right, and-both}
+use Rattle.text.proofs.Basics.{same-refl, same-eq, and-left, and-right, and-both}
+use Rattle.counting.proofs.Basics.{clash, both-ways}
 
 -- ---- sums
 
