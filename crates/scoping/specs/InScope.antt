@@ -1,4 +1,4 @@
--- The variables in scope by SPARQL 1.1, section 18.2.1, written from the standard's table; and the service names among them. Assumes nothing.
+-- The variables in scope by SPARQL 1.1, section 18.2.1, written from knowledge of the standard's table, whose page was not at hand; and the service names among them. Assumes nothing.
 use mathlib.Core.List.{List, [], _∷_, _++_}
 use Rattle.text.specs.Text.{Bytes}
 use Rattle.algebra.specs.Tree.{Pattern, bgp, path, join, union, minus, leftjoin, filter, graph, extend, values, orderby, project, distinct, reduced, slice, group, service}
