@@ -10,7 +10,7 @@ ghost use Rattle.words.specs.declared.Found.the-variants.{Is};
 ghost use Rattle.lines.specs.Stack.{amountIn, Stacked, Fitting, Beneath, groups};
 
 // How many lines a group has.
-fn amount(base: u8, from: u8, first: usize, second: usize) -> u64
+pub fn amount(base: u8, from: u8, first: usize, second: usize) -> u64
     requires { ⌜ (first < 4294967296) × (second < 4294967296) ⌝ }
     ensures { λ r. ⌜ r ≡ amountIn base from first second ⌝ }
 {

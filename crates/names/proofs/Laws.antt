@@ -79,7 +79,7 @@ listing-below s a l k v w (suc n) h =
     let ne : n ≡ k → ⊥ = omega arith in
     rw (listing-below s a l k v w n (omega arith), getD-set-other a k n v 0 ne, getD-set-other l k n w 0 ne)
 
-listing-long : (s : Bytes) (a l : List ℕ) (n : ℕ) → length (listing s a l n) ≡ n
+pub listing-long : (s : Bytes) (a l : List ℕ) (n : ℕ) → length (listing s a l n) ≡ n
 unfolding listing
 listing-long s a l zero = refl
 listing-long s a l (suc n) = simp length-append (let h = listing-long s a l n in omega arith)

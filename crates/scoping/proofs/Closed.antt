@@ -9,6 +9,7 @@ use Rattle.text.specs.Text.{Bytes, same}
 use Rattle.text.specs.Field.{given}
 use Rattle.text.proofs.Basics.{same-eq}
 use Rattle.algebra.specs.Valid.{mem}
+use Rattle.scoping.specs.Sets.{indexOf}
 use Rattle.scoping.specs.Label.{label, isLabel, base, generated, prefixJ}
 use Rattle.scoping.specs.Standardize.{orSelf}
 use Rattle.scoping.specs.Pushes.{Push, aPush, lookup, contains, pushed, pushes, allPushes, newName}
@@ -19,12 +20,6 @@ use Rattle.scoping.proofs.Labels.{base-plain, lookup-plain}
 abbrev pub Plain : List Bytes → Type 0
 Plain [] = Unit {0}
 Plain (v ∷ vs) = (isLabel v ≡ false) × Plain vs
-
--- the place of a name in a list: its first
-unfoldable pub indexOf : Bytes → List Bytes → ℕ
-unfolding same
-indexOf w [] = 0
-indexOf w (x ∷ xs) = cond (same w x) 0 (suc (indexOf w xs))
 
 -- j and its place among the join variables, or the prefix and its place among the numbered names
 unfoldable pub target : ℕ → List Bytes → List Bytes → Bytes → Bytes

@@ -8,10 +8,9 @@ use lib.ListN.{length, getD}
 use Rattle.text.specs.Text.{Bytes, same}
 use Rattle.text.proofs.Basics.{same-eq, same-refl, and-left, and-right, and-both}
 use Rattle.algebra.specs.Valid.{mem}
-use Rattle.scoping.specs.Sets.{Once}
+use Rattle.scoping.specs.Sets.{Once, indexOf}
 use Rattle.scoping.specs.Premises.{isPair}
 use Rattle.scoping.proofs.Sets.{not-same, eq-same}
-use Rattle.scoping.proofs.Closed.{indexOf}
 
 pub at-index : (w : Bytes) (vs : List Bytes) → mem w vs ≡ true → getD vs (indexOf w vs) [] ≡ w
 unfolding mem indexOf

@@ -14,11 +14,11 @@ use Rattle.text.proofs.Basics.{and-both}
 use Rattle.text.proofs.Numbers.{digits-small, digits-big}
 use Rattle.algebra.specs.Valid.{mem}
 use Rattle.algebra.specs.Tree.{Pattern}
-use Rattle.scoping.specs.Sets.{keep}
+use Rattle.scoping.specs.Sets.{keep, indexOf}
 use Rattle.scoping.specs.Variables.{variablesInPattern}
 use Rattle.scoping.specs.Label.{label, generated, prefixJ}
 use Rattle.scoping.specs.Numbering.{byPlace, inScopeByPlace, hiddenByPlace, numbered}
-use Rattle.scoping.proofs.Closed.{indexOf, target}
+use Rattle.scoping.proofs.Closed.{target}
 use Rattle.scoping.proofs.Index.{index-below}
 
 -- ---- few digits

@@ -10,7 +10,7 @@ use Rattle.text.specs.Field.{most, isVar}
 use Rattle.text.proofs.Basics.{same-refl}
 use Rattle.algebra.specs.Valid.{mem}
 use Rattle.algebra.specs.Tree.{Pattern, project}
-use Rattle.scoping.specs.Sets.{Once}
+use Rattle.scoping.specs.Sets.{Once, indexOf}
 use Rattle.scoping.specs.Variables.{variablesInPattern}
 use Rattle.scoping.specs.Label.{isLabel, prefixJ, prefixL, prefixR}
 use Rattle.scoping.specs.Numbering.{byPlace, numbered}
@@ -19,7 +19,7 @@ use Rattle.scoping.specs.Premises.{columnsAt, Within, Apart, Different, 
 use Rattle.scoping.proofs.Sets.{not-same}
 use Rattle.scoping.proofs.Numbered.{numbered-mem}
 use Rattle.scoping.proofs.Agree.{renamed-by-pushes}
-use Rattle.scoping.proofs.Closed.{Plain, indexOf, new-name-target}
+use Rattle.scoping.proofs.Closed.{Plain, new-name-target}
 use Rattle.scoping.proofs.Index.{mem-at, index-at}
 use Rattle.scoping.proofs.NewVariables.{target-variable}
 use Rattle.scoping.proofs.Meet.{new-names-apart, new-names-meet}

@@ -1,8 +1,9 @@
 -- Lists of names read as sets, and the variables among fields. Assumes nothing.
+use Prim.Native.Nat.{ℕ, suc}
 use mathlib.Core.Path.{_≡_}
 use mathlib.Core.Bool.{Bool, true, false, cond}
 use mathlib.Core.List.{List, [], _∷_, _++_}
-use Rattle.text.specs.Text.{Bytes}
+use Rattle.text.specs.Text.{Bytes, same}
 use Rattle.text.specs.Field.{isVar}
 use Rattle.algebra.specs.Tree.{Triple, Aggregates, aend, agg, aggall}
 use Rattle.algebra.specs.Valid.{mem}
@@ -15,6 +16,12 @@ Alike xs ys = (v : Bytes) → mem v xs ≡ mem v ys
 abbrev pub Once : List Bytes → Type 0
 Once [] = Unit {0}
 Once (v ∷ vs) = (mem v vs ≡ false) × Once vs
+
+-- the place of a name in a list: its first; behind all of them if it is not there
+unfoldable pub indexOf : Bytes → List Bytes → ℕ
+unfolding same
+indexOf w [] = 0
+indexOf w (x ∷ xs) = cond (same w x) 0 (suc (indexOf w xs))
 
 -- the names that pass a test
 unfoldable pub keep : (Bytes → Bool) → List Bytes → List Bytes

@@ -1,0 +1,5 @@
+pub mod Laws
+pub mod Written
+pub mod After
+pub mod Parts
+pub mod Trees
