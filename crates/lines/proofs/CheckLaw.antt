@@ -8,7 +8,7 @@ use native.Mathlib.Nat.{le-refl}
 use native.Mathlib.Numerals.{add-one}
 use native.Mathlib.Omega.{arith}
 use lib.ListN.{length, getD, replicate, length-replicate}
-use Rattle.text.specs.Text.{Bytes, Line, split, part, First}
+use Rattle.text.specs.Text.{Bytes, Line, split, part, First, linesFrom}
 use Rattle.cursor.specs.declared.Cursor.{Cursor}
 use Rattle.cursor.specs.Cursor.{Settled}
 use Rattle.algebra.specs.Tally.{Tally, bounds, start}
@@ -24,7 +24,8 @@ use Rattle.lines.specs.Stack.{wantsIn, slack, Room, Stacked}
 use Rattle.lines.specs.Steps.{InLine}
 use Rattle.lines.specs.Run.{moreOf, wantsOf, Readied, TurnIs, Tells}
 use Rattle.lines.proofs.StackLaw.{settle-wants, wants-none, top-wants, room-top}
-use Rattle.lines.proofs.RunLaw.{linesFrom, lines-end, lines-open, lines-next, run-open, run-none, run-done, run-missing, check-long, check-start}
+use Rattle.text.proofs.Places.{lines-end, lines-open, lines-next}
+use Rattle.lines.proofs.RunLaw.{run-open, run-none, run-done, run-missing, check-long, check-start}
 
 -- ---- answers
 

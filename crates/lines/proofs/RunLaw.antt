@@ -1,4 +1,4 @@
--- The machine's run over a text by places in it: the lines from a place on, a turn of the run by its ways out, and the fields of a line. Assumes nothing.
+-- The machine's run over a text by places in it: a turn of the run by its ways out, and the fields of a line. Assumes nothing.
 use Prim.Native.Nat.{ℕ, zero, suc, _+_, _-_, _≤_, _<_, zero-le, suc-le-suc}
 use mathlib.Core.Path.{_≡_, refl, sym, _∙_, ap}
 use mathlib.Core.List.{List, [], _∷_, _++_}
@@ -10,53 +10,14 @@ use lib.ListN.{length, getD, take, drop, length-take, length-drop}
 use lib.Seq.{take-length, getD-take, getD-drop}
 use lib.Dec.{eqb, ltb}
 use borrow.Author.Tests.{ne-eqb, lt-ltb, le-ltb}
-use Rattle.text.specs.Text.{Bytes, Line, onto, split, linesIn, linesOf, part, First}
+use Rattle.text.specs.Text.{Bytes, Line, split, linesFrom, part, First}
 use Rattle.text.specs.Field.{Kind, clean, isKind, fits}
-use Rattle.text.proofs.Lists.{split-here, split-last}
+use Rattle.text.proofs.Places.{lines-start}
 use Rattle.algebra.specs.Tally.{bounds, Tally, start}
 use Rattle.algebra.specs.Reader.{Refusal, malformed, overBound, Got, got, refused, one}
 use Rattle.algebra.specs.Machine.{Want, lineOf, Check, good, bad, resume, More, Demand, demand, turn, run, checkText}
 use Rattle.cursor.specs.Cursor.{left}
 use Rattle.cursor.proofs.Laws.{left-next, left-all}
-
--- ---- the lines from a place on
-
-unfoldable pub linesFrom : Bytes → ℕ → List Line
-linesFrom s at = linesIn (split 10 (part at (length s) s))
-
-pub lines-start : (s : Bytes) → linesOf s ≡ linesFrom s 0
-unfolding linesOf linesFrom
-lines-start s = rw (sub-zero, take-length)
-
-pub lines-end : (s : Bytes) (at : ℕ) → length s ≤ at → linesFrom s at ≡ []
-unfolding linesFrom linesIn split
-lines-end s at h = let z : length s - at ≡ 0 = omega arith in rw z
-
-not-ended : (p : Bytes) → 0 < length p → linesIn (p ∷ []) ≡ [] ∷ []
-unfolding linesIn
-not-ended [] h = absurd (omega arith)
-not-ended (x ∷ xs) h = refl
-
--- something follows a line end, if only nothing
-one-more : (p xs : Bytes) → linesIn (p ∷ split 10 xs) ≡ split 9 p ∷ linesIn (split 10 xs)
-unfolding linesIn split onto
-one-more p [] = refl
-one-more p (x ∷ xs) = go (eqb x 10) (split 10 xs)
-  where
-    go : (t : Bool) (ps : List Bytes) → linesIn (p ∷ cond t ([] ∷ ps) (onto x ps)) ≡ split 9 p ∷ linesIn (cond t ([] ∷ ps) (onto x ps))
-    go true ps = refl
-    go false [] = refl
-    go false (q ∷ ps) = refl
-
-pub lines-open : (s : Bytes) (at e : ℕ) → at < length s → First 10 s at (length s) e → e ≡ length s → linesFrom s at ≡ [] ∷ []
-unfolding linesFrom
-lines-open s at e h f k =
-    let l : length (part at e s) ≡ e - at = simp (length-take, length-drop) (omega arith) in
-    ap linesIn (split-last 10 s at (length s) e (le-refl (length s)) f k) ∙ not-ended (part at e s) (omega arith)
-
-pub lines-next : (s : Bytes) (at e : ℕ) → First 10 s at (length s) e → e < length s → linesFrom s at ≡ split 9 (part at e s) ∷ linesFrom s (e + 1)
-unfolding linesFrom
-lines-next s at e f h = ap linesIn (split-here 10 s at (length s) e (le-refl (length s)) f h) ∙ one-more (part at e s) (part (e + 1) (length s) s)
 
 -- ---- a turn of the run
 

@@ -7,7 +7,7 @@ use native.Mathlib.Omega.{arith}
 use lib.ListN.{length}
 use lib.Dec.{ltb}
 use borrow.Author.Tests.{le-ltb, lt-ltb, ltb-true, ltb-false}
-use Rattle.text.specs.Text.{Bytes}
+use Rattle.text.specs.Text.{Bytes, linesFrom}
 use Rattle.algebra.specs.Query.{PairList}
 use Rattle.algebra.specs.Reader.{readText}
 use Rattle.algebra.specs.Texts.{readPairs}
@@ -16,7 +16,7 @@ use Rattle.algebra.specs.declared.Answer.the-variants.{Good, OverBound}
 use Rattle.names.specs.Names.{listing, Hinted, Holds}
 use Rattle.names.specs.Checked.{Checked}
 use Rattle.lists.specs.Pairs.{keysOf, Stands}
-use Rattle.lists.proofs.Lines.{linesFrom, lines-start, lines-end}
+use Rattle.text.proofs.Places.{lines-start, lines-end}
 use Rattle.lists.proofs.Outcomes.{by, is-good, is-over}
 use Rattle.lists.proofs.Counts.{state}
 use Rattle.lists.proofs.Reading.{told, told-end}

@@ -6,7 +6,7 @@ use mathlib.Core.Bool.{Bool, true, false, not}
 use native.Mathlib.Omega.{arith}
 use lib.ListN.{length}
 use borrow.Author.Tests.{not-true, not-false}
-use Rattle.text.specs.Text.{Bytes, part, First}
+use Rattle.text.specs.Text.{Bytes, part, First, linesFrom}
 use Rattle.text.specs.Code.{kindAt}
 use Rattle.text.proofs.Texts.{AllClean}
 use Rattle.algebra.specs.Query.{PairList, firstKind, secondKind, unique}
@@ -19,7 +19,8 @@ use Rattle.cursor.specs.declared.Cursor.{Cursor}
 use Rattle.cursor.specs.declared.Field.{Field}
 use Rattle.cursor.specs.declared.Field.the-variants.{At, None}
 use Rattle.lists.specs.Pairs.{keysOf, Stands, isPair, Finds, fresh, keptIn}
-use Rattle.lists.proofs.Lines.{linesFrom, lines-open, lines-next, line-clean}
+use Rattle.text.proofs.Places.{lines-open}
+use Rattle.lists.proofs.Lines.{line-next, line-clean}
 use Rattle.lists.proofs.Outcomes.{by, is-malformed, is-over}
 use Rattle.lists.proofs.Counts.{state, kept-few, counted, in-bounds}
 use Rattle.lists.proofs.Reading.{told, told-bad, told-twice, told-over, told-next}
@@ -32,14 +33,14 @@ module _ (s : Bytes) (first second : ℕ) (apart : Bool) (a l h : List ℕ) (at 
     unfolding isPair
     done-open a′ l′ h′ k e κ st =
         is-malformed (keysOf κ) s a′ l′ h′ (readPairs κ s)
-        (g .so κ st ∙ rw (lines-open s at (c .end) f k e) (told-bad κ (state lines (g .ns)) [] (64 - lines) [] tt refl))
+        (g .so κ st ∙ rw (lines-open s at (c .end) k f e) (told-bad κ (state lines (g .ns)) [] (64 - lines) [] tt refl))
 
     module _ (x : Field) (finds : Finds s (kindAt first) (kindAt second) c x) (ended : c .end ≡ length s → ⊥) where
       less : c .end < length s
       less = let q = f .high in omega arith
 
       line : (κ : PairList) → Stands κ first second apart → by (keysOf κ) (readPairs κ s) ≡ told κ (64 - lines) (state lines (g .ns)) (left s (c .at) (c .end) ∷ linesFrom s (c .end + 1))
-      line κ st = g .so κ st ∙ rw (lines-next s at (c .end) f less, same)
+      line κ st = g .so κ st ∙ rw (line-next s at (c .end) f less, same)
 
       neat : AllClean (left s (c .at) (c .end))
       neat = rw same (line-clean s at (c .end) f)

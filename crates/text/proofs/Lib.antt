@@ -4,3 +4,4 @@ pub mod Texts
 pub mod Tests
 pub mod Lists
 pub mod FieldLaws
+pub mod Places

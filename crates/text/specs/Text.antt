@@ -3,7 +3,7 @@ use Prim.Native.Nat.{ℕ, _-_, _≤_, _<_}
 use mathlib.Core.Path.{_≡_}
 use mathlib.Core.List.{List, [], _∷_, _++_}
 use mathlib.Core.Bool.{Bool, true, false, cond, _&&_}
-use lib.ListN.{getD, take, drop}
+use lib.ListN.{length, getD, take, drop}
 use lib.Dec.{eqb}
 
 -- a text, a line's text or a field: its bytes
@@ -66,6 +66,11 @@ linesOf s = linesIn (split 10 s)
 -- the bytes from a place up to, not including, another
 abbrev pub part : ℕ → ℕ → Bytes → Bytes
 part from to s = take (to - from) (drop from s)
+
+-- the lines that stand from a place on
+unfoldable pub linesFrom : Bytes → ℕ → List Line
+unfolding linesIn split
+linesFrom s at = linesIn (split 10 (part at (length s) s))
 
 -- so many bytes from a place on
 abbrev pub piece : ℕ → ℕ → Bytes → Bytes

@@ -245,9 +245,3 @@ unfolding putLine
 line-put ns new m r w fs stays at out fl a b z oa ob oz fl′ word fields end h =
     ap (λ (e : Em). record { em = e; flags = fl′ }) end
     ∙ ap (writes (10 ∷ [])) (fields ∙ ap₂ (λ (x : Bool) (e : Em). putFields ns new m x (r .slots) 0 fs (record { em = e; flags = fl })) h word)
-
--- ---- a line of the text
-
-pub lines-end : (s : Bytes) (at : ℕ) → length s ≤ at → linesFrom s at ≡ []
-unfolding linesFrom
-lines-end s at h = let z : length s - at ≡ 0 = omega arith in ap (λ (k : ℕ). linesIn (split 10 (take k (drop at s)))) z ∙ none-left

@@ -6,7 +6,7 @@ use mathlib.Core.Bool.{Bool, true, false, cond}
 use mathlib.Core.Logic.{_⊎_}
 use lib.ListN.{length, getD}
 use lib.Dec.{eqb}
-use Rattle.text.specs.Text.{Bytes, Line, same, part, piece, linesIn, split, First}
+use Rattle.text.specs.Text.{Bytes, same, part, piece, linesFrom, split, First}
 use Rattle.text.specs.Word.{bytes}
 use Rattle.algebra.specs.Table.{rowFor}
 use Rattle.words.specs.declared.Found.the-variants.{Is}
@@ -34,10 +34,6 @@ pub record Named (s : Bytes) (starts sizes hints : List ℕ) (n : ℕ) : Type 0 
 -- what a name becomes: at its entry a start and a size in another text; a size of 0 leaves it
 unfoldable pub replacement : List Bytes → Bytes → List ℕ → List ℕ → Bytes → Bytes
 replacement ns pool starts sizes f = cond (eqb (getD sizes (indexOf f ns) 0) 0) f (piece (getD starts (indexOf f ns) 0) (getD sizes (indexOf f ns) 0) pool)
-
--- the lines of the text that stand from a place on
-unfoldable pub linesFrom : Bytes → ℕ → List Line
-linesFrom s at = linesIn (split 10 (part at (length s) s))
 
 -- the walk stands at a place of the text, and of the output
 abbrev pub here : Bytes → ℕ → ℕ → Bytes → List ℕ → State
