@@ -5,8 +5,8 @@
 
 writes FOLDER/SHAPE-NAMES-SIZE. The shapes are one basic graph pattern, and a query with joins, optional parts and
 filters. The names are four, or as many as the text has room for, up to 1,024: of two letters in order, of three letters
-at random, words with a number, or such that all have the same place among the hints of the table of names. A text is as
-long as whole lines allow, up to its size in bytes.
+at random, words with a number, or such that the search for each starts at the same place among the hints of the table of
+names. A text is as long as whole lines allow, up to its size in bytes.
 """
 import itertools
 import os
@@ -25,7 +25,7 @@ def words(length):
 
 
 def place(name):
-    """Where the hint for a name stands, by crates/names."""
+    """Where the search for a name's hint starts, by crates/names."""
     h = 0
     for b in name.encode():
         h = (h * 471 + b) % 4096

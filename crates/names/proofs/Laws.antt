@@ -1,22 +1,21 @@
 -- Laws of the variable table, one for each step of the code. Assumes nothing.
-use Prim.Native.Nat.{ℕ, zero, suc, _+_, _*_, _%_, _≤_, _<_}
+use Prim.Native.Nat.{ℕ, zero, suc, _+_, _*_, _-_, _%_, _≤_, _<_}
 use mathlib.Core.Path.{_≡_, refl, sym, _∙_, ap, ap₂, subst}
 use mathlib.Core.List.{List, [], _∷_, _++_}
-use mathlib.Core.Bool.{Bool, true, false, cond, _&&_, _||_, false≢true}
-use mathlib.Core.Logic.{_⊎_, inl, inr, ⊎-elim}
+use mathlib.Core.Bool.{Bool, true, false, cond, _||_, false≢true}
+use mathlib.Core.Logic.{⊎-elim}
 use native.Mathlib.Numerals.{add-one}
 use native.Mathlib.Nat.{eq-or-lt-of-le}
 use native.Mathlib.Omega.{arith}
 use lib.ListN.{length, getD, set, drop, drop-of-length-le, length-append, length-set}
-use lib.Dec.{eqb}
-use borrow.Author.Tests.{eqb-true, eqb-false}
 use lib.Seq.{drop-cons, getD-set-same, getD-set-other}
 use Rattle.text.specs.Text.{Bytes, same, piece}
 use Rattle.text.specs.Field.{isVar}
 use Rattle.text.proofs.Basics.{same-eq}
 use Rattle.algebra.specs.Valid.{mem}
 use Rattle.algebra.specs.Tally.{notes}
-use Rattle.names.specs.Names.{hashOf, nameAt, listing, Hinted, kept, Holds}
+use Rattle.names.specs.Names.{hashOf, nameAt, listing, after, Leads, HintedFrom, Hinted, Grows, kept, Holds}
+use Rattle.names.proofs.Hints.{leads-on, leads-past, leads-back, leads-here, leads-none, grows-set, grows-same, hinted-grows, hinted-more, hinted-last}
 
 -- ---- the hash
 
@@ -84,38 +83,75 @@ unfolding listing
 listing-long s a l zero = refl
 listing-long s a l (suc n) = simp length-append (let h = listing-long s a l n in omega arith)
 
--- ---- hints
+-- ---- looking for a name by the hints
 
-hinted-mem : (f : Bytes) (h : List ℕ) (ns : List Bytes) → mem f ns ≡ true → Hinted h ns → getD h (hashOf 0 f) 0 ≡ 0 → ⊥
-unfolding mem Hinted
-hinted-mem f h [] e q z = false≢true e
-hinted-mem f h (n ∷ ns) e q z = go (same f n) refl e (λ m. hinted-mem f h ns m (q .1) z)
-  where
-    go : (b : Bool) → same f n ≡ b → (b || mem f ns) ≡ true → (mem f ns ≡ true → ⊥) → ⊥
-    go true p e more = q .0 (subst (λ x. getD h (hashOf 0 x) 0 ≡ 0) (same-eq f n p) z)
-    go false p e more = more e
+-- no name of those hinted is this one
+none-same : (f s : Bytes) (a l h : List ℕ) (n : ℕ) → HintedFrom 1 h (listing s a l n) → ((i : ℕ) → i < n → Leads h (i + 1) (hashOf 0 (nameAt s a l i)) 4096 → same f (nameAt s a l i) ≡ false) → mem f (listing s a l n) ≡ false
+unfolding listing mem
+none-same f s a l h zero q other = refl
+none-same f s a l h (suc n) q other =
+    let long = listing-long s a l n in
+    let w = hinted-last h (nameAt s a l n) (listing s a l n) 1 (n + 1) (omega arith) q in
+    rw (mem-more f (nameAt s a l n) (listing s a l n))
+    (or-false _ _ (none-same f s a l h n (w .0) (λ i k. other i (omega arith))) (other n (omega arith) (w .1)))
 
--- an empty place: the name is new
-pub no-hint : (f : Bytes) (h : List ℕ) (ns : List Bytes) (p r : ℕ) → p ≡ hashOf 0 f → r ≡ getD h p 0 → r ≡ 0 → Hinted h ns → mem f ns ≡ false
-no-hint f h ns p r i e z q = go (mem f ns) refl
-  where
-    go : (b : Bool) → mem f ns ≡ b → b ≡ false
-    go true m = absurd (hinted-mem f h ns m q (rw (← i) (sym e ∙ z)))
-    go false m = refl
+module _ (f s : Bytes) (a l h : List ℕ) (n : ℕ) where
+  -- if the name is listed, its hint is among the k places from p on
+  unfoldable pub Seeks : ℕ → ℕ → Type 0
+  Seeks p k = (i : ℕ) → i < n → same f (nameAt s a l i) ≡ true → Leads h (i + 1) (hashOf 0 f) 4096 → Leads h (i + 1) p k
 
-hinted-set : (h : List ℕ) (p v : ℕ) (ns : List Bytes) → p < length h → (v ≡ 0 → ⊥) → Hinted h ns → Hinted (set h p v) ns
-unfolding Hinted
-hinted-set h p v [] k nz q = tt
-hinted-set h p v (n ∷ ns) k nz q = (go (eqb p (hashOf 0 n)) refl, hinted-set h p v ns k nz (q .1))
-  where
-    go : (b : Bool) → eqb p (hashOf 0 n) ≡ b → getD (set h p v) (hashOf 0 n) 0 ≡ 0 → ⊥
-    go true e z = nz (sym (subst (λ i. getD (set h p v) i 0 ≡ v) (eqb-true p (hashOf 0 n) e) (getD-set-same h p v 0 k)) ∙ z)
-    go false e z = q .0 (sym (getD-set-other h p (hashOf 0 n) v 0 (λ i. eqb-false p (hashOf 0 n) e (sym i))) ∙ z)
+  pub seek-start : (p : ℕ) → p ≡ hashOf 0 f → Seeks p 4096
+  unfolding Seeks
+  seek-start p e i k y q = rw e q
 
-hinted-more : (h : List ℕ) (f : Bytes) (ns : List Bytes) → Hinted h ns → (getD h (hashOf 0 f) 0 ≡ 0 → ⊥) → Hinted h (ns ++ (f ∷ []))
-unfolding Hinted
-hinted-more h f [] q z = (z, tt)
-hinted-more h f (n ∷ ns) q z = (q .0, hinted-more h f ns (q .1) z)
+  -- a hint that leads to the name
+  pub seek-here : (hint : ℕ) (b : Bool) → (hint ≡ 0 → ⊥) → (b ≡ true → hint ≤ n) → ((i : ℕ) → i < n → hint ≡ i + 1 → b ≡ same f (nameAt s a l i)) → b ≡ true
+      → (hint - 1 ≤ n) × (hint - 1 < n → same f (nameAt s a l (hint - 1)) ≡ true) × (hint - 1 ≡ n → Hinted h (listing s a l n) → mem f (listing s a l n) ≡ false)
+  seek-here hint b nz high is y =
+      let j = high y in
+      (omega arith, (λ k. sym (is (hint - 1) k (omega arith)) ∙ y), λ e. absurd (omega arith))
+
+  module _ (p k : ℕ) (seeks : Seeks p k) (some : 0 < k) (hint : ℕ) (e : hint ≡ getD h p 0) where
+    -- the hint here leads to another name
+    pub seek-on : (b : Bool) (r : ℕ) → ((i : ℕ) → i < n → hint ≡ i + 1 → b ≡ same f (nameAt s a l i)) → b ≡ false → r ≡ after p → Seeks r (k - 1)
+    unfolding Seeks
+    seek-on b r is x o i j y q = rw o (leads-on h (i + 1) p k some (λ z. false≢true (sym x ∙ is i j (e ∙ z) ∙ y)) (seeks i j y q))
+
+    -- an empty place: the name is new
+    pub seek-end : hint ≡ 0 → Hinted h (listing s a l n) → mem f (listing s a l n) ≡ false
+    unfolding Seeks Hinted
+    seek-end z q = none-same f s a l h n q other
+      where
+        other : (i : ℕ) → i < n → Leads h (i + 1) (hashOf 0 (nameAt s a l i)) 4096 → same f (nameAt s a l i) ≡ false
+        other i j w = go (same f (nameAt s a l i)) refl
+          where
+            go : (b : Bool) → same f (nameAt s a l i) ≡ b → b ≡ false
+            go true y = absurd (leads-past h (i + 1) p k some (omega arith) (seeks i j y (rw (same-eq f (nameAt s a l i) y) w)) (sym e ∙ z))
+            go false y = refl
+
+-- ---- putting a hint
+
+module _ (h : List ℕ) (from : ℕ) where
+  -- whatever grows out of the hints leads on from the start if it does so from p on, in k steps
+  unfoldable pub Taken : ℕ → ℕ → Type 0
+  Taken p k = (g : List ℕ) (v : ℕ) → Grows h g → Leads g v p k → Leads g v from 4096
+
+  pub taken-start : Taken from 4096
+  unfolding Taken
+  taken-start g v gr q = q
+
+  module _ (p k : ℕ) (taken : Taken p k) where
+    pub taken-on : (r : ℕ) → 0 < k → (getD h p 0 ≡ 0 → ⊥) → r ≡ after p → Taken r (k - 1)
+    unfolding Taken
+    taken-on r some nz e g v gr q = taken g v gr (leads-back g v p k some (λ z. nz (sym (gr .stays p nz) ∙ z)) (rw (← e) q))
+
+    pub put-here : (old : List ℕ) (v : ℕ) → h ≡ old → p < length h → getD h p 0 ≡ 0 → Grows old (set h p v) × Leads (set h p v) v from 4096
+    unfolding Taken
+    put-here old v e i z = rw (← e) (grows-set h p v z, taken (set h p v) v (grows-set h p v z) (leads-here (set h p v) v p k (getD-set-same h p v 0 i)))
+
+    pub put-nowhere : (old : List ℕ) (v : ℕ) → h ≡ old → k ≤ 0 → Grows old h × Leads h v from 4096
+    unfolding Taken
+    put-nowhere old v e z = rw (← e) (grows-same h, taken h v (grows-same h) (leads-none h v p k z))
 
 -- ---- keeping a name
 
@@ -162,20 +198,19 @@ module _ (s f : Bytes) (a l h : List ℕ) (n : ℕ) (want : List Bytes) (holds :
             over = λ m. rw (new not-there low high) g;
           }
 
-      pub keep-new : (from size p : ℕ) → f ≡ piece from size s → (n ≡ 1024 → ⊥) → p ≡ hashOf 0 f → p < 4096 → Holds s (set a n from) (set l n size) (set h p (n + 1)) (n + 1) (kept f want)
-      unfolding listing
-      keep-new from size p e ne ep k =
+      pub keep-new : (from size p : ℕ) (g : List ℕ) → f ≡ piece from size s → (n ≡ 1024 → ⊥) → p ≡ hashOf 0 f → (length h ≡ 4096 → Grows h g × Leads g (n + 1) p 4096) → Holds s (set a n from) (set l n size) g (n + 1) (kept f want)
+      unfolding listing Hinted
+      keep-new from size p g e ne ep puts =
+          let put = puts (holds .entries .2) in
           let i : n < length a = let q = holds .entries .0 in omega arith in
           let j : n < length l = let q = holds .entries .1 in omega arith in
-          let o : p < length h = let q = holds .entries .2 in omega arith in
-          let z : n + 1 ≡ 0 → ⊥ = omega arith in
-          let there : getD (set h p (n + 1)) (hashOf 0 f) 0 ≡ 0 → ⊥ = rw (← ep) (λ q. z (sym (getD-set-same h p (n + 1) 0 o) ∙ q)) in
+          let long : length want ≡ n = ap length (sym (holds .fits room)) ∙ listing-long s a l n in
           rw (new not-there low high)
           (record {
-            entries = (rw (length-set a n from) (holds .entries .0), rw (length-set l n size) (holds .entries .1), rw (length-set h p (n + 1)) (holds .entries .2));
+            entries = (rw (length-set a n from) (holds .entries .0), rw (length-set l n size) (holds .entries .1), put .0 .size ∙ holds .entries .2);
             high = omega arith;
             fits = λ m. rw (add-one, listing-below s a l n from size n (omega arith), getD-set-same a n from 0 i, getD-set-same l n size 0 j, ← e) (ap (λ x. x ++ (f ∷ [])) (holds .fits room));
-            hinted = λ m. hinted-more (set h p (n + 1)) f want (hinted-set h p (n + 1) want o z (holds .hinted room)) there;
+            hinted = λ m. hinted-more g f want 1 (n + 1) (omega arith) (hinted-grows h g 1 want (put .0) (omega arith) (holds .hinted room)) (rw (← ep) (put .1));
             over = λ m. absurd (omega arith);
           })
 

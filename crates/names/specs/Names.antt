@@ -21,10 +21,29 @@ unfoldable pub listing : Bytes → List ℕ → List ℕ → ℕ → List Bytes
 listing s starts sizes zero = []
 listing s starts sizes (suc n) = listing s starts sizes n ++ (nameAt s starts sizes n ∷ [])
 
--- no name's place among the hints is empty
+-- the place after a place, around the end
+abbrev pub after : ℕ → ℕ
+after p = (p + 1) % 4096
+
+-- of the k places from p on, none is empty before the first that holds the hint v
+unfoldable pub Leads : List ℕ → ℕ → ℕ → ℕ → Type 0
+Leads hints v p zero = Unit {0}
+Leads hints v p (suc k) = (getD hints p 0 ≡ v → ⊥) → (getD hints p 0 ≡ 0 → ⊥) × Leads hints v (after p) k
+
+-- from its own place on, each name is led to: a name's hint is its number, and these are numbered from i on
+unfoldable pub HintedFrom : ℕ → List ℕ → List Bytes → Type 0
+HintedFrom i hints [] = Unit {0}
+HintedFrom i hints (x ∷ xs) = Leads hints i (hashOf 0 x) 4096 × HintedFrom (suc i) hints xs
+
+-- the same from 1 on, since 0 is an empty place
 unfoldable pub Hinted : List ℕ → List Bytes → Type 0
-Hinted hints [] = Unit {0}
-Hinted hints (x ∷ xs) = (getD hints (hashOf 0 x) 0 ≡ 0 → ⊥) × Hinted hints xs
+unfolding HintedFrom
+Hinted hints xs = HintedFrom 1 hints xs
+
+-- as many places, and what stood at one that was not empty stands there still
+pub record Grows (old new : List ℕ) : Type 0 where
+  pub size : length new ≡ length old
+  pub stays : (p : ℕ) → (getD old p 0 ≡ 0 → ⊥) → getD new p 0 ≡ getD old p 0
 
 -- a name more, if it is new
 abbrev pub kept : Bytes → List Bytes → List Bytes

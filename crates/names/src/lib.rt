@@ -1,4 +1,5 @@
-// The variable table of a text: its distinct names by first place, each as a start and a size, and a hint at a cheap hash of each name.
+// The variable table of a text: its distinct names by first place, each as a start and a size, and a hint to each name at the first place
+// that was empty from a cheap hash of it on.
 use text::equal;
 use text::is_var;
 use text::piece;
@@ -10,7 +11,7 @@ ghost use lib.ListN.{length, getD};
 ghost use Rattle.text.specs.Text.{same, piece as pieceOf};
 ghost use Rattle.algebra.specs.Valid.{mem};
 ghost use Rattle.algebra.specs.Tally.{notes};
-ghost use Rattle.names.specs.Names.{hashOf, nameAt, listing, Hinted, Holds, kept, Zeros};
+ghost use Rattle.names.specs.Names.{hashOf, nameAt, listing, after as afterOf, Leads, Hinted, Grows, Holds, kept, Zeros};
 
 fn wide(x: u16) -> usize
     ensures { λ r. ⌜ r ≡ x ⌝ }
@@ -33,7 +34,7 @@ pub fn clear(starts: &mut [u16; 1024], sizes: &mut [u16; 1024], hints: &mut [u16
     *hints = [0; 4096];
 }
 
-// Where the hint for a name stands.
+// Where the search for a name's hint starts.
 fn place(f: &[u8]) -> usize
     ensures { λ r. ⌜ (r ≡ hashOf 0 (now (f .entry))) × (r < 4096) ⌝ }
 {
@@ -44,6 +45,14 @@ fn place(f: &[u8]) -> usize
         i += 1;
     }
     h
+}
+
+// The place after a place, around the end.
+fn after(p: usize) -> usize
+    requires { ⌜ p < 4096 ⌝ }
+    ensures { λ r. ⌜ (r ≡ afterOf p) × (r < 4096) ⌝ }
+{
+    (p + 1) % 4096
 }
 
 // The name at an entry is this one.
@@ -71,6 +80,24 @@ fn scan(f: &[u8], s: &[u8], starts: &[u16; 1024], sizes: &[u16; 1024], n: usize)
     i
 }
 
+// A hint leads to this name among the first n.
+fn is_hinted(
+    f: &[u8],
+    s: &[u8],
+    starts: &[u16; 1024],
+    sizes: &[u16; 1024],
+    n: usize,
+    hint: usize,
+) -> bool
+    requires { ⌜ (n ≤ 1024) × (hint ≡ 0 → ⊥) ⌝ }
+    ensures { λ r. ⌜ (r ≡ true → hint ≤ n) × ((i : ℕ) → i < n → hint ≡ i + 1 → r ≡ same (now (f .entry)) (nameAt (now (s .entry)) (now (starts .entry)) (now (sizes .entry)) i)) ⌝ }
+{
+    if n < hint {
+        return false;
+    }
+    is_name(f, s, starts, sizes, hint - 1)
+}
+
 // The entry of a name among the first n, or n.
 pub fn find_name(
     f: &[u8],
@@ -83,19 +110,37 @@ pub fn find_name(
     requires { ⌜ n ≤ 1024 ⌝ }
     ensures { λ r. ⌜ (r ≤ n) × (r < n → same (now (f .entry)) (nameAt (now (s .entry)) (now (starts .entry)) (now (sizes .entry)) r) ≡ true) × (r ≡ n → Hinted (now (hints .entry)) (listing (now (s .entry)) (now (starts .entry)) (now (sizes .entry)) n) → mem (now (f .entry)) (listing (now (s .entry)) (now (starts .entry)) (now (sizes .entry)) n) ≡ false) ⌝ }
 {
-    let p = place(f);
-    let hint = wide(hints[p]);
-    if hint == 0 {
-        return n;
-    }
-    let i = hint - 1;
-    if n <= i {
-        return scan(f, s, starts, sizes, n);
-    }
-    if is_name(f, s, starts, sizes, i) {
-        return i;
+    let mut p = place(f);
+    let mut left: usize = 4096;
+    while 0 < left {
+        let hint = wide(hints[p]);
+        if hint == 0 {
+            return n;
+        }
+        if is_hinted(f, s, starts, sizes, n, hint) {
+            return hint - 1;
+        }
+        p = after(p);
+        left -= 1;
     }
     scan(f, s, starts, sizes, n)
+}
+
+// Puts a hint at the first empty place from one on, or nowhere if there is none.
+fn put_hint(hints: &mut [u16; 4096], from: usize, hint: u16)
+    requires { ⌜ from < 4096 ⌝ }
+    ensures { λ r. ⌜ (length (now (hints .entry)) ≡ 4096 → Grows (now (hints .entry)) (now (hints .exit)) × Leads (now (hints .exit)) hint from 4096) ⌝ }
+{
+    let mut p = from;
+    let mut left: usize = 4096;
+    while 0 < left {
+        if hints[p] == 0 {
+            hints[p] = hint;
+            return;
+        }
+        p = after(p);
+        left -= 1;
+    }
 }
 
 // Keeps a name in the table if it is new. A count of 1,025 says that it has no room.
@@ -123,7 +168,7 @@ pub fn add_name(
     let p = place(piece(s, from, size));
     starts[n] = from as u16;
     sizes[n] = size as u16;
-    hints[p] = (n + 1) as u16;
+    put_hint(hints, p, (n + 1) as u16);
     n + 1
 }
 
