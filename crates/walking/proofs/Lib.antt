@@ -1,4 +1,5 @@
 pub mod Laws
+pub mod Lines
 pub mod Written
 pub mod After
 pub mod Parts

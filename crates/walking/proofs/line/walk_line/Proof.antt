@@ -1,54 +1,19 @@
+-- `walking::line/walk_line` meets its contract. Assumes nothing.
 use borrow.Author.Needs.{needs}
+use native.Mathlib.Omega.{arith}
+use Rattle.walking.proofs.Lines as L
 use Rattle.walking.proofs.line.walk_line.Statement.{statement}
 use Rattle.walking.proofs.line.walk_line.Tie as tie
-use Rattle.walking.proofs.line.walk_line.Reads as reads
-use Rattle.walking.proofs.line.walk_line.Lts as lts
-use Rattle.walking.proofs.line.head_at.Reads as head-at-reads
-use Rattle.walking.proofs.line.line_end.Reads as line-end-reads
-use Rattle.walking.proofs.line.no_line.Reads as no-line-reads
-use Rattle.walking.proofs.line.put_line.Reads as put-line-reads
-
--- src/line.rt:366:9
-line-end-requires : tie.Need-line-end-requires
-line-end-requires c κs = search needs
-
--- src/line.rt:368:9
-no-line-requires : tie.Need-no-line-requires
-no-line-requires c κs = search needs
-
--- src/line.rt:368:9
-returns : tie.Need-returns
-returns c = ?
-
--- src/line.rt:370:9
-head-at-requires : tie.Need-head-at-requires
-head-at-requires c κs = ?
-
--- src/line.rt:371:9
-put-line-requires : tie.Need-put-line-requires
-put-line-requires c κs = ?
-
--- src/line.rt:390:15
-add-t18 : tie.Need-add-t18
-add-t18 c = search needs
-
--- src/line.rt:347:1
-same-length : tie.Need-same-length
-same-length c = search needs
-
--- src/line.rt:347:1
-returns-2 : tie.Need-returns-2
-returns-2 c = ?
 
 pub walk-line-spec : {M : Type 1} → statement M
 walk-line-spec =
     tie.close
     (tie.spec
-    line-end-requires
-    no-line-requires
-    returns
-    head-at-requires
-    put-line-requires
-    add-t18
-    same-length
-    returns-2)
+    (λ c κs. search needs)
+    (λ c κs. search needs)
+    (λ c. L.walked-none _ _ _ _ _ _ _ _ _ _ (c .before .before .line-end .ensures) _ (c .before .if1 .taken) (c .no-line .ensures))
+    (λ c κs. let l = c .before .line-end .ensures in let h = l .high in let f = l .ends (omega arith) in let low = f .low in (omega arith, omega arith, c .before .before .before .before .before .pre .0))
+    (λ c κs. let h = c .before .before .head-at .ensures in let l = c .before .before .before .before .line-end .ensures in let high = l .high in (h .low, h .high, omega arith, c .before .before .before .before .before .before .before .before .pre .1))
+    (λ c. let l = c .before .before .before .before .before .before .before .line-end .ensures in let high = l .high in omega arith)
+    (λ c. search needs)
+    (λ c. L.walked-one _ _ _ _ _ _ _ _ _ _ (c .before .before .before .before .before .before .before .line-end .ensures) _ _ _ _ (c .before .before .before .before .before .before .if1 .left) (c .before .before .before .before .before .head-at .ensures) (c .before .before .put-line .ensures)))
