@@ -2,4 +2,4 @@
 pub mod check;
 mod fields;
 mod line;
-mod stack;
+pub mod stack;

@@ -4,3 +4,4 @@ pub mod Written
 pub mod After
 pub mod Parts
 pub mod Trees
+pub mod Cycle

@@ -28,12 +28,14 @@ nothing-here s from end l e = go (decLt from (length s))
 module _ (s : Bytes) (from sort : ℕ) (ns : List Bytes) (new : Bytes → Bytes) (m : Mark) (at : ℕ) (out : Bytes) (fl : List ℕ) (end : ℕ) (l : LineEnd s from end) where
   pub walked-none : (r : Walked) → end ≡ length s → (r .from ≡ end) × (r .at ≡ at) × (r .found ≡ false) → WalkedLine s from sort ns new m (output at out fl) (output (r .at) out fl) r
   unfolding WalkedLine
-  walked-none r e h =
-      (λ f. record {
-        nothing = nothing-here s from end l e;
-        over = lines-end s (r .from) (let a = h .0 in omega arith);
-        same-output = ap (λ (k : ℕ). output k out fl) (h .1);
-      }, λ f. absurd (false≢true (sym (h .2) ∙ f)))
+  walked-none r e h = (
+    λ f. record {
+      nothing = nothing-here s from end l e;
+      over = lines-end s (r .from) (let a = h .0 in omega arith);
+      same-output = ap (λ (k : ℕ). output k out fl) (h .1);
+    },
+    λ f. absurd (false≢true (sym (h .2) ∙ f)),
+  )
 
   pub walked-one : (h : Head) (at′ : ℕ) (out′ : Bytes) (fl′ : List ℕ) → (end ≡ length s → ⊥) → HeadIs s from end sort h
       → (h .stays ≡ same (part from (h .word) s) (bytes "service") → output at′ out′ fl′ ≡ putLine ns new m (rowOf (h .row)) (part from (h .word) s) (left s (h .word + 1) end) (output at out fl))
@@ -41,16 +43,18 @@ module _ (s : Bytes) (from sort : ℕ) (ns : List Bytes) (new : Bytes → Bytes)
   unfolding WalkedLine
   walked-one h at′ out′ fl′ n is put =
       let b = l .high in
-      let less : end < length s = omega arith in
-      (λ f. absurd (true≢false f), λ f. record {
-        word = part from (h .word) s;
-        fields = left s (h .word + 1) end;
-        lines = lines-next s from end (l .ends less) less ∙ ap (λ (x : Line). x ∷ linesFrom s (end + 1)) (is .line);
-        written = put (is .staying);
-        row = is .row;
-        tidy = is .tidy;
-        first = is .first;
-        second = is .second;
-        small = is .small;
-        hiding = is .hiding;
-      })
+      let less : end < length s = omega arith in (
+        λ f. absurd (true≢false f),
+        λ f. record {
+          word = part from (h .word) s;
+          fields = left s (h .word + 1) end;
+          lines = lines-next s from end (l .ends less) less ∙ ap (λ (x : Line). x ∷ linesFrom s (end + 1)) (is .line);
+          written = put (is .staying);
+          row = is .row;
+          tidy = is .tidy;
+          first = is .first;
+          second = is .second;
+          small = is .small;
+          hiding = is .hiding;
+        },
+      )

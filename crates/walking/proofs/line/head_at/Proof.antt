@@ -32,11 +32,11 @@ head-at-spec =
     (λ c. search needs)
     (λ c κs. search needs)
     (λ c. let start = c .before .before .before .before .before .before .before .before .before .before .before in
-      let word = c .before .before .before .before .before .before .before .before .before .find in
-      let row = c .before .before .before .before .before .before .before .row-for .ensures in
-      let a = c .before .before .before .before .before .before .count-at .ensures in
-      let b = c .before .before .before .before .before .count-at2 .ensures in
-      record {
+    let word = c .before .before .before .before .before .before .before .before .before .find in
+    let row = c .before .before .before .before .before .before .before .row-for .ensures in
+    let a = c .before .before .before .before .before .before .count-at .ensures in
+    let b = c .before .before .before .before .before .count-at2 .ensures in
+    record {
       low = word .ensures .low;
       high = word .ensures .high;
       line = L.line-split _ _ _ _ (start .pre .1) (start .pre .0) (word .ensures);
@@ -47,4 +47,4 @@ head-at-spec =
       small = (a .2, b .2);
       hiding = c .before .before .before .hides-last .ensures;
       staying = c .equal .ensures;
-      }))
+    }))

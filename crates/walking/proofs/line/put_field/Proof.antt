@@ -45,8 +45,8 @@ put-field-spec =
     (λ c κs. search needs)
     (λ c. search needs)
     (λ c. let at = L.entry-index _ _ _ _ _ _ _ (c .before .before .before .before .before .before .before .before .before .before .before .before .before .before .before .before .before .before .before .before .pre .2) (c .before .before .before .before .before .before .before .before .before .before .before .find-name .ensures) (c .before .before .before .before .before .before .before .before .before .before .if3 .left) in
-      L.field-known _ _ _ _ _ _ _ _ _ _ _ _ _ _ (c .before .before .before .before .before .before .before .before .before .before .before .before .before .before .before .before .if1 .left) (c .before .before .before .before .before .before .before .before .before .before .before .before .before .before .is-var .ensures) (c .before .before .before .before .before .before .before .before .before .before .before .before .before .if2 .left) (L.entry-here _ _ _ _ _ _ _ (c .before .before .before .before .before .before .before .before .before .before .before .before .before .before .before .before .before .before .before .before .pre .2) (c .before .before .before .before .before .before .before .before .before .before .before .find-name .ensures) (c .before .before .before .before .before .before .before .before .before .before .if3 .left)) at (c .before .before .before .before .before .before .before .before .note .ensures)
-      (c .before .before .put-all4 .ensures) (L.stays-so _ _ _ _ _ _ at _ (c .before .before .before .before .before .before .wide .ensures) (c .before .before .before .before .before .if4 .taken)))
+    L.field-known _ _ _ _ _ _ _ _ _ _ _ _ _ _ (c .before .before .before .before .before .before .before .before .before .before .before .before .before .before .before .before .if1 .left) (c .before .before .before .before .before .before .before .before .before .before .before .before .before .before .is-var .ensures) (c .before .before .before .before .before .before .before .before .before .before .before .before .before .if2 .left) (L.entry-here _ _ _ _ _ _ _ (c .before .before .before .before .before .before .before .before .before .before .before .before .before .before .before .before .before .before .before .before .pre .2) (c .before .before .before .before .before .before .before .before .before .before .before .find-name .ensures) (c .before .before .before .before .before .before .before .before .before .before .if3 .left)) at (c .before .before .before .before .before .before .before .before .note .ensures)
+    (c .before .before .put-all4 .ensures) (L.stays-so _ _ _ _ _ _ at _ (c .before .before .before .before .before .before .wide .ensures) (c .before .before .before .before .before .if4 .taken)))
     (λ c. search needs)
     (λ c. search needs)
     (λ c κs. search needs)
@@ -54,5 +54,5 @@ put-field-spec =
     (λ c κs. search needs)
     (λ c. search needs)
     (λ c. let at = L.entry-index _ _ _ _ _ _ _ (c .before .before .before .before .before .before .before .before .before .before .before .before .before .before .before .before .before .before .before .before .before .before .pre .2) (c .before .before .before .before .before .before .before .before .before .before .before .before .before .find-name .ensures) (c .before .before .before .before .before .before .before .before .before .before .before .before .if3 .left) in
-      L.field-known _ _ _ _ _ _ _ _ _ _ _ _ _ _ (c .before .before .before .before .before .before .before .before .before .before .before .before .before .before .before .before .before .before .if1 .left) (c .before .before .before .before .before .before .before .before .before .before .before .before .before .before .before .before .is-var .ensures) (c .before .before .before .before .before .before .before .before .before .before .before .before .before .before .before .if2 .left) (L.entry-here _ _ _ _ _ _ _ (c .before .before .before .before .before .before .before .before .before .before .before .before .before .before .before .before .before .before .before .before .before .before .pre .2) (c .before .before .before .before .before .before .before .before .before .before .before .before .before .find-name .ensures) (c .before .before .before .before .before .before .before .before .before .before .before .before .if3 .left)) at (c .before .before .before .before .before .before .before .before .before .before .note .ensures)
-      (c .before .before .put-all5 .ensures) (c .before .before .before .piece .ensures ∙ L.becomes _ _ _ _ _ _ at _ _ (c .before .before .before .before .wide2 .ensures) (c .before .before .before .before .before .before .before .before .wide .ensures) (c .before .before .before .before .before .before .before .if4 .left))))
+    L.field-known _ _ _ _ _ _ _ _ _ _ _ _ _ _ (c .before .before .before .before .before .before .before .before .before .before .before .before .before .before .before .before .before .before .if1 .left) (c .before .before .before .before .before .before .before .before .before .before .before .before .before .before .before .before .is-var .ensures) (c .before .before .before .before .before .before .before .before .before .before .before .before .before .before .before .if2 .left) (L.entry-here _ _ _ _ _ _ _ (c .before .before .before .before .before .before .before .before .before .before .before .before .before .before .before .before .before .before .before .before .before .before .pre .2) (c .before .before .before .before .before .before .before .before .before .before .before .before .before .find-name .ensures) (c .before .before .before .before .before .before .before .before .before .before .before .before .if3 .left)) at (c .before .before .before .before .before .before .before .before .before .before .note .ensures)
+    (c .before .before .put-all5 .ensures) (c .before .before .before .piece .ensures ∙ L.becomes _ _ _ _ _ _ at _ _ (c .before .before .before .before .wide2 .ensures) (c .before .before .before .before .before .before .before .before .wide .ensures) (c .before .before .before .before .before .before .before .if4 .left))))
