@@ -155,7 +155,7 @@ flag-silent (suc (suc m)) k fl h i = refl
 
 -- ---- the entry of a name
 
-listing-at : (s : Bytes) (a l : List ℕ) (k n : ℕ) → k < n → getD (listing s a l n) k [] ≡ nameAt s a l k
+pub listing-at : (s : Bytes) (a l : List ℕ) (k n : ℕ) → k < n → getD (listing s a l n) k [] ≡ nameAt s a l k
 unfolding listing
 listing-at s a l k zero h = absurd (omega arith)
 listing-at s a l k (suc n) h =

@@ -1,0 +1,39 @@
+-- Laws of answers: what was measured decides, and what was written is the answer. Assumes nothing.
+use Prim.Native.Nat.{ℕ, _+_, _≤_, _<_, min}
+use mathlib.Core.Path.{_≡_, refl, sym, ap, subst, _∙_}
+use mathlib.Core.List.{List, [], _∷_, _++_}
+use native.Mathlib.Nat.{zero-add}
+use native.Mathlib.Omega.{arith}
+use lib.ListN.{length, drop}
+use lib.Seq.{sets, sets-eq}
+use Rattle.text.specs.Text.{Bytes}
+use Rattle.emit.specs.Emit.{Em, em, last, puts}
+use Rattle.emit.proofs.Laws.{puts-at, puts-out}
+use Rattle.gandeuch.specs.declared.answer.Answer.{Answer}
+use Rattle.gandeuch.specs.declared.answer.Answer.the-variants.{Written, TooShort}
+use Rattle.gandeuch.specs.Outcome.{Outcome, written, Answered}
+
+-- where a measure ended
+measured : (b : Bytes) (k : ℕ) (o o′ : Bytes) → em k o′ ≡ puts b (em 0 o) → k ≡ min (length b) last
+measured b k o o′ e = ap (λ (x : Em). x .at) e ∙ puts-at b (em 0 o) (omega arith) ∙ ap (λ (n : ℕ). min n last) (zero-add (length b))
+
+module _ (b out : Bytes) (need : ℕ) (spare spare′ : Bytes) (measure : em need spare′ ≡ puts b (em 0 spare)) where
+  -- the answer is longer than the buffer
+  pub too-short : length out < need → Answered (written b) out out TooShort
+  unfolding Answered
+  too-short h =
+      let m = measured b need spare spare′ measure in
+      (λ k. absurd (omega arith), λ k. (refl, refl, refl))
+
+  -- all of it stands in front, and what was behind it is as it was
+  pub all-written : (size : ℕ) (out′ : Bytes) → need ≤ length out → length out < last → em size out′ ≡ puts b (em 0 out) → Answered (written b) out out′ (Written size)
+  unfolding Answered
+  all-written size out′ h k e =
+      let m = measured b need spare spare′ measure in
+      let z = measured b size out out′ e in
+      let fits : length b ≤ length out = omega arith in
+      (λ i. (refl, omega arith, ap (λ (x : Em). x .out) e ∙ puts-out b (em 0 out) (omega arith) ∙ sets-eq b out 0 (omega arith) ∙ ap (λ (n : ℕ). b ++ drop n out) (zero-add (length b))), λ i. absurd (omega arith))
+
+-- the answer for what the texts say
+pub answered : (o q : Outcome) (before after : Bytes) (r : Answer) → q ≡ o → Answered o before after r → Answered q before after r
+answered o q before after r e h = subst (λ (x : Outcome). Answered x before after r) (sym e) h

@@ -1,0 +1,56 @@
+-- What the steps of the two calls keep and find. Assumes nothing.
+use Prim.Native.Nat.{ℕ, suc, _≤_}
+use mathlib.Core.Path.{_≡_}
+use mathlib.Core.List.{List, [], _∷_}
+use mathlib.Core.Bool.{Bool, true, cond}
+use lib.ListN.{getD, drop}
+use lib.Dec.{eqb}
+use Rattle.text.specs.Text.{Bytes, Line, same, textOf, linesOf}
+use Rattle.text.specs.Word.{bytes}
+use Rattle.text.proofs.Texts.{glue}
+use Rattle.algebra.specs.Tree.{Pattern}
+use Rattle.algebra.specs.Valid.{mem}
+use Rattle.algebra.specs.Reader.{reads}
+use Rattle.algebra.specs.Texts.{readTree}
+use Rattle.names.specs.Names.{Holds}
+use Rattle.scoping.specs.Numbering.{byPlace}
+use Rattle.emit.specs.Emit.{Em, puts}
+use Rattle.walking.specs.Code.{replacement}
+
+-- a text that was checked: it is a tree's, and the table lists the tree's names
+pub record Known (tree : Bytes) (starts sizes hints : List ℕ) (n : ℕ) : Type 0 where
+  pub pattern : Pattern
+  pub read : readTree tree ≡ reads pattern
+  pub table : Holds tree starts sizes hints n (byPlace pattern)
+
+-- the names whose flags, from number k on, are set
+unfoldable pub chosen : ℕ → List ℕ → List Bytes → List Bytes
+chosen k flags [] = []
+chosen k flags (f ∷ fs) = cond (eqb (getD flags k 0) 0) (chosen (suc k) flags fs) (f ∷ chosen (suc k) flags fs)
+
+-- fields, each after a tab
+unfoldable pub tabbed : List Bytes → Em → Em
+unfolding puts
+tabbed [] e = e
+tabbed (f ∷ fs) e = tabbed fs (puts f (puts (9 ∷ []) e))
+
+-- the two lines of scope, by the flags of the table's names
+unfoldable pub chosenText : List ℕ → List Bytes → Bytes
+unfolding textOf chosen
+chosenText flags ns = textOf ((bytes "in" ∷ chosen 0 flags ns) ∷ (bytes "hid" ∷ chosen 1024 flags ns) ∷ [])
+
+-- something, or what there was
+abbrev pub orOld : Bytes → Bytes → Bytes
+orOld [] d = d
+orOld (x ∷ xs) d = x ∷ xs
+
+-- what the lines of a mapping make of a name, line by line; d is what has been found so far
+unfoldable pub lookLast : List Line → Bytes → Bytes → Bytes
+unfolding same
+lookLast [] f d = d
+lookLast (l ∷ ls) f d = lookLast ls f (cond (same f (getD l 0 [])) (orOld (glue 9 (drop 1 l)) d) d)
+
+-- the entries of a table of n names hold what a mapping makes of them, and no entry behind them is set
+pub record Targets (ns : List Bytes) (n : ℕ) (pairs : Bytes) (targets spans : List ℕ) : Type 0 where
+  pub found : (f : Bytes) → mem f ns ≡ true → replacement ns pairs targets spans f ≡ lookLast (linesOf pairs) f f
+  pub behind : (k : ℕ) → n ≤ k → getD spans k 0 ≡ 0

@@ -1,0 +1,4 @@
+pub mod Outcome
+pub mod Scope
+pub mod Rename
+pub mod Code

@@ -1,0 +1,40 @@
+-- What a public call promises: document 01, "Operation by operation", first paragraph. Assumes nothing.
+use Prim.Native.Nat.{ℕ, _≤_, _<_}
+use mathlib.Core.Path.{_≡_}
+use mathlib.Core.List.{List, _++_}
+use lib.ListN.{length, drop}
+use Rattle.text.specs.Text.{Bytes}
+use Rattle.algebra.specs.Reader.{Outcome as Reading, reads, refuses, refusalNumber}
+use Rattle.gandeuch.specs.declared.answer.Answer.{Answer}
+use Rattle.gandeuch.specs.declared.answer.Answer.the-variants.{Written, Malformed, OverBound, TooShort}
+
+-- what is to come of the texts alone: a refusal by its number, or bytes
+pub data Outcome : Type 0 where
+  refused : ℕ → Outcome
+  written : Bytes → Outcome
+
+-- "1 malformed, 2 over a bound, 6 output too short"; 0 where bytes were written
+abbrev pub number : Answer → ℕ
+number (Written n) = 0
+number Malformed = 1
+number OverBound = 2
+number TooShort = 6
+
+-- "A refusal returns its number and length 0"
+abbrev pub size : Answer → ℕ
+size (Written n) = n
+size Malformed = 0
+size OverBound = 0
+size TooShort = 0
+
+-- number, length and every byte of the buffer. "Success returns the exact length; bytes past it are unchanged"; "6 only if the answer is longer than the buffer"
+unfoldable pub Answered : Outcome → Bytes → Bytes → Answer → Type 0
+Answered (refused k) before after r = (number r ≡ k) × (size r ≡ 0) × (after ≡ before)
+Answered (written b) before after r =
+    (length b ≤ length before → (number r ≡ 0) × (size r ≡ length b) × (after ≡ b ++ drop (length b) before))
+    × (length before < length b → (number r ≡ 6) × (size r ≡ 0) × (after ≡ before))
+
+-- a text that is refused refuses the call; else what it says decides
+abbrev pub then : {A : Type 0} → Reading A → (A → Outcome) → Outcome
+then (reads x) k = k x
+then (refuses n) k = refused (refusalNumber n)

@@ -1,0 +1,17 @@
+-- The call scope: document 01, "Scope writes a line `in` and a line `hid`, each with its set in numbering order". Assumes nothing.
+use mathlib.Core.List.{List, [], _∷_}
+use Rattle.text.specs.Text.{Bytes, textOf}
+use Rattle.text.specs.Word.{bytes}
+use Rattle.algebra.specs.Tree.{Pattern}
+use Rattle.algebra.specs.Texts.{readTree}
+use Rattle.scoping.specs.Numbering.{inScopeByPlace, hiddenByPlace}
+use Rattle.gandeuch.specs.Outcome.{Outcome, written, then}
+
+-- the two lines: variables_in_pattern's two sets, by first place in the text
+unfoldable pub scopeText : Pattern → Bytes
+unfolding textOf inScopeByPlace hiddenByPlace
+scopeText p = textOf ((bytes "in" ∷ inScopeByPlace p) ∷ (bytes "hid" ∷ hiddenByPlace p) ∷ [])
+
+unfoldable pub scopeOutcome : Bytes → Outcome
+unfolding readTree scopeText
+scopeOutcome tree = then (readTree tree) λ p. written (scopeText p)

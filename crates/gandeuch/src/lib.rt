@@ -1,0 +1,3 @@
+// The public calls. Each answers with a number, a length and bytes that its texts alone decide, and takes any input.
+pub mod answer;
+pub mod scope;
