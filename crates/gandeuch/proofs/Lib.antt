@@ -5,3 +5,5 @@ pub mod Chosen
 pub mod Mapping
 pub mod Tables
 pub mod Scoped
+pub mod Targets
+pub mod Renamed

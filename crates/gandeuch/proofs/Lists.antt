@@ -53,9 +53,9 @@ module _ (s : Bytes) (a l flags : List ℕ) (base n : ℕ) where
   names-next k e e′ h q =
       let long = listing-long s a l n in
       let one : cond (eqb (getD flags (base + k) 0) 0) [] (nameAt s a l k ∷ []) ++ chosen (suc (base + k)) flags (drop (suc k) (listing s a l n)) ≡ chosen (base + k) flags (drop k (listing s a l n)) =
-          sym (ap (chosen (base + k) flags) (drop-cons (listing s a l n) k [] (omega arith))
-          ∙ chosen-cons (base + k) flags (getD (listing s a l n) k []) (drop (suc k) (listing s a l n))
-          ∙ ap (λ (f : Bytes). cond (eqb (getD flags (base + k) 0) 0) [] (f ∷ []) ++ chosen (suc (base + k)) flags (drop (suc k) (listing s a l n))) (listing-at s a l k n h)) in
+      sym (ap (chosen (base + k) flags) (drop-cons (listing s a l n) k [] (omega arith))
+      ∙ chosen-cons (base + k) flags (getD (listing s a l n) k []) (drop (suc k) (listing s a l n))
+      ∙ ap (λ (f : Bytes). cond (eqb (getD flags (base + k) 0) 0) [] (f ∷ []) ++ chosen (suc (base + k)) flags (drop (suc k) (listing s a l n))) (listing-at s a l k n h)) in
       let step : base + (k + 1) ≡ suc (base + k) = omega arith in
       rw (step, add-one k, q)
       (sym (tabbed-append (cond (eqb (getD flags (base + k) 0) 0) [] (nameAt s a l k ∷ [])) (chosen (suc (base + k)) flags (drop (suc k) (listing s a l n))) e)

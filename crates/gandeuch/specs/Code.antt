@@ -3,7 +3,7 @@ use Prim.Native.Nat.{ℕ, suc, _≤_}
 use mathlib.Core.Path.{_≡_}
 use mathlib.Core.List.{List, [], _∷_}
 use mathlib.Core.Bool.{Bool, true, cond}
-use lib.ListN.{getD, drop}
+use lib.ListN.{length, getD, drop}
 use lib.Dec.{eqb}
 use Rattle.text.specs.Text.{Bytes, Line, same, textOf, linesOf}
 use Rattle.text.specs.Word.{bytes}
@@ -11,7 +11,8 @@ use Rattle.text.proofs.Texts.{glue}
 use Rattle.algebra.specs.Tree.{Pattern}
 use Rattle.algebra.specs.Valid.{mem}
 use Rattle.algebra.specs.Reader.{reads}
-use Rattle.algebra.specs.Texts.{readTree}
+use Rattle.algebra.specs.Query.{Pair, mapping}
+use Rattle.algebra.specs.Texts.{readTree, readPairs}
 use Rattle.names.specs.Names.{Holds}
 use Rattle.scoping.specs.Numbering.{byPlace}
 use Rattle.emit.specs.Emit.{Em, puts}
@@ -22,6 +23,11 @@ pub record Known (tree : Bytes) (starts sizes hints : List ℕ) (n : ℕ) : Type
   pub pattern : Pattern
   pub read : readTree tree ≡ reads pattern
   pub table : Holds tree starts sizes hints n (byPlace pattern)
+
+-- a text that is a mapping's
+pub record KnownPairs (pairs : Bytes) : Type 0 where
+  pub list : List Pair
+  pub read : readPairs mapping pairs ≡ reads list
 
 -- the names whose flags, from number k on, are set
 unfoldable pub chosen : ℕ → List ℕ → List Bytes → List Bytes
@@ -54,3 +60,9 @@ lookLast (l ∷ ls) f d = lookLast ls f (cond (same f (getD l 0 [])) (orOld (glu
 pub record Targets (ns : List Bytes) (n : ℕ) (pairs : Bytes) (targets spans : List ℕ) : Type 0 where
   pub found : (f : Bytes) → mem f ns ≡ true → replacement ns pairs targets spans f ≡ lookLast (linesOf pairs) f f
   pub behind : (k : ℕ) → n ≤ k → getD spans k 0 ≡ 0
+
+-- a line of the mapping was taken: the name in its first field becomes its second field, if that is something, and the others stay
+pub record Settled (ns : List Bytes) (n : ℕ) (pairs first second : Bytes) (targets spans targets′ spans′ : List ℕ) : Type 0 where
+  pub taken : (f : Bytes) → mem f ns ≡ true → replacement ns pairs targets′ spans′ f ≡ cond (same f first) (orOld second (replacement ns pairs targets spans f)) (replacement ns pairs targets spans f)
+  pub others : (k : ℕ) → n ≤ k → getD spans′ k 0 ≡ getD spans k 0
+  pub entries : (length targets′ ≡ length targets) × (length spans′ ≡ length spans)

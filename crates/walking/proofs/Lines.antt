@@ -18,7 +18,7 @@ use Rattle.walking.specs.declared.line.Walked.{Walked}
 use Rattle.walking.specs.Walk.{Output, output, putLine}
 use Rattle.walking.specs.Code.{LineEnd, HeadIs, NoLine, OneLine, WalkedLine}
 
-nothing-here : (s : Bytes) (from end : ℕ) → LineEnd s from end → end ≡ length s → (linesFrom s from ≡ []) ⊎ (linesFrom s from ≡ [] ∷ [])
+pub nothing-here : (s : Bytes) (from end : ℕ) → LineEnd s from end → end ≡ length s → (linesFrom s from ≡ []) ⊎ (linesFrom s from ≡ [] ∷ [])
 nothing-here s from end l e = go (decLt from (length s))
   where
     go : Dec (from < length s) → (linesFrom s from ≡ []) ⊎ (linesFrom s from ≡ [] ∷ [])
