@@ -11,7 +11,7 @@ use Rattle.emit.specs.Emit.{Em, em, last, puts}
 use Rattle.emit.proofs.Laws.{puts-at, puts-out}
 use Rattle.gandeuch.specs.declared.answer.Answer.{Answer}
 use Rattle.gandeuch.specs.declared.answer.Answer.the-variants.{Written, TooShort}
-use Rattle.gandeuch.specs.Outcome.{Outcome, written, Answered}
+use Rattle.gandeuch.specs.Outcome.{Outcome, written, number, size, Reported, Answered}
 
 -- where a measure ended
 measured : (b : Bytes) (k : ℕ) (o o′ : Bytes) → em k o′ ≡ puts b (em 0 o) → k ≡ min (length b) last
@@ -20,14 +20,14 @@ measured b k o o′ e = ap (λ (x : Em). x .at) e ∙ puts-at b (em 0 o) (omega 
 module _ (b out : Bytes) (need : ℕ) (spare spare′ : Bytes) (measure : em need spare′ ≡ puts b (em 0 spare)) where
   -- the answer is longer than the buffer
   pub too-short : length out < need → Answered (written b) out out TooShort
-  unfolding Answered
+  unfolding Reported
   too-short h =
       let m = measured b need spare spare′ measure in
       (λ k. absurd (omega arith), λ k. (refl, refl, refl))
 
   -- all of it stands in front, and what was behind it is as it was
   pub all-written : (size : ℕ) (out′ : Bytes) → need ≤ length out → length out < last → em size out′ ≡ puts b (em 0 out) → Answered (written b) out out′ (Written size)
-  unfolding Answered
+  unfolding Reported
   all-written size out′ h k e =
       let m = measured b need spare spare′ measure in
       let z = measured b size out out′ e in
@@ -37,3 +37,7 @@ module _ (b out : Bytes) (need : ℕ) (spare spare′ : Bytes) (measure : em nee
 -- the answer for what the texts say
 pub answered : (o q : Outcome) (before after : Bytes) (r : Answer) → q ≡ o → Answered o before after r → Answered q before after r
 answered o q before after r e h = subst (λ (x : Outcome). Answered x before after r) (sym e) h
+
+-- what is reported of an answer's number and size
+pub reported : (o : Outcome) (before after : Bytes) (r : Answer) (n s : ℕ) → Answered o before after r → n ≡ number r → s ≡ size r → Reported o before after n s
+reported o before after r n s h p q = rw (p, q) h

@@ -36,7 +36,7 @@ use Rattle.walking.specs.Code.{here, replacement, renames}
 use Rattle.walking.proofs.Trees.{walk-tree}
 use Rattle.gandeuch.specs.declared.answer.Answer.{Answer}
 use Rattle.gandeuch.specs.declared.answer.Answer.the-variants.{Written, Malformed, OverBound, TooShort}
-use Rattle.gandeuch.specs.Outcome.{Outcome, refused, written, Answered}
+use Rattle.gandeuch.specs.Outcome.{Outcome, refused, written, Reported, Answered}
 use Rattle.gandeuch.specs.Rename.{becomes, renameOutcome}
 use Rattle.gandeuch.specs.Code.{Known, KnownPairs, Targets, lookLast}
 use Rattle.gandeuch.proofs.Tables.{known-valid, known-depth, known-names, known-lines, said-good}
@@ -116,18 +116,18 @@ module _ (s : Bytes) (a l h : List ℕ) (n : ℕ) (k : Known s a l h n) (pairs :
 -- ---- a text that is refused
 
 pub tree-malformed : (s pairs out : Bytes) → readTree s ≡ refuses malformed → Answered (renameOutcome s pairs) out out Malformed
-unfolding renameOutcome Answered
+unfolding renameOutcome Reported
 tree-malformed s pairs out e = rw e (refl, refl, refl)
 
 pub tree-over : (s pairs out : Bytes) → readTree s ≡ refuses overBound → Answered (renameOutcome s pairs) out out OverBound
-unfolding renameOutcome Answered
+unfolding renameOutcome Reported
 tree-over s pairs out e = rw e (refl, refl, refl)
 
 module _ (s : Bytes) (a l h : List ℕ) (n : ℕ) (k : Known s a l h n) (pairs out : Bytes) where
   pub mapping-malformed : readPairs mapping pairs ≡ refuses malformed → Answered (renameOutcome s pairs) out out Malformed
-  unfolding renameOutcome Answered
+  unfolding renameOutcome Reported
   mapping-malformed e = rw (k .read, e) (refl, refl, refl)
 
   pub mapping-over : readPairs mapping pairs ≡ refuses overBound → Answered (renameOutcome s pairs) out out OverBound
-  unfolding renameOutcome Answered
+  unfolding renameOutcome Reported
   mapping-over e = rw (k .read, e) (refl, refl, refl)

@@ -21,7 +21,7 @@ use Rattle.walking.specs.Code.{here, replacement, renames}
 use Rattle.walking.proofs.Trees.{walk-tree}
 use Rattle.gandeuch.specs.declared.answer.Answer.{Answer}
 use Rattle.gandeuch.specs.declared.answer.Answer.the-variants.{Written, Malformed, OverBound, TooShort}
-use Rattle.gandeuch.specs.Outcome.{Outcome, refused, written, Answered}
+use Rattle.gandeuch.specs.Outcome.{Outcome, refused, written, Reported, Answered}
 use Rattle.gandeuch.specs.Scope.{scopeText, scopeOutcome}
 use Rattle.gandeuch.specs.Code.{Known, chosen, chosenText}
 use Rattle.gandeuch.proofs.Tables.{known-valid, known-depth, known-few, known-names, known-lines}
@@ -70,9 +70,9 @@ module _ (s : Bytes) (a l h : List ℕ) (n : ℕ) (k : Known s a l h n) where
 
 -- a tree that is refused
 pub scope-malformed : (s out : Bytes) → readTree s ≡ refuses malformed → Answered (scopeOutcome s) out out Malformed
-unfolding scopeOutcome Answered
+unfolding scopeOutcome Reported
 scope-malformed s out e = rw e (refl, refl, refl)
 
 pub scope-over : (s out : Bytes) → readTree s ≡ refuses overBound → Answered (scopeOutcome s) out out OverBound
-unfolding scopeOutcome Answered
+unfolding scopeOutcome Reported
 scope-over s out e = rw e (refl, refl, refl)

@@ -28,11 +28,15 @@ size OverBound = 0
 size TooShort = 0
 
 -- number, length and every byte of the buffer. "Success returns the exact length; bytes past it are unchanged"; "6 only if the answer is longer than the buffer"
-unfoldable pub Answered : Outcome → Bytes → Bytes → Answer → Type 0
-Answered (refused k) before after r = (number r ≡ k) × (size r ≡ 0) × (after ≡ before)
-Answered (written b) before after r =
-    (length b ≤ length before → (number r ≡ 0) × (size r ≡ length b) × (after ≡ b ++ drop (length b) before))
-    × (length before < length b → (number r ≡ 6) × (size r ≡ 0) × (after ≡ before))
+unfoldable pub Reported : Outcome → Bytes → Bytes → ℕ → ℕ → Type 0
+Reported (refused k) before after n s = (n ≡ k) × (s ≡ 0) × (after ≡ before)
+Reported (written b) before after n s =
+    (length b ≤ length before → (n ≡ 0) × (s ≡ length b) × (after ≡ b ++ drop (length b) before))
+    × (length before < length b → (n ≡ 6) × (s ≡ 0) × (after ≡ before))
+
+-- the same of an answer
+abbrev pub Answered : Outcome → Bytes → Bytes → Answer → Type 0
+Answered o before after r = Reported o before after (number r) (size r)
 
 -- a text that is refused refuses the call; else what it says decides
 abbrev pub then : {A : Type 0} → Reading A → (A → Outcome) → Outcome

@@ -27,5 +27,5 @@ set-target-spec =
     (λ c. search needs)
     (λ c. search needs)
     (λ c. let start = c .before .before .before .before .before .before in let p = start .pre in let f = c .before .before .find-name .ensures in let low = c .before .if1 .left in let high = p .5 .high in let a = p .4 .0 in let b = p .4 .1 in
-      T.settled-set _ _ _ _ _ _ _ _ _ _ low (omega arith) (omega arith) (L.entry-here _ _ _ _ _ _ _ (p .5) f low) (L.entry-index _ _ _ _ _ _ _ (p .5) f low) (let z = c .if2 .left in omega arith)
-      (T.second-bytes (start .args .mapping .now) (start .args .to) (start .args .end)) (T.second-long (start .args .mapping .now) (start .args .to) (start .args .end) (p .2))))
+    T.settled-set _ _ _ _ _ _ _ _ _ _ low (omega arith) (omega arith) (L.entry-here _ _ _ _ _ _ _ (p .5) f low) (L.entry-index _ _ _ _ _ _ _ (p .5) f low) (let z = c .if2 .left in omega arith)
+    (T.second-bytes (start .args .mapping .now) (start .args .to) (start .args .end)) (T.second-long (start .args .mapping .now) (start .args .to) (start .args .end) (p .2))))

@@ -1,0 +1,57 @@
+// The calls for C: a slice is a pointer and a length, the answer is document 01's number, and the length goes through `size`.
+use crate::answer::Answer;
+use crate::rename::rename;
+use crate::scope::scope;
+ghost use mathlib.Core.Path.{_≡_};
+ghost use Rattle.gandeuch.specs.Outcome.{number as numberOf, size as sizeOf, Reported};
+ghost use Rattle.gandeuch.specs.Scope.{scopeOutcome};
+ghost use Rattle.gandeuch.specs.Rename.{renameOutcome};
+
+// Document 01's number.
+pub fn number(a: Answer) -> u8
+    ensures { λ r. ⌜ r ≡ numberOf a ⌝ }
+{
+    match a {
+        Answer::Written(_) => 0,
+        Answer::Malformed => 1,
+        Answer::OverBound => 2,
+        Answer::TooShort => 6,
+    }
+}
+
+// The length of what was written, 0 of a refusal.
+pub fn size_of(a: Answer) -> usize
+    ensures { λ r. ⌜ r ≡ sizeOf a ⌝ }
+{
+    match a {
+        Answer::Written(n) => n,
+        Answer::Malformed => 0,
+        Answer::OverBound => 0,
+        Answer::TooShort => 0,
+    }
+}
+
+// scope: tree to the lines `in` and `hid`.
+#[no_mangle]
+pub extern "C" fn gandeuch_scope(tree: &[u8], out: &mut [u8], size: &mut usize) -> u8
+    ensures { λ r. ⌜ Reported (scopeOutcome (now (tree .entry))) (now (out .entry)) (now (out .exit)) r (now (size .exit)) ⌝ }
+{
+    let a = scope(tree, out);
+    *size = size_of(a);
+    number(a)
+}
+
+// rename: tree and mapping to tree.
+#[no_mangle]
+pub extern "C" fn gandeuch_rename(
+    tree: &[u8],
+    mapping: &[u8],
+    out: &mut [u8],
+    size: &mut usize,
+) -> u8
+    ensures { λ r. ⌜ Reported (renameOutcome (now (tree .entry)) (now (mapping .entry))) (now (out .entry)) (now (out .exit)) r (now (size .exit)) ⌝ }
+{
+    let a = rename(tree, mapping, out);
+    *size = size_of(a);
+    number(a)
+}
