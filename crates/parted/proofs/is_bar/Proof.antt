@@ -1,0 +1,8 @@
+-- `parted::is_bar` meets its contract. Assumes nothing.
+use borrow.Author.Needs.{needs}
+use Rattle.parted.proofs.is_bar.Statement.{statement}
+use Rattle.parted.proofs.is_bar.Tie as tie
+
+pub is-bar-spec : {M : Type 1} → statement M
+is-bar-spec =
+    tie.close (tie.spec (λ c. search needs) (λ c κs. search needs) (λ c. search needs) (λ c κs. search needs) (λ c. cc))
