@@ -1,0 +1,338 @@
+//! Reads well-formed texts of trees and mappings. On any other text it panics.
+
+use std::collections::HashMap;
+use std::str::{Split, SplitTerminator};
+
+use oxrdf::{BlankNode, Literal, NamedNode, Variable};
+use spargebra::algebra::{
+    AggregateExpression, AggregateFunction, Expression, Function, GraphPattern, OrderExpression,
+    PropertyPathExpression,
+};
+use spargebra::term::{GroundTerm, NamedNodePattern, TermPattern, TriplePattern};
+
+/// Each variable's number by first place in the text.
+pub type Places<'t> = HashMap<&'t str, usize>;
+
+type Fields<'t> = Split<'t, char>;
+
+struct Reader<'t> {
+    lines: SplitTerminator<'t, char>,
+    places: Option<Places<'t>>,
+}
+
+pub fn tree(text: &str) -> GraphPattern {
+    let places = if cfg!(ordered) {
+        Some(Places::new())
+    } else {
+        None
+    };
+    Reader::new(text, places).pattern()
+}
+
+pub fn tree_and_places(text: &str) -> (GraphPattern, Places<'_>) {
+    let mut reader = Reader::new(text, Some(Places::new()));
+    (reader.pattern(), reader.places.expect("was given"))
+}
+
+pub fn mapping(text: &str) -> HashMap<Variable, Variable> {
+    text.split_terminator('\n')
+        .map(|line| {
+            let (from, to) = line.split_once('\t').expect("two fields");
+            (
+                Variable::new_unchecked(&from[1..]),
+                Variable::new_unchecked(&to[1..]),
+            )
+        })
+        .collect()
+}
+
+impl<'t> Reader<'t> {
+    fn new(text: &'t str, places: Option<Places<'t>>) -> Self {
+        Self {
+            lines: text.split_terminator('\n'),
+            places,
+        }
+    }
+
+    fn line(&mut self) -> Fields<'t> {
+        self.lines.next().expect("a line").split('\t')
+    }
+
+    /// The fields after a line's word.
+    fn after(&mut self, word: &str) -> Fields<'t> {
+        let mut fields = self.line();
+        assert_eq!(fields.next(), Some(word));
+        fields
+    }
+
+    fn pattern(&mut self) -> GraphPattern {
+        let mut fields = self.line();
+        match field(&mut fields) {
+            "bgp" => self.bgp(number(&mut fields)),
+            "path" => GraphPattern::Path {
+                subject: self.term_pattern(field(&mut fields)),
+                path: PropertyPathExpression(field(&mut fields).to_string()),
+                object: self.term_pattern(field(&mut fields)),
+            },
+            "join" => GraphPattern::Join {
+                left: self.inner(),
+                right: self.inner(),
+            },
+            "union" => GraphPattern::Union {
+                left: self.inner(),
+                right: self.inner(),
+            },
+            "minus" => GraphPattern::Minus {
+                left: self.inner(),
+                right: self.inner(),
+            },
+            "leftjoin" => self.left_join(flag(&mut fields)),
+            "filter" => {
+                let inner = self.inner();
+                let expr = self.expression();
+                GraphPattern::Filter { expr, inner }
+            }
+            "graph" => GraphPattern::Graph {
+                name: self.named_node_pattern(field(&mut fields)),
+                inner: self.inner(),
+            },
+            "extend" => self.extend(field(&mut fields)),
+            "values" => self.values(number(&mut fields), number(&mut fields)),
+            "orderby" => GraphPattern::OrderBy {
+                inner: self.inner(),
+                expression: self.order(number(&mut fields)),
+            },
+            "project" => {
+                let variables = self.variables(fields);
+                let inner = self.inner();
+                GraphPattern::Project { inner, variables }
+            }
+            "distinct" => GraphPattern::Distinct {
+                inner: self.inner(),
+            },
+            "reduced" => GraphPattern::Reduced {
+                inner: self.inner(),
+            },
+            "slice" => GraphPattern::Slice {
+                start: number(&mut fields),
+                length: length(&mut fields),
+                inner: self.inner(),
+            },
+            "group" => self.group(number(&mut fields), number(&mut fields)),
+            "service" => GraphPattern::Service {
+                name: self.named_node_pattern(field(&mut fields)),
+                silent: flag(&mut fields),
+                inner: self.inner(),
+            },
+            word => panic!("{word} is no pattern"),
+        }
+    }
+
+    fn inner(&mut self) -> Box<GraphPattern> {
+        Box::new(self.pattern())
+    }
+
+    fn bgp(&mut self, count: usize) -> GraphPattern {
+        GraphPattern::Bgp {
+            patterns: (0..count).map(|_| self.triple()).collect(),
+        }
+    }
+
+    fn triple(&mut self) -> TriplePattern {
+        let mut fields = self.after("t");
+        TriplePattern {
+            subject: self.term_pattern(field(&mut fields)),
+            predicate: self.named_node_pattern(field(&mut fields)),
+            object: self.term_pattern(field(&mut fields)),
+        }
+    }
+
+    fn left_join(&mut self, conditional: bool) -> GraphPattern {
+        GraphPattern::LeftJoin {
+            left: self.inner(),
+            right: self.inner(),
+            expression: conditional.then(|| self.expression()),
+        }
+    }
+
+    fn extend(&mut self, variable: &'t str) -> GraphPattern {
+        GraphPattern::Extend {
+            variable: self.variable(variable),
+            inner: self.inner(),
+            expression: self.expression(),
+        }
+    }
+
+    fn values(&mut self, columns: usize, rows: usize) -> GraphPattern {
+        let fields = self.after("cols");
+        let variables = self.variables(fields);
+        assert_eq!(variables.len(), columns);
+        let bindings = (0..rows).map(|_| self.after("row").map(cell).collect());
+        GraphPattern::Values {
+            bindings: bindings.collect(),
+            variables,
+        }
+    }
+
+    fn order(&mut self, count: usize) -> Vec<OrderExpression> {
+        (0..count)
+            .map(|_| match field(&mut self.line()) {
+                "asc" => OrderExpression::Asc(self.expression()),
+                "desc" => OrderExpression::Desc(self.expression()),
+                word => panic!("{word} is no order"),
+            })
+            .collect()
+    }
+
+    fn group(&mut self, columns: usize, aggregates: usize) -> GraphPattern {
+        let fields = self.after("cols");
+        let variables = self.variables(fields);
+        assert_eq!(variables.len(), columns);
+        GraphPattern::Group {
+            variables,
+            inner: self.inner(),
+            aggregates: (0..aggregates).map(|_| self.aggregate()).collect(),
+        }
+    }
+
+    fn aggregate(&mut self) -> (Variable, AggregateExpression) {
+        let mut fields = self.line();
+        let word = field(&mut fields);
+        let variable = self.variable(field(&mut fields));
+        let aggregate = match word {
+            "agg" => AggregateExpression::FunctionCall {
+                name: AggregateFunction(field(&mut fields).to_string()),
+                distinct: flag(&mut fields),
+                expr: self.expression(),
+            },
+            "aggall" => AggregateExpression::CountSolutions {
+                distinct: flag(&mut fields),
+            },
+            word => panic!("{word} is no aggregate"),
+        };
+        (variable, aggregate)
+    }
+
+    fn expression(&mut self) -> Expression {
+        let mut fields = self.line();
+        match field(&mut fields) {
+            "term" => self.term(field(&mut fields)),
+            "bound" => Expression::Bound(self.variable(field(&mut fields))),
+            "or" => Expression::Or(self.part(), self.part()),
+            "and" => Expression::And(self.part(), self.part()),
+            "eq" => Expression::Equal(self.part(), self.part()),
+            "same" => Expression::SameTerm(self.part(), self.part()),
+            "gt" => Expression::Greater(self.part(), self.part()),
+            "ge" => Expression::GreaterOrEqual(self.part(), self.part()),
+            "lt" => Expression::Less(self.part(), self.part()),
+            "le" => Expression::LessOrEqual(self.part(), self.part()),
+            "add" => Expression::Add(self.part(), self.part()),
+            "sub" => Expression::Subtract(self.part(), self.part()),
+            "mul" => Expression::Multiply(self.part(), self.part()),
+            "div" => Expression::Divide(self.part(), self.part()),
+            "in" => Expression::In(self.part(), self.parts(number(&mut fields))),
+            "plus" => Expression::UnaryPlus(self.part()),
+            "neg" => Expression::UnaryMinus(self.part()),
+            "not" => Expression::Not(self.part()),
+            "exists" => Expression::Exists(self.inner()),
+            "if" => Expression::If(self.part(), self.part(), self.part()),
+            "coalesce" => Expression::Coalesce(self.parts(number(&mut fields))),
+            "call" => Expression::FunctionCall(
+                function(field(&mut fields)),
+                self.parts(number(&mut fields)),
+            ),
+            word => panic!("{word} is no expression"),
+        }
+    }
+
+    fn part(&mut self) -> Box<Expression> {
+        Box::new(self.expression())
+    }
+
+    fn parts(&mut self, count: usize) -> Vec<Expression> {
+        (0..count).map(|_| self.expression()).collect()
+    }
+
+    fn variables(&mut self, fields: Fields<'t>) -> Vec<Variable> {
+        fields.map(|field| self.variable(field)).collect()
+    }
+
+    fn variable(&mut self, field: &'t str) -> Variable {
+        let name = field.strip_prefix('?').expect("a variable");
+        if let Some(places) = &mut self.places {
+            let next = places.len();
+            let _place = *places.entry(name).or_insert(next);
+            #[cfg(ordered)]
+            return Variable::placed(name, _place);
+        }
+        Variable::new_unchecked(name)
+    }
+
+    fn term_pattern(&mut self, field: &'t str) -> TermPattern {
+        match field.as_bytes()[0] {
+            b'?' => TermPattern::Variable(self.variable(field)),
+            b'<' => TermPattern::NamedNode(named_node(field)),
+            b'"' => TermPattern::Literal(Literal::from_text(field)),
+            _ => TermPattern::BlankNode(BlankNode::new_unchecked(&field[2..])),
+        }
+    }
+
+    fn named_node_pattern(&mut self, field: &'t str) -> NamedNodePattern {
+        match field.as_bytes()[0] {
+            b'?' => NamedNodePattern::Variable(self.variable(field)),
+            _ => NamedNodePattern::NamedNode(named_node(field)),
+        }
+    }
+
+    fn term(&mut self, field: &'t str) -> Expression {
+        match field.as_bytes()[0] {
+            b'?' => Expression::Variable(self.variable(field)),
+            b'<' => Expression::NamedNode(named_node(field)),
+            _ => Expression::Literal(Literal::from_text(field)),
+        }
+    }
+}
+
+fn field<'t>(fields: &mut Fields<'t>) -> &'t str {
+    fields.next().expect("a field")
+}
+
+fn number(fields: &mut Fields<'_>) -> usize {
+    field(fields).parse().expect("a number")
+}
+
+fn length(fields: &mut Fields<'_>) -> Option<usize> {
+    match field(fields) {
+        "-" => None,
+        digits => Some(digits.parse().expect("a number")),
+    }
+}
+
+fn flag(fields: &mut Fields<'_>) -> bool {
+    match field(fields) {
+        "0" => false,
+        "1" => true,
+        other => panic!("{other} is neither 0 nor 1"),
+    }
+}
+
+fn named_node(field: &str) -> NamedNode {
+    let iri = field.strip_prefix('<').and_then(|rest| rest.strip_suffix('>'));
+    NamedNode::new_unchecked(iri.expect("an IRI"))
+}
+
+fn cell(field: &str) -> Option<GroundTerm> {
+    match field.as_bytes()[0] {
+        b'-' => None,
+        b'<' => Some(GroundTerm::NamedNode(named_node(field))),
+        _ => Some(GroundTerm::Literal(Literal::from_text(field))),
+    }
+}
+
+fn function(name: &str) -> Function {
+    match name {
+        "DATATYPE" => Function::Datatype,
+        "LANG" => Function::Lang,
+        _ => Function::Other(name.to_string()),
+    }
+}
