@@ -1,12 +1,12 @@
 -- Laws of answers: what was measured decides, and what was written is the answer. Assumes nothing.
 use Prim.Native.Nat.{ℕ, _+_, _≤_, _<_, min}
-use mathlib.Core.Path.{_≡_, refl, sym, ap, subst, _∙_}
+use mathlib.Core.Path.{_≡_, refl, sym, ap, ap₂, subst, _∙_}
 use mathlib.Core.List.{List, [], _∷_, _++_}
 use native.Mathlib.Nat.{zero-add}
 use native.Mathlib.Omega.{arith}
-use lib.ListN.{length, drop}
-use lib.Seq.{sets, sets-eq}
-use Rattle.text.specs.Text.{Bytes}
+use lib.ListN.{length, take, drop}
+use lib.Seq.{sets, sets-eq, take-append-seam}
+use Rattle.text.specs.Text.{Bytes, piece}
 use Rattle.emit.specs.Emit.{Em, em, last, puts}
 use Rattle.emit.proofs.Laws.{puts-at, puts-out}
 use Rattle.gandeuch.specs.declared.answer.Answer.{Answer}
@@ -33,6 +33,14 @@ module _ (b out : Bytes) (need : ℕ) (spare spare′ : Bytes) (measure : em nee
       let z = measured b size out out′ e in
       let fits : length b ≤ length out = omega arith in
       (λ i. (refl, omega arith, ap (λ (x : Em). x .out) e ∙ puts-out b (em 0 out) (omega arith) ∙ sets-eq b out 0 (omega arith) ∙ ap (λ (n : ℕ). b ++ drop n out) (zero-add (length b))), λ i. absurd (omega arith))
+
+-- an answer that a spare buffer has room for stands in front of it
+pub spared : (b spare spare′ : Bytes) (need : ℕ) → em need spare′ ≡ puts b (em 0 spare) → need ≤ length spare → length spare < last → piece 0 need spare′ ≡ b
+spared b spare spare′ need e h k =
+    let m = measured b need spare spare′ e in
+    let long : need ≡ length b = omega arith in
+    ap₂ take long (ap (λ (x : Em). x .out) e ∙ puts-out b (em 0 spare) (omega arith) ∙ sets-eq b spare 0 (omega arith))
+    ∙ take-append-seam b (drop (0 + length b) spare)
 
 -- the answer for what the texts say
 pub answered : (o q : Outcome) (before after : Bytes) (r : Answer) → q ≡ o → Answered o before after r → Answered q before after r

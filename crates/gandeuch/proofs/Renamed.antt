@@ -4,8 +4,9 @@ use mathlib.Core.Path.{_≡_, refl, sym, ap, _∙_}
 use mathlib.Core.List.{List, [], _∷_}
 use mathlib.Core.Bool.{Bool, true, false, cond, _||_, true≢false}
 use native.Mathlib.Nat.{le-refl}
+use native.Mathlib.Omega.{arith}
 use lib.ListN.{length, getD}
-use Rattle.text.specs.Text.{Bytes, Line, same, linesOf}
+use Rattle.text.specs.Text.{Bytes, Line, same, piece, linesOf}
 use Rattle.text.proofs.Texts.{lines-back}
 use Rattle.algebra.specs.Tree.{Pattern}
 use Rattle.algebra.specs.Query.{Pair, mapping}
@@ -42,7 +43,10 @@ use Rattle.gandeuch.specs.Code.{Known, KnownPairs, Targets, lookLast}
 use Rattle.gandeuch.proofs.Tables.{known-valid, known-depth, known-names, known-lines, said-good}
 use Rattle.gandeuch.proofs.Alike.{rename-alike}
 use Rattle.gandeuch.proofs.Mapping.{look-becomes}
-use Rattle.gandeuch.proofs.Answers.{too-short, all-written, answered}
+use Rattle.gandeuch.proofs.Answers.{too-short, all-written, spared, answered}
+
+pub put-piece : (b c : Bytes) (e e′ : Em) → e′ ≡ puts b e → b ≡ c → e′ ≡ puts c e
+put-piece b c e e′ p q = p ∙ ap (λ (x : Bytes). puts x e) q
 
 -- ---- the mapping
 
@@ -112,6 +116,13 @@ module _ (s : Bytes) (a l h : List ℕ) (n : ℕ) (k : Known s a l h n) (pairs :
         → here s next size out′ flags″ ≡ tree (listing s a l n) new 64 patterns silent (here s 0 0 out flags′) → Answered (renameOutcome s pairs) out out′ (Written size)
     rename-written next size out′ flags″ i j w =
         answered _ _ out out′ (Written size) outcome-is (all-written _ out need tiny tiny′ (walk-puts from need tiny tiny′ flags flags′ measure) size out′ i j (walk-puts next size out out′ flags′ flags″ w))
+
+    -- a short answer is copied from the spare buffer
+    pub rename-copied : (size : ℕ) (out′ : Bytes) → need ≤ length out → length out < last → length tiny ≡ 8192 → need ≤ 8192
+        → em size out′ ≡ puts (piece 0 need tiny′) (em 0 out) → Answered (renameOutcome s pairs) out out′ (Written size)
+    rename-copied size out′ i j x y e =
+        let w = walk-puts from need tiny tiny′ flags flags′ measure in
+        answered _ _ out out′ (Written size) outcome-is (all-written _ out need tiny tiny′ w size out′ i j (e ∙ ap (λ (b : Bytes). puts b (em 0 out)) (spared _ tiny tiny′ need w (omega arith) (omega arith))))
 
 -- ---- a text that is refused
 

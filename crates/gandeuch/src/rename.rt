@@ -1,10 +1,12 @@
 // The call rename: a tree under the names that a mapping gives.
 use crate::answer::Answer;
 use algebra::Answer as Check;
+use emit::put_all;
 use lists::check_mapping;
 use names::find_name;
 use reading::check_tree;
 use text::find;
+use text::piece;
 use walking::line::line_end;
 use walking::tree::rename_in_graph_pattern;
 ghost use mathlib.Core.Path.{_≡_};
@@ -85,7 +87,8 @@ fn find_targets(
     }
 }
 
-// The answer for a tree and a mapping that were checked: measured on a buffer without room, and written if it fits.
+// The answer for a tree and a mapping that were checked: measured on a spare buffer, and written if it fits. A short answer then
+// stands in the spare buffer already.
 fn rename_of(
     tree: &[u8],
     starts: &[u16; 1024],
@@ -111,7 +114,7 @@ fn rename_of(
         &mut spans,
     );
     let mut flags = [0u8; 2048];
-    let mut spare = [0u8; 0];
+    let mut spare = [0u8; 8192];
     let need = rename_in_graph_pattern(
         tree,
         starts,
@@ -131,6 +134,10 @@ fn rename_of(
     let size = need.at;
     if out.len() < size {
         return Answer::TooShort;
+    }
+    if size <= 8192 {
+        let copied = put_all(out, 0, piece(&spare, 0, size));
+        return Answer::Written(copied);
     }
     let put = rename_in_graph_pattern(
         tree,

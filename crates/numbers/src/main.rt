@@ -1,12 +1,7 @@
 // The numbers of the checks: for each record of the file `texts` a line of its label and the number of its text.
-//
-// A record is a header line of the kind of the text, its size and its label, then the text, then a line end.
 // The kinds are 0 tree, 1 query, 2 join list, 3 constant list, 4 mapping, 5 binding sets and 6 filters.
 use algebra::Answer;
 use algebra::number;
-use cursor::Cursor;
-use cursor::Field;
-use libc::SEEK_SET;
 use libc::STDOUT_FILENO;
 use lists::check_constants;
 use lists::check_joins;
@@ -15,84 +10,16 @@ use reading::check_filters;
 use reading::check_query;
 use reading::check_sets;
 use reading::check_tree;
-use text::Number;
-use text::number_of;
+use records::LIMIT;
+use records::NONE;
+use records::read_record;
 use text::piece;
-ghost use mathlib.Core.Path.{_≡_};
-ghost use Prim.Native.Nat.{_≤_, _<_};
+ghost use Prim.Native.Nat.{_<_};
 
-// No file goes on behind this place.
-const LIMIT: u64 = 1099511627776;
-
-// Where the label starts and the header ends. A kind of 7 says that it is no header.
-struct Header {
-    kind: u32,
-    size: u32,
-    label: usize,
-    end: usize,
-}
-
-// Where the next record starts, the limit if there is none, and where the output goes on.
+// Where the next record starts, and where the output goes on.
 struct Step {
     at: u64,
     to: usize,
-}
-
-// The bytes from one place to another, as far as there are any.
-fn between(s: &[u8], from: usize, to: usize) -> &[u8] {
-    if to < from {
-        return &s[..0];
-    }
-    piece(s, from, to - from)
-}
-
-// The next field of a line, if the line is ended and a field is left.
-fn field_at(s: &[u8], line: Cursor) -> Field {
-    if s.len() <= line.end {
-        return Field::None;
-    }
-    line.next_field(s)
-}
-
-fn no_header() -> Header
-    ensures { λ r. ⌜ r .end ≤ 400 ⌝ }
-{
-    Header {
-        kind: 7,
-        size: 0,
-        label: 0,
-        end: 0,
-    }
-}
-
-// The header that starts here, of at most 400 bytes.
-fn read_header(s: &[u8]) -> Header
-    ensures { λ r. ⌜ r .end ≤ 400 ⌝ }
-{
-    let line = Cursor::new(0).next_line(s);
-    let end = line.end;
-    if 400 < end {
-        return no_header();
-    }
-    let Field::At(first, more) = field_at(s, line) else {
-        return no_header();
-    };
-    let second = more.at;
-    let Field::At(third, rest) = field_at(s, more) else {
-        return no_header();
-    };
-    let Number::Is(kind) = number_of(between(s, 0, first)) else {
-        return no_header();
-    };
-    let Number::Is(size) = number_of(between(s, second, third)) else {
-        return no_header();
-    };
-    Header {
-        kind,
-        size,
-        label: rest.at,
-        end,
-    }
 }
 
 fn check(
@@ -148,49 +75,9 @@ fn put_line(out: &mut [u8; 65536], from: usize, label: &[u8], n: u64) -> usize {
     put(out, to, 10)
 }
 
-fn bad_record(out: &mut [u8; 65536], from: usize) -> Step
-    ensures { λ r. ⌜ r .at ≡ 1099511627776 ⌝ }
-{
+fn put_bad_record(out: &mut [u8; 65536], from: usize) -> usize {
     let to = room(out, from);
-    let to = put_all(out, to, b"bad record\n");
-    Step { at: LIMIT, to }
-}
-
-// The record that starts here, at a place of the file.
-fn record(
-    s: &[u8],
-    at: u64,
-    starts: &mut [u16; 1024],
-    sizes: &mut [u16; 1024],
-    hints: &mut [u16; 4096],
-    out: &mut [u8; 65536],
-    to: usize,
-) -> Step
-    requires { ⌜ at < 1099511627776 ⌝ }
-    ensures { λ r. ⌜ at < r .at ⌝ }
-{
-    let h = read_header(s);
-    if 6 < h.kind {
-        return bad_record(out, to);
-    }
-    if 20000 < h.size {
-        return bad_record(out, to);
-    }
-    let from = h.end + 1;
-    let size = h.size as usize;
-    let end = from + size;
-    if s.len() <= end {
-        return bad_record(out, to);
-    }
-    if s[end] != 10 {
-        return bad_record(out, to);
-    }
-    let a = check(h.kind, piece(s, from, size), starts, sizes, hints);
-    let to = put_line(out, to, between(s, h.label, h.end), number(a));
-    Step {
-        at: at + end as u64 + 1,
-        to,
-    }
+    put_all(out, to, b"bad record\n")
 }
 
 // The record at a place of the file.
@@ -207,12 +94,20 @@ fn turn(
     requires { ⌜ at < 1099511627776 ⌝ }
     ensures { λ r. ⌜ at < r .at ⌝ }
 {
-    libc::lseek(fd, at as i64, SEEK_SET);
-    let n = io::read_full(fd, window);
-    if n == 0 {
-        return Step { at: LIMIT, to };
+    let r = read_record(fd, at, window);
+    let next = r.next;
+    if r.kind == NONE {
+        return Step { at: next, to };
     }
-    record(&window[..n], at, starts, sizes, hints, out, to)
+    if 6 < r.kind {
+        let to = put_bad_record(out, to);
+        return Step { at: next, to };
+    }
+    let text = piece(window, r.text, r.text_size);
+    let a = check(r.kind, text, starts, sizes, hints);
+    let label = piece(window, r.label, r.label_size);
+    let to = put_line(out, to, label, number(a));
+    Step { at: next, to }
 }
 
 fn run(

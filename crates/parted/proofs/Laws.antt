@@ -131,24 +131,33 @@ pub ends-open : (s : Bytes) (from at e : ℕ) → Within s from at → from ≤ 
 ends-open s from at e w l f h =
     let m : at ≤ e = f .low in
     let k : e ≤ length s = f .high in
-    record
-    { low = omega arith; high = k; room = λ r. absurd (omega arith)
-    ; first = w ∙ ap (before (part from at s)) (from-open s at e f (omega arith)) ∙ before-first (part from at s) (part at e s) [] ∙ ap₂ _∷_ (part-join s from at e l m) (sym (after-none s e h)) }
+    record {
+      low = omega arith;
+      high = k;
+      room = λ r. absurd (omega arith);
+      first = w ∙ ap (before (part from at s)) (from-open s at e f (omega arith)) ∙ before-first (part from at s) (part at e s) [] ∙ ap₂ _∷_ (part-join s from at e l m) (sym (after-none s e h));
+    }
 
 pub ends-bar : (s : Bytes) (from at e : ℕ) → Within s from at → from ≤ at → First 10 s at (length s) e → e < length s → same (part at e s) bar ≡ true → Ends s from at
 ends-bar s from at e w l f h q =
     let m : at ≤ e = f .low in
     let two : e ≡ at + 2 = bar-long s at e m (f .high) q in
     let three : e + 1 ≡ at + 3 = omega arith in
-    record
-    { low = l; high = omega arith; room = λ r. omega arith
-    ; first = w ∙ ap (before (part from at s)) (from-bar s at e f h q) ∙ before-first (part from at s) [] (textsFrom s (e + 1)) ∙ ap₂ _∷_ (append-nil (part from at s)) (ap (textsFrom s) three ∙ sym (after-bar s at (omega arith))) }
+    record {
+      low = l;
+      high = omega arith;
+      room = λ r. omega arith;
+      first = w ∙ ap (before (part from at s)) (from-bar s at e f h q) ∙ before-first (part from at s) [] (textsFrom s (e + 1)) ∙ ap₂ _∷_ (append-nil (part from at s)) (ap (textsFrom s) three ∙ sym (after-bar s at (omega arith)));
+    }
 
 pub ends-end : (s : Bytes) (from at : ℕ) → Within s from at → from ≤ at → at ≤ length s → length s ≤ at → Ends s from at
 ends-end s from at w l k h =
-    record
-    { low = l; high = k; room = λ r. absurd (omega arith)
-    ; first = w ∙ ap (before (part from at s)) (from-end s at h) ∙ before-first (part from at s) [] [] ∙ ap₂ _∷_ (append-nil (part from at s)) (sym (after-none s at h)) }
+    record {
+      low = l;
+      high = k;
+      room = λ r. absurd (omega arith);
+      first = w ∙ ap (before (part from at s)) (from-end s at h) ∙ before-first (part from at s) [] [] ∙ ap₂ _∷_ (append-nil (part from at s)) (sym (after-none s at h));
+    }
 
 -- ---- counting the texts
 

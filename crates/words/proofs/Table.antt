@@ -15,6 +15,7 @@ use mir.Facts.{fits-below}
 use borrow.Author.Tests.{leb-true}
 use Rattle.text.specs.Text.{Bytes, same, piece}
 use Rattle.text.specs.Word.{spelled}
+use Rattle.text.proofs.Basics.{same-eq}
 use Rattle.text.specs.Field.{Kind}
 use Rattle.text.specs.Code.{kindAt}
 use Rattle.algebra.specs.Query.{Domain, PlainString, extraKind}
@@ -56,6 +57,18 @@ noEntry = entry [] (row [] [])
 pub word-right : (i : ℕ) → i < 56 → piece (getD starts i 0) (getD sizes i 0) words ≡ wordAt i
 unfolding table cuts
 word-right i h = cut-at words starts sizes i h h ∙ List·getD-map (λ (e : Entry). e .word) table i noEntry
+
+-- a field of another size is another word
+pub word-other : (f : Bytes) (i : ℕ) → (length f ≡ getD sizes i 0 → ⊥) → false ≡ same f (wordAt i)
+unfolding table
+word-other f i h = go (same f (wordAt i)) refl
+  where
+    long : length (wordAt i) ≡ getD sizes i 0
+    long = ap length (sym (List·getD-map (λ (e : Entry). e .word) table i noEntry)) ∙ sym (List·getD-map length (map (λ (e : Entry). e .word) table) i [])
+
+    go : (b : Bool) → same f (wordAt i) ≡ b → false ≡ b
+    go true e = absurd (h (ap length (same-eq f (wordAt i) e) ∙ long))
+    go false e = refl
 
 -- a row written as one number, a hexadecimal digit for each of its own
 abbrev packed : Code → ℕ

@@ -267,8 +267,11 @@ fn is_word(f: &[u8], i: usize) -> bool
     requires { ⌜ i < 56 ⌝ }
     ensures { λ r. ⌜ r ≡ same (now (f .entry)) (wordAt i) ⌝ }
 {
-    let from = STARTS[i];
     let size = SIZES[i];
+    if f.len() != size {
+        return false;
+    }
+    let from = STARTS[i];
     equal(f, piece(&WORDS, from, size))
 }
 

@@ -1,6 +1,6 @@
 -- `words::is_word` meets its contract. Assumes nothing.
 use borrow.Author.Needs.{needs}
-use mathlib.Core.Path.{_≡_, refl, sym, _∙_, ap}
+use mathlib.Core.Path.{_∙_, ap}
 use Rattle.words.proofs.Table as T
 use Rattle.text.specs.Text.{same}
 use Rattle.words.proofs.is_word.Statement.{statement}
@@ -12,9 +12,10 @@ is-word-spec =
     (tie.spec
     (λ c. search needs)
     (λ c. search needs)
+    (λ c. T.word-other _ _ (c .if1 .taken))
     (λ c. search needs)
     (λ c. search needs)
     (λ c. search needs)
     (λ c κs. search needs)
     (λ c κs. search needs)
-    (λ c. c .equal .ensures ∙ ap (same _) (c .before .piece .ensures ∙ T.word-right _ (c .before .before .before .before .pre))))
+    (λ c. c .equal .ensures ∙ ap (same _) (c .before .piece .ensures ∙ T.word-right _ (c .before .before .before .before .before .pre))))

@@ -1,6 +1,6 @@
 -- `gandeuch::rename/rename_of` meets its contract. Assumes nothing.
 use borrow.Author.Needs.{needs}
-use mathlib.Core.Path.{refl}
+use mathlib.Core.Path.{refl, _∙_, ap}
 use native.Mathlib.Omega.{arith}
 use Rattle.gandeuch.proofs.Tables as T
 use Rattle.gandeuch.proofs.Scoped as S
@@ -16,6 +16,11 @@ rename-of-spec =
     (λ c. search needs)
     (λ c κs. T.known-named _ _ _ _ _ (c .before .before .before .before .before .before .before .before .before .before .pre .0))
     (λ c. R.rename-short _ _ _ _ _ (c .before .before .before .before .before .before .before .before .before .before .before .before .before .pre .0) _ (c .before .before .before .before .before .before .before .before .before .before .before .before .before .pre .1) _ _ (c .before .before .before .before .before .before .before .find-targets .ensures) _ _ _ _ _ _ _ (c .before .before .rename-in-graph-pattern .ensures) (c .if1 .taken))
-    (λ c κs. T.known-named _ _ _ _ _ (c .before .before .before .before .before .before .before .before .before .before .before .before .before .before .before .before .before .pre .0))
     (λ c. search needs)
-    (λ c. R.rename-written _ _ _ _ _ (c .before .before .before .before .before .before .before .before .before .before .before .before .before .before .before .before .before .before .before .before .pre .0) _ (c .before .before .before .before .before .before .before .before .before .before .before .before .before .before .before .before .before .before .before .before .pre .1) _ _ (c .before .before .before .before .before .before .before .before .before .before .before .before .before .before .find-targets .ensures) _ _ _ _ _ _ _ (c .before .before .before .before .before .before .before .before .before .rename-in-graph-pattern .ensures) _ _ _ _ (c .before .before .before .before .before .before .before .if1 .left) (let g = c .before .before .before .before .before .before .before .before .before .before .before .before .before .before .before .before .before .before .before .before .good in omega (arith, g)) (c .before .before .rename-in-graph-pattern2 .ensures)))
+    (λ c κs. search needs)
+    (λ c κs. search needs)
+    (λ c. search needs)
+    (λ c. R.rename-copied _ _ _ _ _ (c .before .before .before .before .before .before .before .before .before .before .before .before .before .before .before .before .before .before .before .before .pre .0) _ (c .before .before .before .before .before .before .before .before .before .before .before .before .before .before .before .before .before .before .before .before .pre .1) _ _ (c .before .before .before .before .before .before .before .before .before .before .before .before .before .before .find-targets .ensures) _ _ _ _ _ _ _ (c .before .before .before .before .before .before .before .before .before .rename-in-graph-pattern .ensures) _ _ (c .before .before .before .before .before .before .before .if1 .left) (let g = c .before .before .before .before .before .before .before .before .before .before .before .before .before .before .before .before .before .before .before .before .good in omega (arith, g)) refl (c .before .before .before .before .before .before .if2 .taken) (R.put-piece _ _ _ _ (c .before .before .put-all .ensures) (c .before .before .before .piece .ensures)))
+    (λ c κs. T.known-named _ _ _ _ _ (c .before .before .before .before .before .before .before .before .before .before .before .before .before .before .before .before .before .before .pre .0))
+    (λ c. search needs)
+    (λ c. R.rename-written _ _ _ _ _ (c .before .before .before .before .before .before .before .before .before .before .before .before .before .before .before .before .before .before .before .before .before .pre .0) _ (c .before .before .before .before .before .before .before .before .before .before .before .before .before .before .before .before .before .before .before .before .before .pre .1) _ _ (c .before .before .before .before .before .before .before .before .before .before .before .before .before .before .before .find-targets .ensures) _ _ _ _ _ _ _ (c .before .before .before .before .before .before .before .before .before .before .rename-in-graph-pattern .ensures) _ _ _ _ (c .before .before .before .before .before .before .before .before .if1 .left) (let g = c .before .before .before .before .before .before .before .before .before .before .before .before .before .before .before .before .before .before .before .before .before .good in omega (arith, g)) (c .before .before .rename-in-graph-pattern2 .ensures)))

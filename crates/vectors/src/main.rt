@@ -1,0 +1,60 @@
+// The programs' answers: for each record of the file `cases` a line of its label, then what the program writes for its text.
+// The kinds are 0 scope and 1 rename.
+use answering::answer_rename;
+use answering::answer_scope;
+use answering::write_answer;
+use gandeuch::answer::Answer;
+use libc::STDOUT_FILENO;
+use records::LIMIT;
+use records::NONE;
+use records::read_record;
+use text::piece;
+ghost use Prim.Native.Nat.{_<_};
+
+fn answer_to(kind: u32, input: &[u8], out: &mut [u8]) -> Answer {
+    match kind {
+        0 => answer_scope(input, out),
+        _ => answer_rename(input, out),
+    }
+}
+
+// The record at a place of the file, and where the next one starts.
+fn turn(fd: i32, at: u64, window: &mut [u8], out: &mut [u8]) -> u64
+    requires { ⌜ at < 1099511627776 ⌝ }
+    ensures { λ r. ⌜ at < r ⌝ }
+{
+    let r = read_record(fd, at, window);
+    let next = r.next;
+    if r.kind == NONE {
+        return next;
+    }
+    if 1 < r.kind {
+        io::write_all(STDOUT_FILENO, b"bad record\n");
+        return next;
+    }
+    io::write_all(STDOUT_FILENO, piece(window, r.label, r.label_size));
+    io::write_all(STDOUT_FILENO, b"\n");
+    let answer = answer_to(r.kind, piece(window, r.text, r.text_size), out);
+    write_answer(answer, out);
+    next
+}
+
+fn run(fd: i32, window: &mut [u8], out: &mut [u8]) {
+    let mut at: u64 = 0;
+    while at < LIMIT {
+        at = turn(fd, at, window, out);
+    }
+}
+
+fn main() {
+    let path = b"cases";
+    let fd = os::open_read(path);
+    if fd < 0 {
+        os::fail(path);
+        return;
+    }
+    let mut window = [0u8; 66560];
+    let mut out = [0u8; 65536];
+    run(fd, &mut window, &mut out);
+    libc::close(fd);
+}
