@@ -59,16 +59,20 @@ unfolding table cuts
 word-right i h = cut-at words starts sizes i h h ∙ List·getD-map (λ (e : Entry). e .word) table i noEntry
 
 -- a field of another size is another word
-pub word-other : (f : Bytes) (i : ℕ) → (length f ≡ getD sizes i 0 → ⊥) → false ≡ same f (wordAt i)
+pub word-other : (f : Bytes) (i n : ℕ) (ns : List ℕ) → ns ≡ sizes → n ≡ getD ns i 0 → (length f ≡ n → ⊥) → false ≡ same f (wordAt i)
 unfolding table
-word-other f i h = go (same f (wordAt i)) refl
+word-other f i n ns e q h = go (same f (wordAt i)) refl
   where
     long : length (wordAt i) ≡ getD sizes i 0
     long = ap length (sym (List·getD-map (λ (e : Entry). e .word) table i noEntry)) ∙ sym (List·getD-map length (map (λ (e : Entry). e .word) table) i [])
 
     go : (b : Bool) → same f (wordAt i) ≡ b → false ≡ b
-    go true e = absurd (h (ap length (same-eq f (wordAt i) e) ∙ long))
-    go false e = refl
+    go true e′ = absurd (h (ap length (same-eq f (wordAt i) e′) ∙ long ∙ sym (q ∙ ap (λ (l : List ℕ). getD l i 0) e)))
+    go false e′ = refl
+
+-- the piece that the code compares with is the word
+pub word-piece : (i a n : ℕ) (ws ss ns : List ℕ) (g : Bytes) → i < 56 → ws ≡ words → ss ≡ starts → ns ≡ sizes → a ≡ getD ss i 0 → n ≡ getD ns i 0 → g ≡ piece a n ws → g ≡ wordAt i
+word-piece i a n ws ss ns g h x y z p q r = r ∙ (λ j. piece ((p ∙ ap (λ (l : List ℕ). getD l i 0) y) j) ((q ∙ ap (λ (l : List ℕ). getD l i 0) z) j) (x j)) ∙ word-right i h
 
 -- a row written as one number, a hexadecimal digit for each of its own
 abbrev packed : Code → ℕ

@@ -7,7 +7,7 @@ ghost use mathlib.Core.List.{[]};
 ghost use lib.ListN.{getD};
 ghost use Rattle.text.specs.Text.{same};
 ghost use Rattle.algebra.specs.Table.{rowFor};
-ghost use Rattle.words.specs.Code.{wordAt, codeAt, domainAt, rowFound, sortAt, Tidy, extraFound, extraOf, first, extras};
+ghost use Rattle.words.specs.Code.{words as wordsIn, starts as startsIn, sizes as sizesIn, wordAt, codeAt, domainAt, rowFound, sortAt, Tidy, extraFound, extraOf, first, extras};
 
 // The role and the kind of each of up to three fields; what stands behind them; and of each of up to three groups of lines
 // below: so many, which number of the line counts more of them, and their sort. `specs/Code.antt` says what each number means.
@@ -38,123 +38,11 @@ pub enum Found {
 const WORDS: [u8; 227] =
     *b"tcolsbgppathjoinunionminusleftjoinfiltergraphextendvaluesorderbyprojectdistinctreducedslicegroupservicetermboundexistscallorandeqsamegtgeltleaddsubmuldivinplusnegnotifcoalescerowascdescaggaggallquerysetatrowleafrefunbinternnary";
 
-const STARTS: [usize; 56] = [
-    0,
-    1,
-    5,
-    8,
-    12,
-    16,
-    21,
-    26,
-    34,
-    40,
-    45,
-    51,
-    57,
-    64,
-    71,
-    79,
-    86,
-    91,
-    96,
-    103,
-    107,
-    112,
-    118,
-    122,
-    124,
-    127,
-    129,
-    133,
-    135,
-    137,
-    139,
-    141,
-    144,
-    147,
-    150,
-    153,
-    155,
-    159,
-    162,
-    165,
-    167,
-    175,
-    178,
-    181,
-    185,
-    188,
-    194,
-    199,
-    202,
-    204,
-    207,
-    211,
-    214,
-    216,
-    219,
-    223,
-];
+const STARTS: [u8; 56] =
+    *b"\x00\x01\x05\x08\x0c\x10\x15\x1a\x22\x28\x2d\x33\x39\x40\x47\x4f\x56\x5b\x60\x67\x6b\x70\x76\x7a\x7c\x7f\x81\x85\x87\x89\x8b\x8d\x90\x93\x96\x99\x9b\x9f\xa2\xa5\xa7\xaf\xb2\xb5\xb9\xbc\xc2\xc7\xca\xcc\xcf\xd3\xd6\xd8\xdb\xdf";
 
-const SIZES: [usize; 56] = [
-    1,
-    4,
-    3,
-    4,
-    4,
-    5,
-    5,
-    8,
-    6,
-    5,
-    6,
-    6,
-    7,
-    7,
-    8,
-    7,
-    5,
-    5,
-    7,
-    4,
-    5,
-    6,
-    4,
-    2,
-    3,
-    2,
-    4,
-    2,
-    2,
-    2,
-    2,
-    3,
-    3,
-    3,
-    3,
-    2,
-    4,
-    3,
-    3,
-    2,
-    8,
-    3,
-    3,
-    4,
-    3,
-    6,
-    5,
-    3,
-    2,
-    3,
-    4,
-    3,
-    2,
-    3,
-    4,
-    4,
-];
+const SIZES: [u8; 56] =
+    *b"\x01\x04\x03\x04\x04\x05\x05\x08\x06\x05\x06\x06\x07\x07\x08\x07\x05\x05\x07\x04\x05\x06\x04\x02\x03\x02\x04\x02\x02\x02\x02\x03\x03\x03\x03\x02\x04\x03\x03\x02\x08\x03\x03\x04\x03\x06\x05\x03\x02\x03\x04\x03\x02\x03\x04\x04";
 
 // The row of each word, a hexadecimal digit a number.
 const ROWS: [u64; 56] = [
@@ -217,7 +105,7 @@ const ROWS: [u64; 56] = [
 ];
 
 // Where the words of each sort begin, and the end.
-const FIRST: [usize; 13] = [0, 1, 2, 19, 41, 42, 44, 46, 47, 48, 49, 50, 56];
+const FIRST: [u8; 13] = *b"\x00\x01\x02\x13\x29\x2a\x2c\x2e\x2f\x30\x31\x32\x38";
 
 const DOMAINS: [u8; 128] =
     *b"PlainStringLanguageTaggedStringIriFloatDoubleUnsignedLongNonNegativeLongUnsignedIntNonNegativeIntLongIntBooleanNullTupleMapOther";
@@ -263,16 +151,22 @@ const EXTRAS: [u8; 16] = [
     13,
 ];
 
-fn is_word(f: &[u8], i: usize) -> bool
-    requires { ⌜ i < 56 ⌝ }
+fn is_word(f: &[u8], i: usize, words: &[u8; 227], starts: &[u8; 56], sizes: &[u8; 56]) -> bool
+    requires { ⌜ (i < 56) × (now words ≡ wordsIn) × (now starts ≡ startsIn) × (now sizes ≡ sizesIn) ⌝ }
     ensures { λ r. ⌜ r ≡ same (now (f .entry)) (wordAt i) ⌝ }
 {
-    let size = SIZES[i];
+    let size = wide(sizes[i]);
     if f.len() != size {
         return false;
     }
-    let from = STARTS[i];
-    equal(f, piece(&WORDS, from, size))
+    let from = wide(starts[i]);
+    equal(f, piece(words, from, size))
+}
+
+fn wide(x: u8) -> usize
+    ensures { λ r. ⌜ r ≡ x ⌝ }
+{
+    x as usize
 }
 
 fn row_at(i: usize) -> Row
@@ -304,7 +198,7 @@ fn first_of(sort: usize) -> usize
     requires { ⌜ sort < 13 ⌝ }
     ensures { λ r. ⌜ r ≡ getD first sort 0 ⌝ }
 {
-    FIRST[sort]
+    wide(FIRST[sort])
 }
 
 // The row of a word at the head of a line of a sort.
@@ -313,11 +207,14 @@ pub fn lookup(sort: u8, f: &[u8]) -> Found
     ensures { λ r. ⌜ rowFound r ≡ rowFor (sortAt sort) (now (f .entry)) ⌝ }
     ensures tidy { λ r. ⌜ Tidy sort r ⌝ }
 {
+    let words = WORDS;
+    let starts = STARTS;
+    let sizes = SIZES;
     let s = sort as usize;
     let end = first_of(s + 1);
     let mut i = first_of(s);
     while i < end {
-        if is_word(f, i) {
+        if is_word(f, i, &words, &starts, &sizes) {
             return Found::Is(row_at(i));
         }
         i += 1;

@@ -11,11 +11,10 @@ is-word-spec =
     tie.close
     (tie.spec
     (λ c. search needs)
-    (λ c. search needs)
-    (λ c. T.word-other _ _ (c .if1 .taken))
-    (λ c. search needs)
-    (λ c. search needs)
+    (λ c κs. search needs)
+    (λ c. T.word-other _ (c .before .before .before .before .args .i) _ (c .before .before .before .before .args .sizes .now) (c .before .before .before .before .pre .3) (c .before .wide .ensures) (c .if1 .taken))
     (λ c. search needs)
     (λ c κs. search needs)
     (λ c κs. search needs)
-    (λ c. c .equal .ensures ∙ ap (same _) (c .before .piece .ensures ∙ T.word-right _ (c .before .before .before .before .before .pre))))
+    (λ c κs. search needs)
+    (λ c. c .equal .ensures ∙ ap (same _) (T.word-piece (c .before .before .before .before .before .before .before .before .before .args .i) _ _ (c .before .before .before .before .before .before .before .before .before .args .words .now) (c .before .before .before .before .before .before .before .before .before .args .starts .now) (c .before .before .before .before .before .before .before .before .before .args .sizes .now) _ (c .before .before .before .before .before .before .before .before .before .pre .0) (c .before .before .before .before .before .before .before .before .before .pre .1) (c .before .before .before .before .before .before .before .before .before .pre .2) (c .before .before .before .before .before .before .before .before .before .pre .3) (c .before .before .before .wide2 .ensures) (c .before .before .before .before .before .before .wide .ensures) (c .before .piece .ensures))))
