@@ -1,12 +1,12 @@
 -- The call rename, from the walk's bytes to the renamed tree's layout. Assumes nothing.
-use Prim.Native.Nat.{ℕ, suc, _≤_, _<_}
+use Prim.Native.Nat.{ℕ, _≤_, _<_}
 use mathlib.Core.Path.{_≡_, refl, sym, ap, _∙_}
 use mathlib.Core.List.{List, [], _∷_}
-use mathlib.Core.Bool.{Bool, true, false, cond, _||_, true≢false}
+use mathlib.Core.Bool.{true, false}
 use native.Mathlib.Nat.{le-refl}
 use native.Mathlib.Omega.{arith}
 use lib.ListN.{length, getD}
-use Rattle.text.specs.Text.{Bytes, Line, same, piece, linesOf}
+use Rattle.text.specs.Text.{Bytes, Line, piece, linesOf}
 use Rattle.text.proofs.Texts.{lines-back}
 use Rattle.algebra.specs.Tree.{Pattern}
 use Rattle.algebra.specs.Query.{Pair, mapping}
@@ -26,10 +26,10 @@ use Rattle.emit.specs.Emit.{Em, em, last, puts}
 use Rattle.names.specs.Names.{listing}
 use Rattle.names.specs.Checked.{Checked}
 use Rattle.names.proofs.Laws.{listing-long}
-use Rattle.scoping.specs.Sets.{indexOf}
 use Rattle.scoping.specs.Places.{visible, silent, places, namesOf}
 use Rattle.scoping.specs.Rename.{renameInGraphPattern}
 use Rattle.scoping.specs.Numbering.{byPlace}
+use Rattle.scoping.proofs.Index.{index-none}
 use Rattle.scoping.proofs.Named.{named}
 use Rattle.scoping.proofs.FirstPlaces.{by-place-mem}
 use Rattle.walking.specs.Walk.{State, state, output, tree}
@@ -71,15 +71,6 @@ pub good-pairs : (s : Bytes) (a l h : List ℕ) (r : Check) (n : ℕ) → Checke
 good-pairs s a l h r n c q = let g = said-good (keysOf mapping) s a l h r (readPairs mapping s) n c q in record { list = g .value; read = g .read }
 
 -- ---- the names
-
-index-none : (w : Bytes) (vs : List Bytes) → mem w vs ≡ false → indexOf w vs ≡ length vs
-unfolding mem indexOf
-index-none w [] h = refl
-index-none w (v ∷ vs) h = go (same w v) (mem w vs) h (index-none w vs)
-  where
-    go : (b c : Bool) → (b || c) ≡ false → (c ≡ false → indexOf w vs ≡ length vs) → cond b 0 (suc (indexOf w vs)) ≡ suc (length vs)
-    go true c e f = absurd (true≢false e)
-    go false c e f = ap suc (f e)
 
 module _ (s : Bytes) (a l h : List ℕ) (n : ℕ) (k : Known s a l h n) (pairs : Bytes) (m : KnownPairs pairs) (targets spans : List ℕ) (t : Targets (listing s a l n) n pairs targets spans) where
   abbrev new : Bytes → Bytes

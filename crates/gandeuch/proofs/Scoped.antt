@@ -1,9 +1,9 @@
 -- The call scope, from the walk's flags to its two lines. Assumes nothing.
-use Prim.Native.Nat.{ℕ, zero, suc, _≤_, _<_}
+use Prim.Native.Nat.{ℕ, _≤_, _<_}
 use mathlib.Core.Path.{_≡_, refl, sym, ap, ap₂, _∙_}
 use mathlib.Core.List.{List, [], _∷_}
 use mathlib.Core.Bool.{Bool, true, false, cond}
-use lib.ListN.{length, getD, replicate}
+use lib.ListN.{length, replicate}
 use Rattle.text.specs.Text.{Bytes, Line, textOf, linesFrom}
 use Rattle.text.specs.Word.{bytes}
 use Rattle.algebra.specs.Valid.{mem}
@@ -13,6 +13,7 @@ use Rattle.algebra.specs.Texts.{readTree}
 use Rattle.algebra.specs.declared.Answer.the-variants as Check
 use Rattle.emit.specs.Emit.{em, last, puts}
 use Rattle.names.specs.Names.{listing}
+use Rattle.names.proofs.Cleared.{zeros}
 use Rattle.scoping.specs.Places.{visible, places}
 use Rattle.scoping.specs.Numbering.{byPlace}
 use Rattle.walking.specs.Walk.{State, state, output, tree}
@@ -28,15 +29,10 @@ use Rattle.gandeuch.proofs.Tables.{known-valid, known-depth, known-few,
 use Rattle.gandeuch.proofs.Chosen.{chosen-in-scope, chosen-hidden}
 use Rattle.gandeuch.proofs.Answers.{too-short, all-written, answered}
 
-pub zero-at : (n i : ℕ) → _≡_ {A = ℕ} (getD (replicate n 0) i 0) 0
-zero-at zero i = refl
-zero-at (suc n) zero = refl
-zero-at (suc n) (suc i) = zero-at n i
-
 -- a table of nothing but zeros leaves every name
 nothing-new : (ns : List Bytes) (pool : Bytes) (f : Bytes) → replacement ns pool (replicate 1024 0) (replicate 1024 0) f ≡ f
 unfolding replacement
-nothing-new ns pool f = rw (zero-at 1024 _)
+nothing-new ns pool f = rw (zeros 1024 .each _)
 
 module _ (s : Bytes) (a l h : List ℕ) (n : ℕ) (k : Known s a l h n) where
   module _ (pool : Bytes) (from at : ℕ) (spare spare′ : Bytes) (flags : List ℕ)

@@ -11,7 +11,7 @@ use lib.Seq.{getD-set-same, getD-set-other}
 use lib.Dec.{eqb}
 use borrow.Author.Tests.{ne-eqb}
 use Rattle.text.specs.Text.{Bytes, Line, same, part, piece, split, linesOf, linesFrom, First}
-use Rattle.text.proofs.Basics.{same-eq, same-refl}
+use Rattle.text.proofs.Basics.{same-eq, same-refl, either-way}
 use Rattle.text.proofs.Texts.{glue, glue-split}
 use Rattle.text.proofs.Places.{lines-start, lines-end, lines-next}
 use Rattle.algebra.specs.Valid.{mem}
@@ -29,10 +29,6 @@ use Rattle.gandeuch.specs.Code.{orOld, lookLast, Targets, Settled}
 or-old : (s d : Bytes) → (length s ≡ 0 → ⊥) → orOld s d ≡ s
 or-old [] d h = absurd (h refl)
 or-old (x ∷ xs) d h = refl
-
-either-way : (b : Bool) (d : Bytes) → cond b d d ≡ d
-either-way true d = refl
-either-way false d = refl
 
 same-self : (f g : Bytes) → f ≡ g → same f g ≡ true
 same-self f g q = subst (λ (z : Bytes). same f z ≡ true) q (same-refl f)

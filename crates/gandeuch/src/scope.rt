@@ -3,6 +3,7 @@ use crate::answer::Answer;
 use algebra::Answer as Check;
 use emit::put;
 use emit::put_all;
+use names::wide;
 use reading::check_tree;
 use text::piece;
 use walking::tree::rename_in_graph_pattern;
@@ -16,12 +17,6 @@ ghost use Rattle.emit.specs.Emit.{em, puts};
 ghost use Rattle.gandeuch.specs.Outcome.{Answered};
 ghost use Rattle.gandeuch.specs.Scope.{scopeOutcome};
 ghost use Rattle.gandeuch.specs.Code.{Known, chosen, chosenText, tabbed};
-
-fn wide(x: u16) -> usize
-    ensures { λ r. ⌜ r ≡ x ⌝ }
-{
-    x as usize
-}
 
 // The names whose flags from `base` on are set, each after a tab.
 fn put_names(

@@ -13,7 +13,8 @@ ghost use Rattle.algebra.specs.Valid.{mem};
 ghost use Rattle.algebra.specs.Tally.{notes};
 ghost use Rattle.names.specs.Names.{hashOf, nameAt, listing, after as afterOf, Leads, Hinted, Grows, Holds, kept, Zeros};
 
-fn wide(x: u16) -> usize
+// A number of the table as a place.
+pub fn wide(x: u16) -> usize
     ensures { λ r. ⌜ r ≡ x ⌝ }
 {
     x as usize

@@ -70,3 +70,13 @@ pair-index (l ∷ ls) (r ∷ rs) a b h = go (same l a && same r b) refl h (pair-
     go : (t : Bool) → (same l a && same r b) ≡ t → (t || isPair ls rs a b) ≡ true → (isPair ls rs a b ≡ true → Paired ls rs a b) → Paired (l ∷ ls) (r ∷ rs) a b
     go true e x f = (0, omega arith, omega arith, same-eq l a (and-left (same l a) (same r b) e), same-eq r b (and-right (same l a) (same r b) e))
     go false e x f = let q = f x in (suc (q .0), omega (arith, q .1), omega (arith, q .2), q .3, q .4)
+
+-- a name that is not there has no place among them
+pub index-none : (w : Bytes) (vs : List Bytes) → mem w vs ≡ false → indexOf w vs ≡ length vs
+unfolding mem indexOf
+index-none w [] h = refl
+index-none w (v ∷ vs) h = go (same w v) (mem w vs) h (index-none w vs)
+  where
+    go : (b c : Bool) → (b || c) ≡ false → (c ≡ false → indexOf w vs ≡ length vs) → cond b 0 (suc (indexOf w vs)) ≡ suc (length vs)
+    go true c e f = absurd (true≢false e)
+    go false c e f = ap suc (f e)

@@ -55,3 +55,8 @@ deeper n (suc d) h P f = f d (omega arith)
 
 pub and-both : (a b : Bool) → a ≡ true → b ≡ true → (a && b) ≡ true
 and-both a b p q = ap₂ _&&_ p q
+
+-- a test that decides nothing
+pub either-way : {A : Type 0} (b : Bool) (x : A) → cond b x x ≡ x
+either-way true x = refl
+either-way false x = refl

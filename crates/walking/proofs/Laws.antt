@@ -18,7 +18,7 @@ use Rattle.text.specs.Field.{Kind, isVar, numberOf}
 use Rattle.text.specs.Code as N
 use Rattle.text.specs.declared.Number.{Number}
 use Rattle.text.specs.declared.Number.the-variants.{Is, Not}
-use Rattle.text.proofs.Basics.{same-eq}
+use Rattle.text.proofs.Basics.{same-eq, either-way}
 use Rattle.algebra.specs.Valid.{mem}
 use Rattle.algebra.specs.Table.{Slot, Row, rowFor}
 use Rattle.words.specs.Code.{sortAt, slotThen, slotsUnder, tailOf, rowOf, rowFound, Tidy, noCode}
@@ -181,10 +181,6 @@ module _ (f s : Bytes) (a l h : List ℕ) (n r : ℕ) (named : Named s a l h n) 
       ∙ index-at (listing s a l n) r (named .once) (omega (arith, listing-long s a l n))
 
 -- ---- one field
-
-either-way : (c : Bool) (o : Output) → cond c o o ≡ o
-either-way true o = refl
-either-way false o = refl
 
 module _ (ns : List Bytes) (new : Bytes → Bytes) (m : Mark) (f : Bytes) (at : ℕ) (out : Bytes) (fl : List ℕ) (r : ℕ) (out′ : Bytes) where
   as-it-is : em r out′ ≡ puts f (em at out) → output r out′ fl ≡ writes f (output at out fl)

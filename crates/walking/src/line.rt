@@ -2,6 +2,7 @@
 use emit::put;
 use emit::put_all;
 use names::find_name;
+use names::wide;
 use text::Number;
 use text::equal;
 use text::find;
@@ -161,12 +162,6 @@ fn is_renamed(row: Row, stays: bool, i: usize) -> bool
         return false;
     }
     is_open(row, i)
-}
-
-fn wide(x: u16) -> usize
-    ensures { λ r. ⌜ r ≡ x ⌝ }
-{
-    x as usize
 }
 
 // Notes the name at an entry of the table as standing visible or covered.

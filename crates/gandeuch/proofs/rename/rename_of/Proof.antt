@@ -3,7 +3,7 @@ use borrow.Author.Needs.{needs}
 use mathlib.Core.Path.{refl, _∙_, ap}
 use native.Mathlib.Omega.{arith}
 use Rattle.gandeuch.proofs.Tables as T
-use Rattle.gandeuch.proofs.Scoped as S
+use Rattle.names.proofs.Cleared.{zeros}
 use Rattle.gandeuch.proofs.Renamed as R
 use Rattle.gandeuch.proofs.rename.rename_of.Statement.{statement}
 use Rattle.gandeuch.proofs.rename.rename_of.Tie as tie
@@ -12,7 +12,7 @@ pub rename-of-spec : {M : Type 1} → statement M
 rename-of-spec =
     tie.close
     (tie.spec
-    (λ c κs. (R.pairs-short _ (c .before .before .before .before .before .pre .1), (refl, refl), S.zero-at 1024, T.known-named _ _ _ _ _ (c .before .before .before .before .before .pre .0)))
+    (λ c κs. (R.pairs-short _ (c .before .before .before .before .before .pre .1), (refl, refl), zeros 1024 .each, T.known-named _ _ _ _ _ (c .before .before .before .before .before .pre .0)))
     (λ c. search needs)
     (λ c κs. T.known-named _ _ _ _ _ (c .before .before .before .before .before .before .before .before .before .before .pre .0))
     (λ c. R.rename-short _ _ _ _ _ (c .before .before .before .before .before .before .before .before .before .before .before .before .before .pre .0) _ (c .before .before .before .before .before .before .before .before .before .before .before .before .before .pre .1) _ _ (c .before .before .before .before .before .before .before .find-targets .ensures) _ _ _ _ _ _ _ (c .before .before .rename-in-graph-pattern .ensures) (c .if1 .taken))
