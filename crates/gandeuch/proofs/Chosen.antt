@@ -20,8 +20,7 @@ use Rattle.scoping.proofs.Index.{at-index, index-below, mem-at, index-at}
 use Rattle.scoping.proofs.Walked.{visible-in-scope, covered-hidden}
 use Rattle.scoping.proofs.FirstPlaces.{by-place-once}
 use Rattle.walking.specs.Walk.{flagged}
-use Rattle.walking.specs.Flags.{flagAll}
-use Rattle.gandeuch.specs.Code.{chosen}
+use Rattle.walking.specs.Flags.{flagAll, chosen}
 
 -- the flag is set
 abbrev on : List ℕ → ℕ → Bool

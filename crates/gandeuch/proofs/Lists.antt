@@ -16,7 +16,8 @@ use Rattle.names.proofs.Laws.{listing-long}
 use Rattle.emit.specs.Emit.{Em, em, puts}
 use Rattle.emit.proofs.Laws.{puts-append}
 use Rattle.walking.proofs.Laws.{listing-at}
-use Rattle.gandeuch.specs.Code.{chosen, chosenText, tabbed}
+use Rattle.walking.specs.Flags.{chosen}
+use Rattle.gandeuch.specs.Code.{chosenText, tabbed}
 
 -- ---- one name
 

@@ -17,14 +17,14 @@ use Rattle.names.proofs.Cleared.{zeros}
 use Rattle.scoping.specs.Places.{visible, places}
 use Rattle.scoping.specs.Numbering.{byPlace}
 use Rattle.walking.specs.Walk.{State, state, output, tree}
-use Rattle.walking.specs.Flags.{flagAll}
+use Rattle.walking.specs.Flags.{flagAll, chosen}
 use Rattle.walking.specs.Code.{here, replacement, renames}
 use Rattle.walking.proofs.Trees.{walk-tree}
 use Rattle.gandeuch.specs.declared.answer.Answer.{Answer}
 use Rattle.gandeuch.specs.declared.answer.Answer.the-variants.{Written, Malformed, OverBound, TooShort}
 use Rattle.gandeuch.specs.Outcome.{Outcome, refused, written, Reported, Answered}
 use Rattle.gandeuch.specs.Scope.{scopeText, scopeOutcome}
-use Rattle.gandeuch.specs.Code.{Known, chosen, chosenText}
+use Rattle.gandeuch.specs.Code.{Known, chosenText}
 use Rattle.gandeuch.proofs.Tables.{known-valid, known-depth, known-few, known-names, known-lines}
 use Rattle.gandeuch.proofs.Chosen.{chosen-in-scope, chosen-hidden}
 use Rattle.gandeuch.proofs.Answers.{too-short, all-written, answered}

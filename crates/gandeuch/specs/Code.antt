@@ -4,7 +4,6 @@ use mathlib.Core.Path.{_≡_}
 use mathlib.Core.List.{List, [], _∷_}
 use mathlib.Core.Bool.{Bool, true, cond}
 use lib.ListN.{length, getD, drop}
-use lib.Dec.{eqb}
 use Rattle.text.specs.Text.{Bytes, Line, same, textOf, linesOf}
 use Rattle.text.specs.Word.{bytes}
 use Rattle.text.proofs.Texts.{glue}
@@ -17,6 +16,7 @@ use Rattle.names.specs.Names.{Holds}
 use Rattle.scoping.specs.Numbering.{byPlace}
 use Rattle.emit.specs.Emit.{Em, puts}
 use Rattle.walking.specs.Code.{replacement}
+use Rattle.walking.specs.Flags.{chosen}
 
 -- a text that was checked: it is a tree's, and the table lists the tree's names
 pub record Known (tree : Bytes) (starts sizes hints : List ℕ) (n : ℕ) : Type 0 where
@@ -28,11 +28,6 @@ pub record Known (tree : Bytes) (starts sizes hints : List ℕ) (n : ℕ) : Type
 pub record KnownPairs (pairs : Bytes) : Type 0 where
   pub list : List Pair
   pub read : readPairs mapping pairs ≡ reads list
-
--- the names whose flags, from number k on, are set
-unfoldable pub chosen : ℕ → List ℕ → List Bytes → List Bytes
-chosen k flags [] = []
-chosen k flags (f ∷ fs) = cond (eqb (getD flags k 0) 0) (chosen (suc k) flags fs) (f ∷ chosen (suc k) flags fs)
 
 -- fields, each after a tab
 unfoldable pub tabbed : List Bytes → Em → Em

@@ -16,7 +16,8 @@ ghost use Rattle.names.specs.Names.{listing, nameAt};
 ghost use Rattle.emit.specs.Emit.{em, puts};
 ghost use Rattle.gandeuch.specs.Outcome.{Answered};
 ghost use Rattle.gandeuch.specs.Scope.{scopeOutcome};
-ghost use Rattle.gandeuch.specs.Code.{Known, chosen, chosenText, tabbed};
+ghost use Rattle.walking.specs.Flags.{chosen};
+ghost use Rattle.gandeuch.specs.Code.{Known, chosenText, tabbed};
 
 // The names whose flags from `base` on are set, each after a tab.
 fn put_names(

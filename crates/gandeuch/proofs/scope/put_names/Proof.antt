@@ -7,7 +7,8 @@ use native.Mathlib.Omega.{arith}
 use lib.ListN.{length, drop}
 use Rattle.names.specs.Names.{listing}
 use Rattle.emit.specs.Emit.{em}
-use Rattle.gandeuch.specs.Code.{chosen, tabbed}
+use Rattle.walking.specs.Flags.{chosen}
+use Rattle.gandeuch.specs.Code.{tabbed}
 use Rattle.gandeuch.proofs.Lists as L
 use Rattle.gandeuch.proofs.scope.put_names.Statement.{statement}
 use Rattle.gandeuch.proofs.scope.put_names.Tie as tie

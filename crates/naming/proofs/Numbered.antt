@@ -1,0 +1,172 @@
+-- Laws of the loops over the join variables and over the table's flags, one for each turn and end. Assumes nothing.
+use mathlib.Core.Path.{_≡_, refl, sym, ap, _∙_}
+use mathlib.Core.List.{List, [], _∷_, _++_}
+use mathlib.Core.Bool.{Bool, true, false, cond, _||_, false≢true}
+use Prim.Native.Nat.{ℕ, zero, suc, _+_, _-_, _≤_, _<_}
+use native.Mathlib.Numerals.{add-one}
+use native.Mathlib.Omega.{arith}
+use lib.ListN.{length, drop, getD, length-append, drop-of-length-le}
+use lib.Seq.{drop-cons}
+use lib.Dec.{eqb}
+use borrow.Author.Tests.{eq-eqb, ne-eqb}
+use Rattle.text.specs.Text.{Bytes, same}
+use Rattle.text.proofs.Basics.{same-refl}
+use Rattle.algebra.specs.Valid.{mem}
+use Rattle.names.specs.Names.{nameAt, listing}
+use Rattle.names.proofs.Laws.{listing-long, listed}
+use Rattle.walking.proofs.Laws.{listing-at}
+use Rattle.scoping.specs.Label.{base}
+use Rattle.scoping.specs.Pushes.{Push, aPush, contains, pushed, pushes, allPushes}
+use Rattle.walking.specs.Flags.{chosen}
+use Rattle.naming.specs.Code.{book, Room, numberedBy, namesAt}
+use Rattle.naming.proofs.Book.{book-long}
+use Rattle.naming.proofs.Room.{Among, room-none, room-new, room-pushes}
+
+-- ---- pushes of lists
+
+pub pushes-none : (p c : ℕ) (us : List Bytes) (ps : List Push) → us ≡ [] → ps ≡ pushes p c us ps
+unfolding pushes
+pushes-none p c us ps e = sym (ap (λ (l : List Bytes). pushes p c l ps) e)
+
+pub pushes-one : (p c : ℕ) (v : Bytes) (us : List Bytes) (ps : List Push) → us ≡ v ∷ [] → pushed p c v ps ≡ pushes p c us ps
+unfolding pushes
+pushes-one p c v us ps e = sym (ap (λ (l : List Bytes). pushes p c l ps) e)
+
+pub pushes-append : (p c d : ℕ) (vs us : List Bytes) (ps : List Push) → d ≡ c + length vs → pushes p c (vs ++ us) ps ≡ pushes p d us (pushes p c vs ps)
+unfolding pushes
+pushes-append p c d [] us ps e = ap (λ (k : ℕ). pushes p k us ps) (omega arith)
+pushes-append p c d (v ∷ vs) us ps e = pushes-append p (suc c) d vs us (pushed p c v ps) (omega arith)
+
+-- the join variables, then the names in scope, then the hidden ones
+pub all-three : (p c : ℕ) (flags : List ℕ) (vs ns : List Bytes) (ps qs rs : List Push) → ps ≡ pushes 106 0 vs [] → qs ≡ pushes p 0 (chosen 0 flags ns) ps → c ≡ 0 + length (chosen 0 flags ns)
+    → rs ≡ pushes p c (chosen 1024 flags ns) qs → rs ≡ allPushes p (numberedBy flags ns) vs
+unfolding allPushes numberedBy
+all-three p c flags vs ns ps qs rs x y e z =
+    z
+    ∙ ap (pushes p c (chosen 1024 flags ns)) y
+    ∙ sym (pushes-append p 0 c (chosen 0 flags ns) (chosen 1024 flags ns) ps e)
+    ∙ ap (pushes p 0 (chosen 0 flags ns ++ chosen 1024 flags ns)) x
+
+-- ---- the join variables
+
+module _ (s : Bytes) (a l js : List ℕ) (m i : ℕ) (ps : List Push) where
+  pub joins-next : (k : ℕ) (qs : List Push) → i < m → k ≡ getD js i 0 → qs ≡ pushed 106 i (nameAt s a l k) ps
+      → pushes 106 (i + 1) (namesAt s a l js (m - (i + 1)) (i + 1)) qs ≡ pushes 106 i (namesAt s a l js (m - i) i) ps
+  unfolding pushes namesAt
+  joins-next k qs h e q =
+      let less : m - i ≡ suc (m - suc i) = omega arith in
+      rw (q, e, add-one) (sym (ap (λ (c : ℕ). pushes 106 i (namesAt s a l js c i) ps) less))
+
+  pub joins-done : m ≤ i → ps ≡ pushes 106 i (namesAt s a l js (m - i) i) ps
+  unfolding pushes namesAt
+  joins-done h = let none : m - i ≡ 0 = omega arith in sym (ap (λ (c : ℕ). pushes 106 i (namesAt s a l js c i) ps) none)
+
+-- they are names of the table
+names-among : (s : Bytes) (a l : List ℕ) (n : ℕ) (js : List ℕ) (c i : ℕ) → ((k : ℕ) → k < i + c → getD js k 0 < n) → Among (namesAt s a l js c i) (listing s a l n)
+unfolding namesAt mem
+names-among s a l n js zero i h v m = absurd (false≢true m)
+names-among s a l n js (suc c) i h v m = go (same v (nameAt s a l (getD js i 0))) refl m (names-among s a l n js c (suc i) (λ k b. h k (omega arith)) v)
+  where
+    go : (t : Bool) → same v (nameAt s a l (getD js i 0)) ≡ t → (t || mem v (namesAt s a l js c (suc i))) ≡ true
+        → (mem v (namesAt s a l js c (suc i)) ≡ true → mem v (listing s a l n) ≡ true) → mem v (listing s a l n) ≡ true
+    go true e x r = listed v s a l (getD js i 0) n (h i (omega arith)) e
+    go false e x r = r x
+
+pub room-joins : (s : Bytes) (a l js : List ℕ) (n m : ℕ) (ps : List Push) → ((i : ℕ) → i < m → getD js i 0 < n) → ps ≡ pushes 106 0 (namesAt s a l js m 0) [] → Room ps (listing s a l n)
+room-joins s a l js n m ps below e =
+    rw e (room-pushes 106 0 (namesAt s a l js m 0) [] (listing s a l n) (names-among s a l n js m 0 (λ k h. below k (omega arith))) (room-none (listing s a l n)))
+
+-- one push more at most
+pushed-few : (p c : ℕ) (v : Bytes) (ps : List Push) → length (pushed p c v ps) ≤ suc (length ps)
+unfolding pushed
+pushed-few p c v ps = go (contains (base v) ps)
+  where
+    go : (t : Bool) → length (cond t ps (aPush (base v) p c ∷ ps)) ≤ suc (length ps)
+    go true = omega arith
+    go false = omega arith
+
+pub push-few : (s : Bytes) (f e g z f′ e′ g′ z′ : List ℕ) (m r p c : ℕ) (v : Bytes) → book s f′ e′ g′ z′ r ≡ pushed p c v (book s f e g z m) → r ≤ m + 1
+push-few s f e g z f′ e′ g′ z′ m r p c v h =
+    omega (arith, ap length h, pushed-few p c v (book s f e g z m), book-long s f e g z m, book-long s f′ e′ g′ z′ r)
+
+-- ---- the names by their flags
+
+-- one flag
+pub one-none : (flag : ℕ) (v : Bytes) → flag ≡ 0 → cond (eqb flag 0) [] (v ∷ []) ≡ []
+one-none flag v h = ap (λ (t : Bool). cond t [] (v ∷ [])) (eq-eqb flag 0 h)
+
+pub one-some : (flag : ℕ) (v : Bytes) → (flag ≡ 0 → ⊥) → cond (eqb flag 0) [] (v ∷ []) ≡ v ∷ []
+one-some flag v h = ap (λ (t : Bool). cond t [] (v ∷ [])) (ne-eqb flag 0 h)
+
+chosen-cons : (k : ℕ) (flags : List ℕ) (f : Bytes) (fs : List Bytes) → chosen k flags (f ∷ fs) ≡ cond (eqb (getD flags k 0) 0) [] (f ∷ []) ++ chosen (suc k) flags fs
+unfolding chosen
+chosen-cons k flags f fs = go (eqb (getD flags k 0) 0)
+  where
+    go : (b : Bool) → cond b (chosen (suc k) flags fs) (f ∷ chosen (suc k) flags fs) ≡ cond b [] (f ∷ []) ++ chosen (suc k) flags fs
+    go true = refl
+    go false = refl
+
+module _ (s : Bytes) (a l flags : List ℕ) (at n k : ℕ) (h : k < n) where
+  abbrev one : List Bytes
+  one = cond (eqb (getD flags (at + k) 0) 0) [] (nameAt s a l k ∷ [])
+
+  abbrev rest : List Bytes
+  rest = chosen (at + (k + 1)) flags (drop (k + 1) (listing s a l n))
+
+  chosen-next : chosen (at + k) flags (drop k (listing s a l n)) ≡ one ++ rest
+  chosen-next =
+      let long = listing-long s a l n in
+      let step : at + (k + 1) ≡ suc (at + k) = omega arith in
+      rw (step, add-one k)
+      (ap (chosen (at + k) flags) (drop-cons (listing s a l n) k [] (omega arith))
+      ∙ chosen-cons (at + k) flags (getD (listing s a l n) k []) (drop (suc k) (listing s a l n))
+      ∙ ap (λ (f : Bytes). cond (eqb (getD flags (at + k) 0) 0) [] (f ∷ []) ++ chosen (suc (at + k)) flags (drop (suc k) (listing s a l n))) (listing-at s a l k n h))
+
+  named : mem (nameAt s a l k) (listing s a l n) ≡ true
+  named = listed (nameAt s a l k) s a l k n h (same-refl (nameAt s a l k))
+
+  -- a push that is new has room
+  pub flag-room : (f e g z : List ℕ) (m : ℕ) → n ≤ 1024 → Room (book s f e g z m) (listing s a l n) → contains (base (nameAt s a l k)) (book s f e g z m) ≡ false → m < 1024
+  flag-room f e g z m few r c =
+      omega (arith, few, room-new (nameAt s a l k) (book s f e g z m) (listing s a l n) named r c, book-long s f e g z m, listing-long s a l n)
+
+  -- a turn: what is left does what was left before it, and counts as much
+  module _ (p c d : ℕ) (ps qs : List Push) (does : qs ≡ pushes p c one ps) (counts : d ≡ c + length one) where
+    pub flag-next : pushes p d rest qs ≡ pushes p c (chosen (at + k) flags (drop k (listing s a l n))) ps
+    flag-next =
+        ap (pushes p d rest) does
+        ∙ sym (pushes-append p c d one rest ps counts)
+        ∙ ap (λ (x : List Bytes). pushes p c x ps) (sym chosen-next)
+
+    pub flag-count : d + length rest ≡ c + length (chosen (at + k) flags (drop k (listing s a l n)))
+    flag-count = omega (arith, counts, ap length chosen-next, length-append one rest)
+
+    pub flag-grows : d ≤ c + 1
+    flag-grows = go (eqb (getD flags (at + k) 0) 0) counts
+      where
+        go : (t : Bool) → d ≡ c + length (cond t [] (nameAt s a l k ∷ [])) → d ≤ c + 1
+        go true e = omega arith
+        go false e = omega arith
+
+    pub flag-keeps : Room ps (listing s a l n) → Room qs (listing s a l n)
+    unfolding mem
+    flag-keeps r = rw does (room-pushes p c one ps (listing s a l n) (go (eqb (getD flags (at + k) 0) 0)) r)
+      where
+        only : (v : Bytes) (t : Bool) → same v (nameAt s a l k) ≡ t → (t || false) ≡ true → mem v (listing s a l n) ≡ true
+        only v true e m = listed v s a l k n h e
+        only v false e m = absurd (false≢true m)
+
+        go : (t : Bool) → Among (cond t [] (nameAt s a l k ∷ [])) (listing s a l n)
+        go true v m = absurd (false≢true m)
+        go false v m = only v (same v (nameAt s a l k)) refl m
+
+pub chosen-done : (s : Bytes) (a l flags : List ℕ) (at n k : ℕ) → n ≤ k → chosen (at + k) flags (drop k (listing s a l n)) ≡ []
+unfolding chosen
+chosen-done s a l flags at n k h =
+    let long = listing-long s a l n in
+    let less : length (listing s a l n) ≤ k = omega arith in
+    ap (chosen (at + k) flags) (drop-of-length-le (listing s a l n) less)
+
+-- the pushes are at most 1,024
+pub room-few : (s : Bytes) (f e g z : List ℕ) (m : ℕ) (a l : List ℕ) (n : ℕ) → n ≤ 1024 → Room (book s f e g z m) (listing s a l n) → m ≤ 1024
+room-few s f e g z m a l n few r = omega (arith, few, r, book-long s f e g z m, listing-long s a l n)

@@ -1,0 +1,472 @@
+// nemo's standardize_variables over the variable table: which bases get a prefix and a number, and what each name of the table becomes.
+use emit::put;
+use emit::put_all;
+use text::equal;
+use text::piece;
+ghost use mathlib.Core.Path.{_≡_};
+ghost use mathlib.Core.List.{[], _∷_, _++_};
+ghost use mathlib.Core.Bool.{cond, false};
+ghost use Prim.Native.Nat.{ℕ, _+_, _≤_, _<_};
+ghost use lib.ListN.{length, getD, take};
+ghost use lib.Dec.{eqb};
+ghost use Rattle.text.specs.Text.{same};
+ghost use Rattle.text.specs.Field.{decimal};
+ghost use Rattle.names.specs.Names.{nameAt, listing};
+ghost use Rattle.emit.specs.Emit.{em, puts};
+ghost use Rattle.scoping.specs.Label.{label, isLabel, base as baseOf, generated};
+ghost use Rattle.scoping.specs.Pushes.{lookup, contains, pushed, pushes, allPushes};
+ghost use Rattle.walking.specs.Flags.{chosen};
+ghost use Rattle.naming.specs.Code.{book, Long, Room, numberedBy, namesAt, said, written, Settled, Standard};
+
+fn wide(x: u16) -> usize
+    ensures { λ r. ⌜ (r ≡ x) × (r < 65536) ⌝ }
+{
+    x as usize
+}
+
+const LABEL: [u8; 5] = *b"Label";
+
+// A name ends in the five bytes Label.
+fn ends_in_label(f: &[u8]) -> bool
+    ensures { λ r. ⌜ r ≡ isLabel (now (f .entry)) ⌝ }
+{
+    if f.len() < 5 {
+        return false;
+    }
+    let e = f.len() - 5;
+    equal(&f[e..], &LABEL)
+}
+
+// The size of a name without its Label.
+fn base_size(f: &[u8]) -> usize
+    ensures { λ r. ⌜ (take r (now (f .entry)) ≡ baseOf (now (f .entry))) × (r ≤ length (now (f .entry))) ⌝ }
+{
+    if ends_in_label(f) {
+        return f.len() - 5;
+    }
+    f.len()
+}
+
+// A name is another with Label behind it.
+fn is_label_of(f: &[u8], b: &[u8]) -> bool
+    ensures { λ r. ⌜ r ≡ same (now (f .entry)) (now (b .entry) ++ label) ⌝ }
+{
+    if ends_in_label(f) {
+        let e = f.len() - 5;
+        return equal(&f[..e], b);
+    }
+    false
+}
+
+// What was found for a name: nothing, a prefix and a number, or these with Label behind them.
+enum Hit {
+    Missing,
+    Plain(u8, u16),
+    Labelled(u8, u16),
+}
+
+// The last push for a name.
+fn find_push(
+    f: &[u8],
+    text: &[u8],
+    froms: &[u16],
+    lens: &[u16],
+    tags: &[u8],
+    numbers: &[u16],
+    m: usize,
+) -> Hit
+    requires { ⌜ (m ≤ 1024) × Long (now froms) (now lens) (now tags) (now numbers) ⌝ }
+    ensures { λ r. ⌜ said r ≡ lookup (now (f .entry)) (book (now (text .entry)) (now (froms .entry)) (now (lens .entry)) (now (tags .entry)) (now (numbers .entry)) m) ⌝ }
+{
+    let mut d = m;
+    while 0 < d {
+        let i = d - 1;
+        let from = wide(froms[i]);
+        let size = wide(lens[i]);
+        let b = piece(text, from, size);
+        if is_label_of(f, b) {
+            return Hit::Labelled(tags[i], numbers[i]);
+        }
+        if equal(f, b) {
+            return Hit::Plain(tags[i], numbers[i]);
+        }
+        d = i;
+    }
+    Hit::Missing
+}
+
+// There is a push for a name.
+fn has(
+    f: &[u8],
+    text: &[u8],
+    froms: &[u16],
+    lens: &[u16],
+    tags: &[u8],
+    numbers: &[u16],
+    m: usize,
+) -> bool
+    requires { ⌜ (m ≤ 1024) × Long (now froms) (now lens) (now tags) (now numbers) ⌝ }
+    ensures { λ r. ⌜ r ≡ contains (now (f .entry)) (book (now (text .entry)) (now (froms .entry)) (now (lens .entry)) (now (tags .entry)) (now (numbers .entry)) m) ⌝ }
+{
+    let h = find_push(f, text, froms, lens, tags, numbers, m);
+    match h {
+        Hit::Missing => false,
+        Hit::Plain(_, _) => true,
+        Hit::Labelled(_, _) => true,
+    }
+}
+
+// One push more, for the base of the name at entry k, unless there is a push for that base.
+fn push(
+    text: &[u8],
+    starts: &[u16; 1024],
+    sizes: &[u16; 1024],
+    k: usize,
+    prefix: u8,
+    count: usize,
+    froms: &mut [u16],
+    lens: &mut [u16],
+    tags: &mut [u8],
+    numbers: &mut [u16],
+    m: usize,
+) -> usize
+    requires { ⌜ (k < 1024) × (count < 65536) × (m ≤ 1024) × Long (now froms) (now lens) (now tags) (now numbers) × (contains (baseOf (nameAt (now text) (now starts) (now sizes) k)) (book (now text) (now froms) (now lens) (now tags) (now numbers) m) ≡ false → m < 1024) ⌝ }
+    ensures { λ r. ⌜ book (now (text .entry)) (now (froms .exit)) (now (lens .exit)) (now (tags .exit)) (now (numbers .exit)) r ≡ pushed prefix count (nameAt (now (text .entry)) (now (starts .entry)) (now (sizes .entry)) k) (book (now (text .entry)) (now (froms .entry)) (now (lens .entry)) (now (tags .entry)) (now (numbers .entry)) m) ⌝ }
+{
+    let from = wide(starts[k]);
+    let size = base_size(piece(text, from, wide(sizes[k])));
+    if has(piece(text, from, size), text, froms, lens, tags, numbers, m) {
+        return m;
+    }
+    froms[m] = starts[k];
+    lens[m] = size as u16;
+    tags[m] = prefix;
+    numbers[m] = count as u16;
+    m + 1
+}
+
+// Pushes for the names at the first m entries of a list, under the prefix j, numbered by their places in the list.
+fn push_joins(
+    text: &[u8],
+    starts: &[u16; 1024],
+    sizes: &[u16; 1024],
+    joins: &[u16; 64],
+    m: usize,
+    froms: &mut [u16],
+    lens: &mut [u16],
+    tags: &mut [u8],
+    numbers: &mut [u16],
+) -> usize
+    requires { ⌜ Long (now froms) (now lens) (now tags) (now numbers) × (m ≤ 64) × ((i : ℕ) → i < m → getD (now joins) i 0 < 1024) ⌝ }
+    ensures { λ r. ⌜ book (now (text .entry)) (now (froms .exit)) (now (lens .exit)) (now (tags .exit)) (now (numbers .exit)) r ≡ pushes 106 0 (namesAt (now (text .entry)) (now (starts .entry)) (now (sizes .entry)) (now (joins .entry)) m 0) [] ⌝ }
+{
+    let mut d = 0;
+    let mut i = 0;
+    while i < m {
+        let k = wide(joins[i]);
+        d = push(
+            text,
+            starts,
+            sizes,
+            k,
+            b'j',
+            i,
+            froms,
+            lens,
+            tags,
+            numbers,
+            d,
+        );
+        i += 1;
+    }
+    d
+}
+
+// How many pushes there are, and the next number.
+struct Pass {
+    m: usize,
+    count: usize,
+}
+
+// A push for the name at entry k if its flag is set: the number grows then, also where the base is there.
+fn push_one(
+    text: &[u8],
+    starts: &[u16; 1024],
+    sizes: &[u16; 1024],
+    k: usize,
+    flag: u8,
+    prefix: u8,
+    first: Pass,
+    froms: &mut [u16],
+    lens: &mut [u16],
+    tags: &mut [u8],
+    numbers: &mut [u16],
+) -> Pass
+    requires { ⌜ (k < 1024) × (first .count < 65536) × (first .m ≤ 1024) × Long (now froms) (now lens) (now tags) (now numbers) × (contains (baseOf (nameAt (now text) (now starts) (now sizes) k)) (book (now text) (now froms) (now lens) (now tags) (now numbers) (first .m)) ≡ false → first .m < 1024) ⌝ }
+    ensures { λ r. ⌜ (book (now (text .entry)) (now (froms .exit)) (now (lens .exit)) (now (tags .exit)) (now (numbers .exit)) (r .m) ≡ pushes prefix (first .count) (cond (eqb flag 0) [] (nameAt (now (text .entry)) (now (starts .entry)) (now (sizes .entry)) k ∷ [])) (book (now (text .entry)) (now (froms .entry)) (now (lens .entry)) (now (tags .entry)) (now (numbers .entry)) (first .m))) × (r .count ≡ first .count + length (cond (eqb flag 0) [] (nameAt (now (text .entry)) (now (starts .entry)) (now (sizes .entry)) k ∷ []))) ⌝ }
+{
+    if flag == 0 {
+        return first;
+    }
+    let count = first.count;
+    let m = push(
+        text,
+        starts,
+        sizes,
+        k,
+        prefix,
+        count,
+        froms,
+        lens,
+        tags,
+        numbers,
+        first.m,
+    );
+    Pass {
+        m,
+        count: count + 1,
+    }
+}
+
+// Pushes for the names of the table whose flags from `base` on are set, in the table's order.
+fn push_flagged(
+    text: &[u8],
+    starts: &[u16; 1024],
+    sizes: &[u16; 1024],
+    n: usize,
+    flags: &[u8; 2048],
+    base: usize,
+    prefix: u8,
+    first: Pass,
+    froms: &mut [u16],
+    lens: &mut [u16],
+    tags: &mut [u8],
+    numbers: &mut [u16],
+) -> Pass
+    requires { ⌜ (n ≤ 1024) × (base ≤ 1024) × (first .count ≤ 1024) × Long (now froms) (now lens) (now tags) (now numbers) × Room (book (now text) (now froms) (now lens) (now tags) (now numbers) (first .m)) (listing (now text) (now starts) (now sizes) n) ⌝ }
+    ensures { λ r. ⌜ (book (now (text .entry)) (now (froms .exit)) (now (lens .exit)) (now (tags .exit)) (now (numbers .exit)) (r .m) ≡ pushes prefix (first .count) (chosen base (now (flags .entry)) (listing (now (text .entry)) (now (starts .entry)) (now (sizes .entry)) n)) (book (now (text .entry)) (now (froms .entry)) (now (lens .entry)) (now (tags .entry)) (now (numbers .entry)) (first .m))) × (r .count ≡ first .count + length (chosen base (now (flags .entry)) (listing (now (text .entry)) (now (starts .entry)) (now (sizes .entry)) n))) × (r .count ≤ first .count + n) × Room (book (now (text .entry)) (now (froms .exit)) (now (lens .exit)) (now (tags .exit)) (now (numbers .exit)) (r .m)) (listing (now (text .entry)) (now (starts .entry)) (now (sizes .entry)) n) ⌝ }
+{
+    let mut p = first;
+    let mut k = 0;
+    while k < n {
+        p = push_one(
+            text,
+            starts,
+            sizes,
+            k,
+            flags[base + k],
+            prefix,
+            p,
+            froms,
+            lens,
+            tags,
+            numbers,
+        );
+        k += 1;
+    }
+    p
+}
+
+// A number in base ten.
+fn put_decimal(out: &mut [u8], at: usize, n: usize) -> usize
+    ensures { λ r. ⌜ em r (now (out .exit)) ≡ puts (decimal n) (em at (now (out .entry))) ⌝ }
+{
+    if n < 10 {
+        put(out, at, n as u8 + 48)
+    } else {
+        let next = put_decimal(out, at, n / 10);
+        put(out, next, (n % 10) as u8 + 48)
+    }
+}
+
+// A generated name: `?`, a prefix byte, a number.
+fn put_generated(out: &mut [u8], at: usize, prefix: u8, n: usize) -> usize
+    ensures { λ r. ⌜ em r (now (out .exit)) ≡ puts (generated prefix n) (em at (now (out .entry))) ⌝ }
+{
+    let a = put(out, at, 63);
+    let b = put(out, a, prefix);
+    put_decimal(out, b, n)
+}
+
+// What was found for a name, written: nothing, or a generated name without or with Label.
+fn put_hit(out: &mut [u8], at: usize, h: Hit) -> usize
+    ensures { λ r. ⌜ (em r (now (out .exit)) ≡ puts (written h) (em at (now (out .entry)))) × (length (written h) ≤ 12) ⌝ }
+{
+    match h {
+        Hit::Missing => at,
+        Hit::Plain(p, k) => put_generated(out, at, p, wide(k)),
+        Hit::Labelled(p, k) => {
+            let b = put_generated(out, at, p, wide(k));
+            put_all(out, b, &LABEL)
+        }
+    }
+}
+
+// The new name of the name at entry k, put into the pool at `at`: its start and size are kept, a size of 0 where the name stays.
+fn set_new_name(
+    text: &[u8],
+    starts: &[u16; 1024],
+    sizes: &[u16; 1024],
+    k: usize,
+    froms: &[u16],
+    lens: &[u16],
+    tags: &[u8],
+    numbers: &[u16],
+    m: usize,
+    pool: &mut [u8],
+    at: usize,
+    targets: &mut [u16],
+    spans: &mut [u16],
+) -> usize
+    requires { ⌜ (k < 1024) × (m ≤ 1024) × Long (now froms) (now lens) (now tags) (now numbers) × (at + 12 ≤ 16384) × (16384 ≤ length (now pool)) × (length (now targets) ≡ 1024) × (length (now spans) ≡ 1024) ⌝ }
+    ensures { λ r. ⌜ Settled (book (now (text .entry)) (now (froms .entry)) (now (lens .entry)) (now (tags .entry)) (now (numbers .entry)) m) (nameAt (now (text .entry)) (now (starts .entry)) (now (sizes .entry)) k) k at r (now (pool .entry)) (now (targets .entry)) (now (spans .entry)) (now (pool .exit)) (now (targets .exit)) (now (spans .exit)) ⌝ }
+{
+    let f = piece(text, wide(starts[k]), wide(sizes[k]));
+    let h = find_push(f, text, froms, lens, tags, numbers, m);
+    let to = put_hit(pool, at, h);
+    targets[k] = at as u16;
+    spans[k] = (to - at) as u16;
+    to
+}
+
+// The new names of all names of the table, each found once.
+fn set_new_names(
+    text: &[u8],
+    starts: &[u16; 1024],
+    sizes: &[u16; 1024],
+    n: usize,
+    froms: &[u16],
+    lens: &[u16],
+    tags: &[u8],
+    numbers: &[u16],
+    m: usize,
+    pool: &mut [u8],
+    targets: &mut [u16],
+    spans: &mut [u16],
+)
+    requires { ⌜ (n ≤ 1024) × (m ≤ 1024) × Long (now froms) (now lens) (now tags) (now numbers) × (16384 ≤ length (now pool)) × (length (now targets) ≡ 1024) × (length (now spans) ≡ 1024) ⌝ }
+    ensures { λ _. ⌜ Standard (book (now (text .entry)) (now (froms .entry)) (now (lens .entry)) (now (tags .entry)) (now (numbers .entry)) m) (listing (now (text .entry)) (now (starts .entry)) (now (sizes .entry)) n) n (now (pool .exit)) (now (targets .exit)) (now (spans .exit)) (now (spans .entry)) ⌝ }
+{
+    let mut at = 0;
+    let mut k = 0;
+    while k < n {
+        at = set_new_name(
+            text,
+            starts,
+            sizes,
+            k,
+            froms,
+            lens,
+            tags,
+            numbers,
+            m,
+            pool,
+            at,
+            targets,
+            spans,
+        );
+        k += 1;
+    }
+}
+
+// The pushes of standardize_variables: join variables under j, then the names in scope and the hidden ones under the prefix.
+fn push_all(
+    text: &[u8],
+    starts: &[u16; 1024],
+    sizes: &[u16; 1024],
+    n: usize,
+    flags: &[u8; 2048],
+    prefix: u8,
+    joins: &[u16; 64],
+    m: usize,
+    froms: &mut [u16],
+    lens: &mut [u16],
+    tags: &mut [u8],
+    numbers: &mut [u16],
+) -> usize
+    requires { ⌜ (n ≤ 1024) × (m ≤ 64) × ((i : ℕ) → i < m → getD (now joins) i 0 < n) × Long (now froms) (now lens) (now tags) (now numbers) ⌝ }
+    ensures { λ r. ⌜ (book (now (text .entry)) (now (froms .exit)) (now (lens .exit)) (now (tags .exit)) (now (numbers .exit)) r ≡ allPushes prefix (numberedBy (now (flags .entry)) (listing (now (text .entry)) (now (starts .entry)) (now (sizes .entry)) n)) (namesAt (now (text .entry)) (now (starts .entry)) (now (sizes .entry)) (now (joins .entry)) m 0)) × (r ≤ 1024) ⌝ }
+{
+    let k = push_joins(text, starts, sizes, joins, m, froms, lens, tags, numbers);
+    let a = push_flagged(
+        text,
+        starts,
+        sizes,
+        n,
+        flags,
+        0,
+        prefix,
+        Pass { m: k, count: 0 },
+        froms,
+        lens,
+        tags,
+        numbers,
+    );
+    let b = push_flagged(
+        text,
+        starts,
+        sizes,
+        n,
+        flags,
+        1024,
+        prefix,
+        a,
+        froms,
+        lens,
+        tags,
+        numbers,
+    );
+    b.m
+}
+
+// standardize_variables: what each name of the table becomes, by the flags of the names (in scope, and 1,024 on hidden) and the
+// entries of the join variables. The new names stand in the pool, each at its target; a span of 0 leaves a name as it is.
+pub fn standardize_variables(
+    text: &[u8],
+    starts: &[u16; 1024],
+    sizes: &[u16; 1024],
+    n: usize,
+    flags: &[u8; 2048],
+    prefix: u8,
+    joins: &[u16; 64],
+    m: usize,
+    pool: &mut [u8],
+    targets: &mut [u16],
+    spans: &mut [u16],
+)
+    requires { ⌜ (n ≤ 1024) × (m ≤ 64) × ((i : ℕ) → i < m → getD (now joins) i 0 < n) × (16384 ≤ length (now pool)) × (length (now targets) ≡ 1024) × (length (now spans) ≡ 1024) ⌝ }
+    ensures { λ _. ⌜ Standard (allPushes prefix (numberedBy (now (flags .entry)) (listing (now (text .entry)) (now (starts .entry)) (now (sizes .entry)) n)) (namesAt (now (text .entry)) (now (starts .entry)) (now (sizes .entry)) (now (joins .entry)) m 0)) (listing (now (text .entry)) (now (starts .entry)) (now (sizes .entry)) n) n (now (pool .exit)) (now (targets .exit)) (now (spans .exit)) (now (spans .entry)) ⌝ }
+{
+    let mut froms = [0u16; 1024];
+    let mut lens = [0u16; 1024];
+    let mut tags = [0u8; 1024];
+    let mut numbers = [0u16; 1024];
+    let k = push_all(
+        text,
+        starts,
+        sizes,
+        n,
+        flags,
+        prefix,
+        joins,
+        m,
+        &mut froms,
+        &mut lens,
+        &mut tags,
+        &mut numbers,
+    );
+    set_new_names(
+        text,
+        starts,
+        sizes,
+        n,
+        &froms,
+        &lens,
+        &tags,
+        &numbers,
+        k,
+        pool,
+        targets,
+        spans,
+    );
+}
