@@ -7,9 +7,9 @@ use lib.ListN.{length}
 use borrow.Author.Tests.{le-leb, lt-leb, eq-eqb, ne-eqb}
 use Rattle.text.specs.Text.{Bytes}
 use Rattle.parted.specs.Parted.{texts}
-use Rattle.gandeuch.specs.declared.answer.Answer.{Answer}
-use Rattle.gandeuch.specs.declared.answer.Answer.the-variants.{Malformed, OverBound}
-use Rattle.gandeuch.specs.Outcome.{Outcome, refused, Reported, Answered}
+use Rattle.answers.specs.declared.Answer.{Answer}
+use Rattle.answers.specs.declared.Answer.the-variants.{Malformed, OverBound}
+use Rattle.answers.specs.Outcome.{Outcome, refused, Reported, Answered}
 use Rattle.answering.specs.Answering.{inputOutcome}
 
 module _ (n : ℕ) (call : List Bytes → Outcome) (s : Bytes) where

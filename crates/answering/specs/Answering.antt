@@ -6,7 +6,7 @@ use lib.ListN.{length, getD}
 use lib.Dec.{leb, eqb}
 use Rattle.text.specs.Text.{Bytes}
 use Rattle.parted.specs.Parted.{texts}
-use Rattle.gandeuch.specs.Outcome.{Outcome, refused}
+use Rattle.answers.specs.Outcome.{Outcome, refused}
 use Rattle.gandeuch.specs.Scope.{scopeOutcome}
 use Rattle.gandeuch.specs.Rename.{renameOutcome}
 

@@ -1,13 +1,13 @@
 // What the programs share: an input's texts go to a call, and its answer to standard output.
-use gandeuch::answer::Answer;
-use gandeuch::c::number;
+use answers::Answer;
+use answers::number;
 use gandeuch::rename::rename;
 use gandeuch::scope::scope;
 use libc::STDOUT_FILENO;
 use parted::bars;
 use parted::text_at;
 use text::piece;
-ghost use Rattle.gandeuch.specs.Outcome.{Answered};
+ghost use Rattle.answers.specs.Outcome.{Answered};
 ghost use Rattle.answering.specs.Answering.{scopeInput, renameInput};
 
 // The bytes of the longest input, and of the longest answer.

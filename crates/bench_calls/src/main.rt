@@ -1,6 +1,6 @@
 // Reads a tree from standard input, or a tree and a mapping, calls scope, or rename, as often as the first argument says and once
 // more, and writes the length of the answer and a mix of the lengths, which keeps every call in the compiled program.
-use gandeuch::c::size_of;
+use answers::size_of;
 use gandeuch::rename::rename;
 use gandeuch::scope::scope;
 use libc::STDIN_FILENO;

@@ -1,5 +1,4 @@
 pub mod Lists
-pub mod Answers
 pub mod Alike
 pub mod Chosen
 pub mod Mapping

@@ -35,15 +35,15 @@ use Rattle.scoping.proofs.FirstPlaces.{by-place-mem}
 use Rattle.walking.specs.Walk.{State, state, output, tree}
 use Rattle.walking.specs.Code.{here, replacement, renames}
 use Rattle.walking.proofs.Trees.{walk-tree}
-use Rattle.gandeuch.specs.declared.answer.Answer.{Answer}
-use Rattle.gandeuch.specs.declared.answer.Answer.the-variants.{Written, Malformed, OverBound, TooShort}
-use Rattle.gandeuch.specs.Outcome.{Outcome, refused, written, Reported, Answered}
+use Rattle.answers.specs.declared.Answer.{Answer}
+use Rattle.answers.specs.declared.Answer.the-variants.{Written, Malformed, OverBound, TooShort}
+use Rattle.answers.specs.Outcome.{Outcome, refused, written, Reported, Answered}
 use Rattle.gandeuch.specs.Rename.{becomes, renameOutcome}
 use Rattle.gandeuch.specs.Code.{Known, KnownPairs, Targets, lookLast}
 use Rattle.gandeuch.proofs.Tables.{known-valid, known-depth, known-names, known-lines, said-good}
 use Rattle.gandeuch.proofs.Alike.{rename-alike}
 use Rattle.gandeuch.proofs.Mapping.{look-becomes}
-use Rattle.gandeuch.proofs.Answers.{too-short, all-written, spared, answered}
+use Rattle.answers.proofs.Answers.{too-short, all-written, spared, answered}
 
 pub put-piece : (b c : Bytes) (e e′ : Em) → e′ ≡ puts b e → b ≡ c → e′ ≡ puts c e
 put-piece b c e e′ p q = p ∙ ap (λ (x : Bytes). puts x e) q

@@ -20,14 +20,14 @@ use Rattle.walking.specs.Walk.{State, state, output, tree}
 use Rattle.walking.specs.Flags.{flagAll, chosen}
 use Rattle.walking.specs.Code.{here, replacement, renames}
 use Rattle.walking.proofs.Trees.{walk-tree}
-use Rattle.gandeuch.specs.declared.answer.Answer.{Answer}
-use Rattle.gandeuch.specs.declared.answer.Answer.the-variants.{Written, Malformed, OverBound, TooShort}
-use Rattle.gandeuch.specs.Outcome.{Outcome, refused, written, Reported, Answered}
+use Rattle.answers.specs.declared.Answer.{Answer}
+use Rattle.answers.specs.declared.Answer.the-variants.{Written, Malformed, OverBound, TooShort}
+use Rattle.answers.specs.Outcome.{Outcome, refused, written, Reported, Answered}
 use Rattle.gandeuch.specs.Scope.{scopeText, scopeOutcome}
 use Rattle.gandeuch.specs.Code.{Known, chosenText}
 use Rattle.gandeuch.proofs.Tables.{known-valid, known-depth, known-few, known-names, known-lines}
 use Rattle.gandeuch.proofs.Chosen.{chosen-in-scope, chosen-hidden}
-use Rattle.gandeuch.proofs.Answers.{too-short, all-written, answered}
+use Rattle.answers.proofs.Answers.{too-short, all-written, answered}
 
 -- a table of nothing but zeros leaves every name
 nothing-new : (ns : List Bytes) (pool : Bytes) (f : Bytes) → replacement ns pool (replicate 1024 0) (replicate 1024 0) f ≡ f

@@ -1,4 +1,3 @@
-pub mod Outcome
 pub mod Scope
 pub mod Rename
 pub mod Code

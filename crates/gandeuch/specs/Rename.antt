@@ -7,7 +7,7 @@ use Rattle.algebra.specs.Texts.{readTree, readPairs}
 use Rattle.algebra.specs.Layout.{layout}
 use Rattle.scoping.specs.Rename.{renameInGraphPattern}
 use Rattle.scoping.specs.Standardize.{Entry, entry, renamed}
-use Rattle.gandeuch.specs.Outcome.{Outcome, written, then}
+use Rattle.answers.specs.Outcome.{Outcome, written, then}
 
 -- mapping.get(variable).unwrap_or(variable), for the mapping whose lines are `?from ?to`
 unfoldable pub becomes : List Pair → Bytes → Bytes

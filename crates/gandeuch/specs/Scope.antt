@@ -5,7 +5,7 @@ use Rattle.text.specs.Word.{bytes}
 use Rattle.algebra.specs.Tree.{Pattern}
 use Rattle.algebra.specs.Texts.{readTree}
 use Rattle.scoping.specs.Numbering.{inScopeByPlace, hiddenByPlace}
-use Rattle.gandeuch.specs.Outcome.{Outcome, written, then}
+use Rattle.answers.specs.Outcome.{Outcome, written, then}
 
 -- the two lines: variables_in_pattern's two sets, by first place in the text
 unfoldable pub scopeText : Pattern → Bytes

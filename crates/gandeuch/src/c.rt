@@ -1,35 +1,12 @@
 // The calls for C: a slice is a pointer and a length, the answer is document 01's number, and the length goes through `size`.
-use crate::answer::Answer;
 use crate::rename::rename;
 use crate::scope::scope;
+use answers::number;
+use answers::size_of;
 ghost use mathlib.Core.Path.{_≡_};
-ghost use Rattle.gandeuch.specs.Outcome.{number as numberOf, size as sizeOf, Reported};
+ghost use Rattle.answers.specs.Outcome.{Reported};
 ghost use Rattle.gandeuch.specs.Scope.{scopeOutcome};
 ghost use Rattle.gandeuch.specs.Rename.{renameOutcome};
-
-// Document 01's number.
-pub fn number(a: Answer) -> u8
-    ensures { λ r. ⌜ r ≡ numberOf a ⌝ }
-{
-    match a {
-        Answer::Written(_) => 0,
-        Answer::Malformed => 1,
-        Answer::OverBound => 2,
-        Answer::TooShort => 6,
-    }
-}
-
-// The length of what was written, 0 of a refusal.
-pub fn size_of(a: Answer) -> usize
-    ensures { λ r. ⌜ r ≡ sizeOf a ⌝ }
-{
-    match a {
-        Answer::Written(n) => n,
-        Answer::Malformed => 0,
-        Answer::OverBound => 0,
-        Answer::TooShort => 0,
-    }
-}
 
 // scope: tree to the lines `in` and `hid`.
 #[no_mangle]

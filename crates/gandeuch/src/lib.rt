@@ -1,5 +1,4 @@
 // The public calls. Each answers with a number, a length and bytes that its texts alone decide, and takes any input.
-pub mod answer;
 pub mod c;
 pub mod rename;
 pub mod scope;

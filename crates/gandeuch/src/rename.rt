@@ -1,6 +1,6 @@
 // The call rename: a tree under the names that a mapping gives.
-use crate::answer::Answer;
 use algebra::Answer as Check;
+use answers::Answer;
 use emit::put_all;
 use lists::check_mapping;
 use names::find_name;
@@ -17,7 +17,7 @@ ghost use Rattle.text.specs.Text.{Bytes, same, part};
 ghost use Rattle.names.specs.Names.{listing};
 ghost use Rattle.algebra.specs.Valid.{mem};
 ghost use Rattle.walking.specs.Code.{Named};
-ghost use Rattle.gandeuch.specs.Outcome.{Answered};
+ghost use Rattle.answers.specs.Outcome.{Answered};
 ghost use Rattle.gandeuch.specs.Rename.{renameOutcome};
 ghost use Rattle.gandeuch.specs.Code.{Known, KnownPairs, Targets, Settled};
 

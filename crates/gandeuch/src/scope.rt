@@ -1,6 +1,6 @@
 // The call scope: the variables of a tree that are in scope, and those that are hidden.
-use crate::answer::Answer;
 use algebra::Answer as Check;
+use answers::Answer;
 use emit::put;
 use emit::put_all;
 use names::wide;
@@ -14,7 +14,7 @@ ghost use mathlib.Core.Bool.{cond};
 ghost use lib.Dec.{eqb};
 ghost use Rattle.names.specs.Names.{listing, nameAt};
 ghost use Rattle.emit.specs.Emit.{em, puts};
-ghost use Rattle.gandeuch.specs.Outcome.{Answered};
+ghost use Rattle.answers.specs.Outcome.{Answered};
 ghost use Rattle.gandeuch.specs.Scope.{scopeOutcome};
 ghost use Rattle.walking.specs.Flags.{chosen};
 ghost use Rattle.gandeuch.specs.Code.{Known, chosenText, tabbed};

@@ -6,7 +6,8 @@ use Rattle.text.specs.Text.{Bytes, same}
 use Rattle.text.specs.Field.{isVar}
 use Rattle.text.proofs.Basics.{same-eq}
 use Rattle.algebra.specs.Valid.{mem}
-use Rattle.algebra.specs.Tally.{Tally, start, notes, noted, headed, tallyTriples, tallyRows, tally, tallyE, tallyC, tallyEs, tallyOs, tallyAs}
+use Rattle.algebra.specs.Tally.{Tally, start, notes, noted, headed, tallyTriples, tallyRows, tally, tallyE, tallyC, tallyEs, tallyOs, tallyAs, tallyQuery}
+use Rattle.algebra.specs.Query.{Query}
 use Rattle.algebra.specs.Tree.{Triple}
 use Rattle.algebra.specs.Tree.{Pattern, bgp, path, join, union, minus, leftjoin, filter, graph, extend, values, orderby, project, distinct, reduced, slice, group, service}
 use Rattle.algebra.specs.Tree.{Expression, term, bound, exists, apply, call, Condition, always, provided, Expressions, eend, econs, Orders, oend, ocons, Aggregates, aend, agg, aggall}
@@ -138,6 +139,11 @@ mutual
 pub by-place-walked : (p : Pattern) → byPlace p ≡ notes (namesOf (places p visible)) []
 unfolding byPlace noting
 by-place-walked p = tally-places p visible start
+
+-- a query's head line notes none
+pub by-place-query : (q : Query) → tallyQuery q start .names ≡ byPlace (q .tree)
+unfolding byPlace tallyQuery noted notes
+by-place-query q = tally-places (q .tree) visible (noted [] start) ∙ sym (tally-places (q .tree) visible start)
 
 -- ---- the names noted are the variables among the names met, none twice
 

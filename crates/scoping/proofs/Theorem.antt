@@ -19,7 +19,7 @@ use Rattle.scoping.specs.Premises.{columnsAt, Within, Apart, Different, 
 use Rattle.scoping.proofs.Sets.{not-same}
 use Rattle.scoping.proofs.Numbered.{numbered-mem}
 use Rattle.scoping.proofs.Agree.{renamed-by-pushes}
-use Rattle.scoping.proofs.Closed.{Plain, new-name-target}
+use Rattle.scoping.proofs.Closed.{Plain, target, new-name-target}
 use Rattle.scoping.proofs.Index.{mem-at, index-at}
 use Rattle.scoping.proofs.NewVariables.{target-variable}
 use Rattle.scoping.proofs.Meet.{new-names-apart, new-names-meet}
@@ -56,7 +56,8 @@ columns-length cs [] = refl
 columns-length cs (i ∷ is) = ap suc (columns-length cs is)
 
 module _ (cs : List Bytes) (p : Pattern) (is : List ℕ) (s : Premises cs p is) where
-  column-numbered : (w : Bytes) → mem w cs ≡ true → mem w (numbered (project cs p)) ≡ true
+  -- a column is numbered
+  pub column-numbered : (w : Bytes) → mem w cs ≡ true → mem w (numbered (project cs p)) ≡ true
   unfolding variablesInPattern
   column-numbered w h = numbered-mem (project cs p) (s .valid) w ∙ ap (λ (b : Bool). b || mem w (variablesInPattern (project cs p) .hidden)) h
 
@@ -72,6 +73,10 @@ module _ (cs : List Bytes) (p : Pattern) (is : List ℕ) (s : Premises cs p is) 
   by-pushes : (prefix : ℕ) (w : Bytes) → sideName prefix cs p is w ≡ newName (allPushes prefix (numbered (project cs p)) (columnsAt cs is)) w
   unfolding sideName
   by-pushes prefix w = renamed-by-pushes prefix (numbered (project cs p)) (columnsAt cs is) w
+
+  -- each name in scope or hidden becomes j and its place among the join variables, or the prefix and its number
+  pub side-target : (prefix : ℕ) (w : Bytes) → mem w (numbered (project cs p)) ≡ true → sideName prefix cs p is w ≡ target prefix (numbered (project cs p)) (columnsAt cs is) w
+  side-target prefix w h = by-pushes prefix w ∙ new-name-target prefix (numbered (project cs p)) (columnsAt cs is) names-plain joins-plain w h
 
   -- renaming keeps apart all names in scope or hidden
   pub side-apart : (prefix : ℕ) → (prefix ≡ prefixJ → ⊥) → (w u : Bytes) → mem w (numbered (project cs p)) ≡ true → mem u (numbered (project cs p)) ≡ true

@@ -3,7 +3,7 @@
 use answering::answer_rename;
 use answering::answer_scope;
 use answering::write_answer;
-use gandeuch::answer::Answer;
+use answers::Answer;
 use libc::STDOUT_FILENO;
 use records::LIMIT;
 use records::NONE;

@@ -1,6 +1,6 @@
 -- `gandeuch::c/gandeuch_rename` meets its contract. Assumes nothing.
 use borrow.Author.Needs.{needs}
-use Rattle.gandeuch.proofs.Answers as A
+use Rattle.answers.proofs.Answers as A
 use Rattle.gandeuch.proofs.c.gandeuch_rename.Statement.{statement}
 use Rattle.gandeuch.proofs.c.gandeuch_rename.Tie as tie
 

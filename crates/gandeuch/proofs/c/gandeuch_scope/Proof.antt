@@ -1,6 +1,6 @@
 -- `gandeuch::c/gandeuch_scope` meets its contract. Assumes nothing.
 use borrow.Author.Needs.{needs}
-use Rattle.gandeuch.proofs.Answers as A
+use Rattle.answers.proofs.Answers as A
 use Rattle.gandeuch.proofs.c.gandeuch_scope.Statement.{statement}
 use Rattle.gandeuch.proofs.c.gandeuch_scope.Tie as tie
 

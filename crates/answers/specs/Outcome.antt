@@ -1,23 +1,47 @@
 -- What a public call promises: document 01, "Operation by operation", first paragraph. Assumes nothing.
 use Prim.Native.Nat.{ℕ, _≤_, _<_}
 use mathlib.Core.Path.{_≡_}
+use mathlib.Core.Bool.{Bool, true, false}
 use mathlib.Core.List.{List, _++_}
+use mathlib.Core.Option.{Option, none, some}
 use lib.ListN.{length, drop}
 use Rattle.text.specs.Text.{Bytes}
 use Rattle.algebra.specs.Reader.{Outcome as Reading, reads, refuses, refusalNumber}
-use Rattle.gandeuch.specs.declared.answer.Answer.{Answer}
-use Rattle.gandeuch.specs.declared.answer.Answer.the-variants.{Written, Malformed, OverBound, TooShort}
+use Rattle.answers.specs.declared.Answer.{Answer}
+use Rattle.answers.specs.declared.Answer.the-variants.{Written, Malformed, OverBound, Outside, NotProject, NotMergeable, TooShort}
 
--- what is to come of the texts alone: a refusal by its number, or bytes
+-- ---- what is to come of the texts alone
+
+-- a refusal by its number, or bytes
 pub data Outcome : Type 0 where
   refused : ℕ → Outcome
   written : Bytes → Outcome
 
--- "1 malformed, 2 over a bound, 6 output too short"; 0 where bytes were written
+-- a text that is refused refuses the call; else what it says decides
+abbrev pub then : {A : Type 0} → Reading A → (A → Outcome) → Outcome
+then (reads x) k = k x
+then (refuses n) k = refused (refusalNumber n)
+
+-- refused by this number where there is nothing; else what there is decides
+abbrev pub orRefused : {A : Type 0} → ℕ → Option A → (A → Outcome) → Outcome
+orRefused n none k = refused n
+orRefused n (some x) k = k x
+
+-- refused by this number unless the test holds
+abbrev pub refusedUnless : ℕ → Bool → Outcome → Outcome
+refusedUnless n true o = o
+refusedUnless n false o = refused n
+
+-- ---- what the call does
+
+-- "1 malformed, 2 over a bound, 3 position outside, 4 root isn't Project, 5 heads differ or kind not mergeable, 6 output too short"; 0 where bytes were written
 abbrev pub number : Answer → ℕ
 number (Written n) = 0
 number Malformed = 1
 number OverBound = 2
+number Outside = 3
+number NotProject = 4
+number NotMergeable = 5
 number TooShort = 6
 
 -- "A refusal returns its number and length 0"
@@ -25,6 +49,9 @@ abbrev pub size : Answer → ℕ
 size (Written n) = n
 size Malformed = 0
 size OverBound = 0
+size Outside = 0
+size NotProject = 0
+size NotMergeable = 0
 size TooShort = 0
 
 -- number, length and every byte of the buffer. "Success returns the exact length; bytes past it are unchanged"; "6 only if the answer is longer than the buffer"
@@ -37,8 +64,3 @@ Reported (written b) before after n s =
 -- the same of an answer
 abbrev pub Answered : Outcome → Bytes → Bytes → Answer → Type 0
 Answered o before after r = Reported o before after (number r) (size r)
-
--- a text that is refused refuses the call; else what it says decides
-abbrev pub then : {A : Type 0} → Reading A → (A → Outcome) → Outcome
-then (reads x) k = k x
-then (refuses n) k = refused (refusalNumber n)

@@ -9,9 +9,9 @@ use lib.Seq.{sets, sets-eq, take-append-seam}
 use Rattle.text.specs.Text.{Bytes, piece}
 use Rattle.emit.specs.Emit.{Em, em, last, puts}
 use Rattle.emit.proofs.Laws.{puts-at, puts-out}
-use Rattle.gandeuch.specs.declared.answer.Answer.{Answer}
-use Rattle.gandeuch.specs.declared.answer.Answer.the-variants.{Written, TooShort}
-use Rattle.gandeuch.specs.Outcome.{Outcome, written, number, size, Reported, Answered}
+use Rattle.answers.specs.declared.Answer.{Answer}
+use Rattle.answers.specs.declared.Answer.the-variants.{Written, TooShort}
+use Rattle.answers.specs.Outcome.{Outcome, written, number, size, Reported, Answered}
 
 -- where a measure ended
 measured : (b : Bytes) (k : ℕ) (o o′ : Bytes) → em k o′ ≡ puts b (em 0 o) → k ≡ min (length b) last

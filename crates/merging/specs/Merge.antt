@@ -1,0 +1,69 @@
+-- The calls merge patterns and merge queries: nemo's merge_project_patterns and merge_queries (queries.rs). Assumes nothing.
+use mathlib.Core.Bool.{Bool, _&&_, _||_}
+use mathlib.Core.List.{List}
+use Rattle.text.specs.Text.{Bytes, same}
+use Rattle.text.specs.Word.{bytes}
+use Rattle.algebra.specs.Tree.{Pattern}
+use Rattle.algebra.specs.Query.{Query}
+use Rattle.algebra.specs.Texts.{readTree, readQuery}
+use Rattle.algebra.specs.Layout.{layout}
+use Rattle.algebra.specs.Bounded.{layoutQuery}
+use Rattle.counting.specs.Merge.{Pair, Constant, merged}
+use Rattle.answers.specs.Outcome.{Outcome, refused, written, then, orRefused, refusedUnless}
+use Rattle.merging.specs.Request.{asProject, readJoins, readConstants, Request, request, leftSide, rightSide, allInside}
+
+-- merge_project_patterns, for two projects
+unfoldable pub mergeProjectPatterns : Request → Pattern
+unfolding merged
+mergeProjectPatterns m = merged (leftSide m) (rightSide m) (m .joins)
+
+-- "join list, left and right constants", checked in this order
+abbrev pub lists : Bytes → Bytes → Bytes → (List Pair → List Constant → List Constant → Outcome) → Outcome
+lists pairs leftConstants rightConstants k =
+    then (readJoins pairs) λ js.
+    then (readConstants leftConstants) λ ks.
+    then (readConstants rightConstants) λ ls.
+    k js ks ls
+
+-- 4 unless both roots are project, 3 if a position is outside its projection, else what the merged tree gives
+unfoldable pub mergeTrees : Pattern → Pattern → List Pair → List Constant → List Constant → (Pattern → Outcome) → Outcome
+unfolding asProject allInside mergeProjectPatterns
+mergeTrees left right js ks ls k =
+    orRefused 4 (asProject left) λ l.
+    orRefused 4 (asProject right) λ r.
+    refusedUnless 3 (allInside (request l r js ks ls)) (k (mergeProjectPatterns (request l r js ks ls)))
+
+-- "Merge patterns: the same without 5": 1, 2 for left, right, join list, left and right constants; 4; 3; the merged tree
+unfoldable pub mergePatternsOutcome : Bytes → Bytes → Bytes → Bytes → Bytes → Outcome
+unfolding readTree readJoins readConstants mergeTrees layout
+mergePatternsOutcome left right pairs leftConstants rightConstants =
+    then (readTree left) λ p.
+    then (readTree right) λ q.
+    lists pairs leftConstants rightConstants λ js ks ls.
+    mergeTrees p q js ks ls λ t. written (layout t)
+
+-- ---- queries
+
+-- select or ask: the kinds that are merged, pushed to and negated
+unfoldable pub isSelectOrAsk : Bytes → Bool
+unfolding same
+isSelectOrAsk kind = same kind (bytes "select") || same kind (bytes "ask")
+
+-- "5 heads differ or kind not mergeable": kind, dataset and base are compared by their bytes
+unfoldable pub mergeable : Query → Query → Bool
+unfolding isSelectOrAsk
+mergeable a b = isSelectOrAsk (a .kind) && (same (a .kind) (b .kind) && (same (a .dataset) (b .dataset) && same (a .base) (b .base)))
+
+-- a query's head over another tree
+abbrev pub over : Query → Pattern → Query
+over q t = record { kind = q .kind; dataset = q .dataset; base = q .base; tree = t }
+
+-- "Merge queries: 1, 2 for left, right, join list, left and right constants; 5; 4; 3"; the head and the merged tree
+unfoldable pub mergeQueriesOutcome : Bytes → Bytes → Bytes → Bytes → Bytes → Outcome
+unfolding readQuery readJoins readConstants mergeable mergeTrees layoutQuery
+mergeQueriesOutcome left right pairs leftConstants rightConstants =
+    then (readQuery left) λ a.
+    then (readQuery right) λ b.
+    lists pairs leftConstants rightConstants λ js ks ls.
+    refusedUnless 5 (mergeable a b)
+    (mergeTrees (a .tree) (b .tree) js ks ls λ t. written (layoutQuery (over a t)))
