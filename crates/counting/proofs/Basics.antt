@@ -6,7 +6,9 @@ use mathlib.Core.List.{List, [], _∷_, _++_, map}
 use lib.Dec.{T, eqb, eqb→eq, eqb-refl}
 use Rattle.text.specs.Text.{Bytes, same}
 use Rattle.text.proofs.Basics.{and-left, and-right, and-both, same-refl, same-eq}
-use Rattle.counting.specs.Bag.{Sub, all, any, mem, each, when, keep, once}
+use Rattle.scoping.specs.Sets.{all, any}
+use Rattle.algebra.specs.Valid.{mem}
+use Rattle.counting.specs.Bag.{Sub, each, when, keep, once}
 
 -- ---- Booleans
 

@@ -8,7 +8,9 @@ use native.Mathlib.Nat.{mul-comm, one-mul, zero-mul}
 use Rattle.text.specs.Text.{Bytes, same}
 use Rattle.text.specs.Field.{isVar}
 use Rattle.algebra.specs.Tree.{Triple, bgp}
-use Rattle.counting.specs.Bag.{Sub, all, any, mem, each, when, once, total, tick, count}
+use Rattle.scoping.specs.Sets.{all, any}
+use Rattle.algebra.specs.Valid.{mem}
+use Rattle.counting.specs.Bag.{Sub, each, when, once, total, tick, count}
 use Rattle.counting.specs.Row.{Cell, sameCell, Row, bind, cells, sameOn, sameRow}
 use Rattle.counting.specs.Condition.{value}
 use Rattle.counting.specs.Scope.{fieldVars, tripleVars, inScope}

@@ -6,7 +6,8 @@ use mathlib.Core.Option.{none, some}
 use Rattle.text.specs.Text.{Bytes, same}
 use Rattle.text.specs.Field.{isVar}
 use Rattle.algebra.specs.Tree.{Triple, Pattern}
-use Rattle.counting.specs.Bag.{Sub, Inj, mem, total, tick, count}
+use Rattle.algebra.specs.Valid.{mem}
+use Rattle.counting.specs.Bag.{Sub, Inj, total, tick, count}
 use Rattle.counting.specs.Row.{Cell, Row, bind, named, cells, cut, sameRow}
 use Rattle.counting.specs.Scope.{inScope, names}
 use Rattle.counting.specs.Answer.{eval, answer}

@@ -2,7 +2,8 @@
 use mathlib.Core.Path.{_≡_, refl, _∙_, ap, ap₂}
 use mathlib.Core.Bool.{Bool, true, false, cond, not, _||_}
 use mathlib.Core.List.{List, [], _∷_, _++_, map}
-use Rattle.counting.specs.Bag.{any, each, when, keep, once}
+use Rattle.scoping.specs.Sets.{any}
+use Rattle.counting.specs.Bag.{each, when, keep, once}
 
 -- every element of a list has P
 pub data Every {A : Type 0} (P : A → Type 0) : List A → Type 0 where

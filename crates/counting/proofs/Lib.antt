@@ -8,16 +8,5 @@ pub mod Columns
 pub mod Wider
 pub mod Bgp
 pub mod Laws
-pub mod Side
-pub mod Four
-pub mod Merge
-pub mod Pairs
-pub mod Fits
-pub mod Roots
-pub mod Theorem
-pub mod Naming
-pub mod Decide
 pub mod Standard
-pub mod Worked
-pub mod Needed
 pub mod Part

@@ -6,7 +6,9 @@ use mathlib.Core.Option.{none, some}
 use Rattle.text.specs.Text.{Bytes, same}
 use Rattle.algebra.specs.Tree.{Triple, Pattern, bgp, path, join, union, minus, leftjoin, filter, graph, extend, values, orderby, project, distinct, reduced, slice, group, service}
 use Rattle.algebra.specs.Tree.{Condition, always, provided}
-use Rattle.counting.specs.Bag.{Sub, all, mem, each, when, once}
+use Rattle.scoping.specs.Sets.{all}
+use Rattle.algebra.specs.Valid.{mem}
+use Rattle.counting.specs.Bag.{Sub, each, when, once}
 use Rattle.counting.specs.Row.{Cell, fits, orCell, Row, bind, merge, cut, agree, sameOn, named, oneTerm, cell}
 use Rattle.counting.specs.Condition.{termOf, passes}
 use Rattle.counting.specs.Scope.{tripleVars, inScope}

@@ -5,7 +5,8 @@ use mathlib.Core.Bool.{Bool, true, false, cond, _&&_, _||_}
 use mathlib.Core.List.{List, [], _∷_, map}
 use mathlib.Core.Option.{none, some}
 use Rattle.text.specs.Text.{Bytes, same}
-use Rattle.counting.specs.Bag.{Sub, Inj, mem}
+use Rattle.algebra.specs.Valid.{mem}
+use Rattle.counting.specs.Bag.{Sub, Inj}
 use Rattle.counting.specs.Row.{Cell, sameCell, fits, isBound, orCell, Row, empty, bind, merge, cut, agree, shares, sameOn, named, oneTerm}
 use Rattle.counting.specs.Answer.{extendBy}
 use Rattle.text.proofs.Basics.{same-eq}

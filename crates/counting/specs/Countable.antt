@@ -3,12 +3,14 @@ use mathlib.Core.Bool.{Bool, true, false, not, _&&_}
 use mathlib.Core.List.{List}
 use Prim.Native.Nat.{ℕ}
 use lib.Dec.{eqb}
-use Rattle.text.specs.Text.{Bytes}
+use Rattle.text.specs.Text.{Bytes, same}
 use Rattle.text.specs.Field.{isBlank}
 use Rattle.algebra.specs.Tree.{Triple, Pattern, bgp, path, join, union, minus, leftjoin, filter, graph, extend, values, orderby, project, distinct, reduced, slice, group, service}
 use Rattle.algebra.specs.Tree.{Expression, term, bound, exists, apply, call, Condition, always, provided, Expressions, eend, econs}
 use Rattle.algebra.specs.Tree as Tree
-use Rattle.counting.specs.Bag.{all, mem, different}
+use Rattle.scoping.specs.Sets.{all}
+use Rattle.algebra.specs.Valid.{mem}
+use Rattle.counting.specs.Bag.{different}
 use Rattle.counting.specs.Condition.{Connective, sameTerm, conjunction, disjunction, negation, outside, connective}
 use Rattle.counting.specs.Scope.{inScope, expressionVars, namesWith, names, scopedOrHidden}
 
@@ -96,7 +98,7 @@ isCountable = everywhere (record { triples = all noBlank; condition = isConditio
 
 -- no extend sets a variable in scope beneath it
 unfoldable pub extendsFresh : Pattern → Bool
-unfolding everywhere mem
+unfolding everywhere mem same
 extendsFresh = everywhere (record { triples = λ ts. true; condition = λ e. true; extended = λ v vs e. not (mem v vs); columns = λ cs. true; others = true })
 
 -- no values repeats a column
@@ -106,5 +108,5 @@ valuesOnce = everywhere (record { triples = λ ts. true; condition = λ e. true;
 
 -- every variable in an expression is in scope or hidden in that tree
 unfoldable pub expressionsKnown : Pattern → Bool
-unfolding all mem namesWith expressionVars
+unfolding all mem same namesWith expressionVars
 expressionsKnown p = all (λ v. mem v (scopedOrHidden p)) (names p)

@@ -4,8 +4,3 @@ pub mod Condition
 pub mod Scope
 pub mod Answer
 pub mod Countable
-pub mod Merge
-pub mod Expected
-pub mod Fit
-pub mod Premises
-pub mod Naming

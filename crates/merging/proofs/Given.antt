@@ -8,7 +8,7 @@ use native.Mathlib.Omega.{arith}
 use Rattle.text.specs.Text.{Bytes}
 use Rattle.algebra.specs.Tree.{Pattern, bgp, path, join, union, minus, leftjoin, filter, graph, extend, values, orderby, project, distinct, reduced, slice, group, service}
 use Rattle.algebra.specs.Reader.{Outcome as Reading, reads, refuses}
-use Rattle.counting.specs.Merge.{Pair, Constant}
+use Rattle.merging.specs.Sides.{Pair, Constant}
 use Rattle.answers.specs.Outcome.{Outcome, refused, written, then, orRefused, refusedUnless}
 use Rattle.merging.specs.Request.{Projection, tree, asProject, made, readJoins, readConstants, Request, request, allInside}
 use Rattle.merging.specs.Merge.{mergeProjectPatterns, lists, mergeTrees}

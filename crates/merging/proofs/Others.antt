@@ -20,9 +20,9 @@ use Rattle.algebra.proofs.Roomy.{read-any-exactly}
 use Rattle.scoping.specs.Label.{prefixV}
 use Rattle.scoping.specs.Numbering.{byPlace}
 use Rattle.scoping.proofs.FirstPlaces.{by-place-query}
-use Rattle.counting.specs.Bag.{all}
-use Rattle.counting.specs.Fit.{inside}
-use Rattle.counting.specs.Merge.{Constant, freeColumns}
+use Rattle.scoping.specs.Sets.{all}
+use Rattle.scoping.specs.Premises.{inside}
+use Rattle.merging.specs.Sides.{Constant, freeColumns}
 use Rattle.answers.specs.Outcome.{Outcome, written}
 use Rattle.merging.specs.Request.{Projection, tree, asProject, readConstants, positions}
 use Rattle.merging.specs.Merge.{isSelectOrAsk, over}

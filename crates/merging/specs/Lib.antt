@@ -1,3 +1,4 @@
+pub mod Sides
 pub mod Request
 pub mod Merge
 pub mod Push

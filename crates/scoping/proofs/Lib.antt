@@ -1,4 +1,5 @@
 pub mod Sets
+pub mod Positions
 pub mod Union
 pub mod Standard
 pub mod Walked

@@ -5,18 +5,21 @@ use mathlib.Core.Bool.{Bool, true, false, _||_, or-true}
 use Prim.Native.Nat.{ℕ, suc, _≤_, _<_}
 use native.Mathlib.Omega.{arith}
 use lib.ListN.{length, getD}
+use lib.Dec.{eqb}
+use borrow.Author.Tests.{eqb-false}
 use Rattle.text.specs.Text.{Bytes, same}
 use Rattle.text.specs.Field.{most, isVar}
 use Rattle.text.proofs.Basics.{same-refl}
 use Rattle.algebra.specs.Valid.{mem}
 use Rattle.algebra.specs.Tree.{Pattern, project}
-use Rattle.scoping.specs.Sets.{Once, indexOf}
+use Rattle.scoping.specs.Sets.{any, Once, indexOf}
 use Rattle.scoping.specs.Variables.{variablesInPattern}
 use Rattle.scoping.specs.Label.{isLabel, prefixJ, prefixL, prefixR}
 use Rattle.scoping.specs.Numbering.{byPlace, numbered}
 use Rattle.scoping.specs.Pushes.{allPushes, newName}
-use Rattle.scoping.specs.Premises.{columnsAt, Within, Apart, Different, Premises, Known, sideName, isPair}
+use Rattle.scoping.specs.Premises.{columnsAt, inside, differentPositions, Premises, Known, sideName, isPair}
 use Rattle.scoping.proofs.Sets.{not-same}
+use Rattle.scoping.proofs.Positions.{or-neither, inside-first, inside-rest, different-first, different-rest}
 use Rattle.scoping.proofs.Numbered.{numbered-mem}
 use Rattle.scoping.proofs.Agree.{renamed-by-pushes}
 use Rattle.scoping.proofs.Closed.{Plain, target, new-name-target}
@@ -32,23 +35,24 @@ plain-of [] h = tt
 plain-of (v ∷ vs) h =
     (h v (ap (λ (b : Bool). b || mem v vs) (same-refl v)), plain-of vs (λ w k. h w (ap (λ (b : Bool). same w v || b) k ∙ or-true (same w v))))
 
-plain-columns : (cs : List Bytes) (is : List ℕ) → ((w : Bytes) → mem w cs ≡ true → isLabel w ≡ false) → Within (length cs) is → Plain (columnsAt cs is)
+plain-columns : (cs : List Bytes) (is : List ℕ) → ((w : Bytes) → mem w cs ≡ true → isLabel w ≡ false) → inside cs is ≡ true → Plain (columnsAt cs is)
 unfolding columnsAt
 plain-columns cs [] h k = tt
-plain-columns cs (i ∷ is) h k = (h (getD cs i []) (mem-at cs i (k .0)), plain-columns cs is h (k .1))
+plain-columns cs (i ∷ is) h k = (h (getD cs i []) (mem-at cs i (inside-first cs i is k)), plain-columns cs is h (inside-rest cs i is k))
 
-column-other : (cs : List Bytes) → Once cs → (i : ℕ) → i < length cs → (is : List ℕ) → Within (length cs) is → Apart i is → mem (getD cs i []) (columnsAt cs is) ≡ false
-unfolding mem columnsAt
+column-other : (cs : List Bytes) → Once cs → (i : ℕ) → i < length cs → (is : List ℕ) → inside cs is ≡ true → any (eqb i) is ≡ false → mem (getD cs i []) (columnsAt cs is) ≡ false
+unfolding mem columnsAt any
 column-other cs o i h [] k d = refl
 column-other cs o i h (j ∷ is) k d =
     ap (λ (b : Bool). b || mem (getD cs i []) (columnsAt cs is))
-    (not-same (getD cs i []) (getD cs j []) (λ e. d .0 (sym (index-at cs i o h) ∙ ap (λ (n : Bytes). indexOf n cs) e ∙ index-at cs j o (k .0))))
-    ∙ column-other cs o i h is (k .1) (d .1)
+    (not-same (getD cs i []) (getD cs j []) (λ e. eqb-false i j (or-neither (eqb i j) (any (eqb i) is) d .0) (sym (index-at cs i o h) ∙ ap (λ (n : Bytes). indexOf n cs) e ∙ index-at cs j o (inside-first cs j is k))))
+    ∙ column-other cs o i h is (inside-rest cs j is k) (or-neither (eqb i j) (any (eqb i) is) d .1)
 
-once-columns : (cs : List Bytes) → Once cs → (is : List ℕ) → Within (length cs) is → Different is → Once (columnsAt cs is)
+once-columns : (cs : List Bytes) → Once cs → (is : List ℕ) → inside cs is ≡ true → differentPositions is ≡ true → Once (columnsAt cs is)
 unfolding columnsAt
 once-columns cs o [] k d = tt
-once-columns cs o (i ∷ is) k d = (column-other cs o i (k .0) is (k .1) (d .0), once-columns cs o is (k .1) (d .1))
+once-columns cs o (i ∷ is) k d =
+    (column-other cs o i (inside-first cs i is k) is (inside-rest cs i is k) (different-first i is d), once-columns cs o is (inside-rest cs i is k) (different-rest i is d))
 
 columns-length : (cs : List Bytes) (is : List ℕ) → length (columnsAt cs is) ≡ length is
 unfolding columnsAt

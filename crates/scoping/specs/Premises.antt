@@ -1,13 +1,14 @@
 -- What document 01 supposes of the two sides of a merge for their names, and the pairs of a join list. Assumes nothing.
 use mathlib.Core.Path.{_≡_}
-use mathlib.Core.Bool.{Bool, true, false, _||_, _&&_}
+use mathlib.Core.Bool.{Bool, true, false, not, _||_, _&&_}
 use mathlib.Core.List.{List, [], _∷_}
-use Prim.Native.Nat.{ℕ, _<_}
+use Prim.Native.Nat.{ℕ}
 use lib.ListN.{length, getD}
+use lib.Dec.{eqb, ltb}
 use Rattle.text.specs.Text.{Bytes, same}
 use Rattle.algebra.specs.Valid.{mem, Valid}
 use Rattle.algebra.specs.Tree.{Pattern, project}
-use Rattle.scoping.specs.Sets.{Once}
+use Rattle.scoping.specs.Sets.{all, any, Once}
 use Rattle.scoping.specs.Label.{isLabel, prefixL, prefixR}
 use Rattle.scoping.specs.Numbering.{byPlace, numbered}
 use Rattle.scoping.specs.Standardize.{standardizeVariables, renamed}
@@ -17,27 +18,24 @@ unfoldable pub columnsAt : List Bytes → List ℕ → List Bytes
 columnsAt cs [] = []
 columnsAt cs (i ∷ is) = getD cs i [] ∷ columnsAt cs is
 
--- every position is a column's: else refusal 3
-abbrev pub Within : ℕ → List ℕ → Type 0
-Within n [] = Unit {0}
-Within n (i ∷ is) = (i < n) × Within n is
+-- each position is one of the columns': else refusal 3
+unfoldable pub inside : List Bytes → List ℕ → Bool
+unfolding all
+inside cs is = all (λ i. ltb i (length cs)) is
 
 -- no position twice
-abbrev pub Apart : ℕ → List ℕ → Type 0
-Apart i [] = Unit {0}
-Apart i (j ∷ is) = (i ≡ j → ⊥) × Apart i is
-
-abbrev pub Different : List ℕ → Type 0
-Different [] = Unit {0}
-Different (i ∷ is) = Apart i is × Different is
+unfoldable pub differentPositions : List ℕ → Bool
+unfolding any
+differentPositions [] = true
+differentPositions (i ∷ is) = not (any (eqb i) is) && differentPositions is
 
 -- of a tree `project cs p` and its side's positions in the join list
 pub record Premises (cs : List Bytes) (p : Pattern) (is : List ℕ) : Type 0 where
   pub valid : Valid (project cs p)
   pub plain : (w : Bytes) → mem w (numbered (project cs p)) ≡ true → isLabel w ≡ false  -- no name ends in "Label"
   pub columns : Once cs  -- no column twice
-  pub positions : Within (length cs) is
-  pub different : Different is  -- no position twice on its side
+  pub positions : inside cs is ≡ true
+  pub different : differentPositions is ≡ true  -- no position twice on its side
 
 -- "every variable in an expression is in scope or hidden in that tree"; here a name of a service too
 abbrev pub Known : Pattern → Type 0

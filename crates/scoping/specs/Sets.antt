@@ -1,12 +1,22 @@
--- Lists of names read as sets, and the variables among fields. Assumes nothing.
+-- Tests over lists, lists of names read as sets, and the variables among fields. Assumes nothing.
 use Prim.Native.Nat.{ℕ, suc}
 use mathlib.Core.Path.{_≡_}
-use mathlib.Core.Bool.{Bool, true, false, cond}
+use mathlib.Core.Bool.{Bool, true, false, cond, _&&_, _||_}
 use mathlib.Core.List.{List, [], _∷_, _++_}
 use Rattle.text.specs.Text.{Bytes, same}
 use Rattle.text.specs.Field.{isVar}
 use Rattle.algebra.specs.Tree.{Triple, Aggregates, aend, agg, aggall}
 use Rattle.algebra.specs.Valid.{mem}
+
+-- every element passes
+unfoldable pub all : {A : Type 0} → (A → Bool) → List A → Bool
+all f [] = true
+all f (x ∷ xs) = f x && all f xs
+
+-- some element passes
+unfoldable pub any : {A : Type 0} → (A → Bool) → List A → Bool
+any f [] = false
+any f (x ∷ xs) = f x || any f xs
 
 -- two lists are the same set
 abbrev pub Alike : List Bytes → List Bytes → Type 0

@@ -4,12 +4,13 @@ use mathlib.Core.Bool.{Bool, true, false, _&&_, false≢true}
 use mathlib.Core.List.{List, [], _∷_}
 use mathlib.Core.Option.{none, some}
 use Rattle.text.specs.Text.{Bytes}
-use Rattle.counting.specs.Bag.{Sub, all, mem}
-use Rattle.counting.specs.Row.{Cell, fits, orCell, Row, merge, agree}
-use Rattle.counting.specs.Expected.{agreeAll}
+use Rattle.scoping.specs.Sets.{all}
+use Rattle.algebra.specs.Valid.{mem}
+use Rattle.counting.specs.Bag.{Sub}
+use Rattle.counting.specs.Row.{Cell, fits, orCell, Row, merge, agree, agreeAll}
 use Rattle.text.proofs.Basics.{and-left, and-right, same-eq}
 use Rattle.counting.proofs.Basics.{both-ways, eq-same, same-sym, all-cong, all-at, all-of}
 use Rattle.counting.proofs.Only.{Cover, agree-wider}
 
 -- ---- cells
 

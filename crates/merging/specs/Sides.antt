@@ -1,15 +1,16 @@
--- Two projections merged: nemo's merge_project_patterns (queries.rs) on trees. Assumes nothing.
--- How names are renamed is given from outside: the two maps that standardize_variables makes.
-use mathlib.Core.Bool.{cond, not}
+-- The two sides of a merge, and the tree that they are merged into: nemo's merge_project_patterns (queries.rs) on trees. Assumes nothing.
+use mathlib.Core.Bool.{Bool, cond, not}
 use mathlib.Core.List.{List, [], _∷_, _++_, map}
-use mathlib.Core.Option.{Option, none, some}
 use Prim.Native.Nat.{ℕ, suc}
-use lib.ListN.{getD}
-use lib.Dec.{eqb}
-use Rattle.text.specs.Text.{Bytes}
-use Rattle.algebra.specs.Tree.{Pattern, bgp, path, join, union, minus, leftjoin, filter, graph, extend, values, orderby, project, distinct, reduced, slice, group, service}
-use Rattle.counting.specs.Bag.{any, mem, keep}
+use lib.ListN.{length, getD}
+use lib.Dec.{eqb, ltb}
+use Rattle.text.specs.Text.{Bytes, same}
+use Rattle.algebra.specs.Tree.{Pattern, join, values, project}
 use Rattle.scoping.specs.Rename.{renameInGraphPattern}
+use Rattle.scoping.specs.Premises.{sideName}
+use Rattle.scoping.specs.Sets.{all, any}
+use Rattle.algebra.specs.Valid.{mem}
+use Rattle.counting.specs.Bag.{keep}
 
 -- a line of a join list
 pub record Pair : Type 0 where
@@ -21,12 +22,28 @@ pub record Constant : Type 0 where
   pub position : ℕ
   pub term : Bytes
 
+-- a join list's positions on the left, and on the right
+abbrev pub lefts : List Pair → List ℕ
+lefts js = map (λ j. j .left) js
+
+abbrev pub rights : List Pair → List ℕ
+rights js = map (λ j. j .right) js
+
+-- each position is one of the columns'
+unfoldable pub inside : List Bytes → List ℕ → Bool
+unfolding all
+inside cs is = all (λ i. ltb i (length cs)) is
+
 -- one of the two: a project's columns and inner pattern, the new name of each name, the constants
 pub record Side : Type 0 where
   pub columns : List Bytes
   pub inner : Pattern
   pub name : Bytes → Bytes
   pub constants : List Constant
+
+-- a side with the names that standardize_variables gives it, for its prefix and the columns at its positions
+abbrev pub standardized : ℕ → List Bytes → Pattern → List ℕ → List Constant → Side
+standardized prefix cs p is ks = record { columns = cs; inner = p; name = sideName prefix cs p is; constants = ks }
 
 -- a side's tree
 abbrev pub whole : Side → Pattern
@@ -77,42 +94,10 @@ rightJoinVariables r js = map (λ j. columnAt (r .columns) (j .right)) js
 
 -- the left columns, then the right ones that are no join variable
 unfoldable pub mergedColumns : Side → Side → List Pair → List Bytes
-unfolding freeColumns keep mem
+unfolding freeColumns keep mem same
 mergedColumns l r js = freeColumns l ++ keep (λ c. not (mem c (map (l .name) (leftJoinVariables l js)))) (freeColumns r)
 
 -- the merged tree of two sides
 unfoldable pub merged : Side → Side → List Pair → Pattern
 unfolding mergedColumns renamedPattern
 merged l r js = project (mergedColumns l r js) (join (renamedPattern l) (renamedPattern r))
-
--- a project's side
-unfoldable pub sideOf : (Bytes → Bytes) → List Constant → Pattern → Option Side
-sideOf f ks (project cs p) = some (record { columns = cs; inner = p; name = f; constants = ks })
-sideOf f ks (bgp ts) = none
-sideOf f ks (path s t o) = none
-sideOf f ks (join p q) = none
-sideOf f ks (leftjoin p q c) = none
-sideOf f ks (filter p e) = none
-sideOf f ks (union p q) = none
-sideOf f ks (graph n p) = none
-sideOf f ks (extend v p e) = none
-sideOf f ks (minus p q) = none
-sideOf f ks (values cs rs) = none
-sideOf f ks (orderby p os) = none
-sideOf f ks (distinct p) = none
-sideOf f ks (reduced p) = none
-sideOf f ks (slice s l p) = none
-sideOf f ks (group gs p rs) = none
-sideOf f ks (service n s p) = none
-
--- the merged tree, if there are two sides
-unfoldable pub mergeSides : List Pair → Option Side → Option Side → Option Pattern
-unfolding merged
-mergeSides js none r = none
-mergeSides js (some l) none = none
-mergeSides js (some l) (some r) = some (merged l r js)
-
--- merge_project_patterns: none unless both roots are project
-unfoldable pub mergeProjectPatterns : (Bytes → Bytes) → (Bytes → Bytes) → Pattern → Pattern → List Pair → List Constant → List Constant → Option Pattern
-unfolding mergeSides sideOf
-mergeProjectPatterns f h left right js ks ls = mergeSides js (sideOf f ks left) (sideOf h ls right)

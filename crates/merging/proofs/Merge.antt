@@ -6,21 +6,23 @@ use mathlib.Core.Option.{none, some}
 use Prim.Native.Nat.{ℕ}
 use Rattle.text.specs.Text.{Bytes, same}
 use Rattle.algebra.specs.Tree.{Triple, join, project}
-use Rattle.counting.specs.Bag.{Sub, mem, each, when, keep, total, tick, count}
-use Rattle.counting.specs.Row.{Cell, fits, orCell, Row, merge, cut, agree, cells, named, sameRow}
+use Rattle.algebra.specs.Valid.{mem}
+use Rattle.counting.specs.Bag.{Sub, each, when, keep, total, tick, count}
+use Rattle.counting.specs.Row.{Cell, fits, orCell, Row, merge, cut, agree, agreeAll, mergeAll, cells, named, sameRow}
 use Rattle.counting.specs.Scope.{inScope, names}
 use Rattle.counting.specs.Answer.{eval, answer}
-use Rattle.counting.specs.Merge.{Pair, Side, whole, renamedColumns, renamedPattern, freeColumns, leftJoinVariables, rightJoinVariables, mergedColumns, merged}
-use Rattle.counting.specs.Expected.{agreeAll, mergeAll, constantRow, fourRows, makes, rows, expected}
-use Rattle.counting.specs.Fit.{isPair, Fit}
+use Rattle.merging.specs.Sides.{Pair, Side, whole, renamedColumns, renamedPattern, freeColumns, leftJoinVariables, rightJoinVariables, mergedColumns, merged}
+use Rattle.merging.specs.Expected.{fourRows, makes, sum}
+use Rattle.scoping.specs.Premises.{isPair}
+use Rattle.merging.proofs.Fit.{Fit}
 use Rattle.text.proofs.Basics.{and-left, and-right, same-eq}
 use Rattle.counting.proofs.Basics.{clash, either, or-cases, eq-same, mem-nil, mem-eq, mem-there, mem-cases, mem-left, mem-right, mem-append-cases, sub-append, mem-map, mem-unmap}
 use Rattle.counting.proofs.Sums.{total-cong, total-map, total-cond, sum-pairs}
 use Rattle.counting.proofs.Only.{Only, only-left, only-sub, fits-none, none-fits, Cover, cover-left, cover-right}
 use Rattle.counting.proofs.Push.{push, Hit, hit, miss, view}
 use Rattle.counting.proofs.Columns.{cells-in, cells-cut, count-rows}
-use Rattle.counting.proofs.Side.{or-none, positions-in, free-sub, join-sum, rows-eq, renamed, newNames, columns-in, renamed-columns-in, constant-only, renamed-scope, side-sum, read-at, only-columns}
-use Rattle.counting.proofs.Four.{agree-four, four-wider, four-cong}
+use Rattle.merging.proofs.Side.{constantRow, rows, asSingle, or-none, positions-in, free-sub, join-sum, rows-eq, renamed, newNames, columns-in, renamed-columns-in, constant-only, renamed-scope, side-sum, read-at, only-columns}
+use Rattle.merging.proofs.Four.{agree-four, four-wider, four-cong}
 
 -- ---- join pairs
 
@@ -70,7 +72,14 @@ or-assoc (some a) k y = refl
 
 -- ---- both sides
 
-module _ (l r : Side) (js : List Pair) (fit : Fit l r js) where
+module _ (l r : Side) (js : List Pair) (fit : Fit l r js) (g : List Triple) where
+  -- a row of each answer makes the row m
+  abbrev makesRow : List Cell → List Cell → List Cell → Bool
+  makesRow = makes (asSingle g l) (asSingle g r) (mergedColumns l r js)
+
+  abbrev four : List Cell → List Cell → List Row
+  four = fourRows (asSingle g l) (asSingle g r)
+
   -- the columns' new names, and all new names
   abbrev columns : List Bytes
   columns = renamedColumns l ++ renamedColumns r
@@ -141,22 +150,22 @@ module _ (l r : Side) (js : List Pair) (fit : Fit l r js) where
     cb-in w m = sym (read-at r (fit .right) b w (in-right w m))
 
     -- the tests of the merged tree's joins are the agreement of the four
-    four-tests : (agree all-names pa kl && (agree all-names pb kr && agree all-names (merge pa kl) (merge pb kr))) ≡ agreeAll columns (fourRows l r (cells (l .columns) a) (cells (r .columns) b))
+    four-tests : (agree all-names pa kl && (agree all-names pb kr && agree all-names (merge pa kl) (merge pb kr))) ≡ agreeAll columns (four (cells (l .columns) a) (cells (r .columns) b))
     four-tests =
         agree-four all-names pa kl pb kr
         ∙ (four-wider all-names columns pa kl pb kr columns-new (cover-right columns pa kl kl-only) (apart a b) (cover-right columns pa kr kr-only) (cover-left columns kl pb kl-only) (cover-left columns kl kr kl-only) (cover-right columns pb kr kr-only)
         ∙ four-cong columns pa kl pb kr _ _ ca-in cb-in)
 
     -- at the columns' names the union of the four is the union that the merged tree makes
-    four-union : (w : Bytes) → mem w columns ≡ true → merge (merge pa kl) (merge pb kr) w ≡ mergeAll (fourRows l r (cells (l .columns) a) (cells (r .columns) b)) w
+    four-union : (w : Bytes) → mem w columns ≡ true → merge (merge pa kl) (merge pb kr) w ≡ mergeAll (four (cells (l .columns) a) (cells (r .columns) b)) w
     unfolding merge mergeAll
     four-union w m = or-assoc (pa w) (kl w) (orCell (pb w) (kr w)) ∙ (λ i. orCell (ca-in w m i) (orCell (kl w) (orCell (cb-in w m i) (sym (or-none (kr w)) i))))
 
-    one-pair : (m : List Cell) → (agree all-names pa kl && (agree all-names pb kr && (agree all-names (merge pa kl) (merge pb kr) && sameRow m (cells (mergedColumns l r js) (merge (merge pa kl) (merge pb kr)))))) ≡ makes l r js m (cells (l .columns) a) (cells (r .columns) b)
+    one-pair : (m : List Cell) → (agree all-names pa kl && (agree all-names pb kr && (agree all-names (merge pa kl) (merge pb kr) && sameRow m (cells (mergedColumns l r js) (merge (merge pa kl) (merge pb kr)))))) ≡ makesRow m (cells (l .columns) a) (cells (r .columns) b)
     unfolding makes
     one-pair m = and-three (agree all-names pa kl) (agree all-names pb kr) (agree all-names (merge pa kl) (merge pb kr)) _ ∙ ap₂ _&&_ four-tests (ap (sameRow m) (cells-in _ _ (mergedColumns l r js) (λ w k. four-union w (merged-in l r js w k))))
 
-  module _ (g : List Triple) (m : List Cell) where
+  module _ (m : List Cell) where
     abbrev hits : Row → ℕ
     hits s = tick (sameRow m (cells (mergedColumns l r js) s))
 
@@ -172,26 +181,26 @@ module _ (l r : Side) (js : List Pair) (fit : Fit l r js) where
     from-left s = total (λ t. cond (agree all-names s t) (hits (merge s t)) 0) (eval g (renamedPattern r))
 
     -- a row of the left tree adds one for each row of the right tree that makes m with it
-    left-row : (a : Row) → cond (agree all-names (pa a a) (constantRow l)) (from-left (merge (pa a a) (constantRow l))) 0 ≡ total (λ b. tick (makes l r js m (cells (l .columns) a) (cells (r .columns) b))) (eval g (r .inner))
+    left-row : (a : Row) → cond (agree all-names (pa a a) (constantRow l)) (from-left (merge (pa a a) (constantRow l))) 0 ≡ total (λ b. tick (makesRow m (cells (l .columns) a) (cells (r .columns) b))) (eval g (r .inner))
     unfolding from-left
     left-row a =
         ap (λ n. cond (agree all-names (pa a a) (constantRow l)) n 0) (side-sum r (fit .right) (λ t. cond (agree all-names (merge (pa a a) (constantRow l)) t) (hits (merge (merge (pa a a) (constantRow l)) t)) 0) all-names g right-new)
         ∙ (sym (total-cond (agree all-names (pa a a) (constantRow l)) _ (eval g (r .inner)))
         ∙ total-cong _ _ (eval g (r .inner)) (λ b. cond-three (agree all-names (pa a b) (constantRow l)) (agree all-names (pb a b) (constantRow r)) (agree all-names (merge (pa a b) (constantRow l)) (merge (pb a b) (constantRow r))) _ ∙ ap tick (one-pair a b m)))
 
-    expected-total : expected g l r js m ≡ total (λ a. total (λ b. tick (makes l r js m (cells (l .columns) a) (cells (r .columns) b))) (eval g (r .inner))) (eval g (l .inner))
-    unfolding expected
-    expected-total =
-        sum-pairs (makes l r js m) (rows g l) (rows g r)
-        ∙ (ap₂ (λ xs ys. total (λ x. total (λ y. tick (makes l r js m x y)) ys) xs) (rows-eq g l) (rows-eq g r)
-        ∙ (total-map _ (cells (l .columns)) (eval g (l .inner)) ∙ total-cong _ _ (eval g (l .inner)) (λ a. total-map (λ y. tick (makes l r js m (cells (l .columns) a) y)) (cells (r .columns)) (eval g (r .inner)))))
+    sum-total : sum (asSingle g l) (asSingle g r) (mergedColumns l r js) m ≡ total (λ a. total (λ b. tick (makesRow m (cells (l .columns) a) (cells (r .columns) b))) (eval g (r .inner))) (eval g (l .inner))
+    unfolding sum
+    sum-total =
+        sum-pairs (makesRow m) (rows g l) (rows g r)
+        ∙ (ap₂ (λ xs ys. total (λ x. total (λ y. tick (makesRow m x y)) ys) xs) (rows-eq g l) (rows-eq g r)
+        ∙ (total-map _ (cells (l .columns)) (eval g (l .inner)) ∙ total-cong _ _ (eval g (l .inner)) (λ a. total-map (λ y. tick (makesRow m (cells (l .columns) a) y)) (cells (r .columns)) (eval g (r .inner)))))
 
     -- the merged tree's answer has each row as often as it has to
-    pub merged-count : count sameRow m (answer (mergedColumns l r js) g (merged l r js)) ≡ expected g l r js m
+    pub merged-count : count sameRow m (answer (mergedColumns l r js) g (merged l r js)) ≡ sum (asSingle g l) (asSingle g r) (mergedColumns l r js) m
     unfolding from-left
     merged-count =
         as-total
         ∙ (join-sum hits all-names g (renamedPattern l) (renamedPattern r) (sub-append (inScope (renamedPattern l)) (inScope (renamedPattern r)) all-names (λ w k. left-new w (renamed-scope l (fit .left) w k)) (λ w k. right-new w (renamed-scope r (fit .right) w k)))
         ∙ (side-sum l (fit .left) from-left all-names g left-new
         ∙ (total-cong _ _ (eval g (l .inner)) left-row
-        ∙ sym expected-total)))
+        ∙ sym sum-total)))

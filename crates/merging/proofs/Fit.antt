@@ -1,28 +1,15 @@
--- What the merge theorem asks of the two renamings and of the constants; a law of the naming gives it. Document 01, "Counting part" and "Operation by operation". Assumes nothing.
+-- What the count of a merge asks of the two renamings and of the constants, whatever the names; proofs/Fits.antt has it of nemo's. Assumes nothing.
 use mathlib.Core.Path.{_≡_}
-use mathlib.Core.Bool.{Bool, true, false, _&&_, _||_}
-use mathlib.Core.List.{List, [], _∷_, map}
-use Prim.Native.Nat.{ℕ}
-use lib.ListN.{length}
-use lib.Dec.{ltb}
+use mathlib.Core.Bool.{true}
+use mathlib.Core.List.{List, map}
 use Rattle.text.specs.Text.{Bytes, same}
 use Rattle.text.specs.Field.{isVar}
-use Rattle.counting.specs.Bag.{all, mem, Inj}
+use Rattle.algebra.specs.Valid.{mem}
+use Rattle.scoping.specs.Premises.{inside, isPair}
+use Rattle.counting.specs.Bag.{Inj}
 use Rattle.counting.specs.Row.{cell, oneTerm}
 use Rattle.counting.specs.Scope.{names}
-use Rattle.counting.specs.Merge.{Pair, Side, whole, constantColumns, constantTerms, leftJoinVariables, rightJoinVariables}
-
--- a and b are the two columns of a join pair: they stand at one place of the two lists
-unfoldable pub isPair : List Bytes → List Bytes → Bytes → Bytes → Bool
-unfolding same
-isPair [] rs a b = false
-isPair (l ∷ ls) [] a b = false
-isPair (l ∷ ls) (r ∷ rs) a b = (same l a && same r b) || isPair ls rs a b
-
--- each position is one of the columns'
-unfoldable pub inside : List Bytes → List ℕ → Bool
-unfolding all
-inside cs is = all (λ i. ltb i (length cs)) is
+use Rattle.merging.specs.Sides.{Pair, Side, whole, constantColumns, constantTerms, leftJoinVariables, rightJoinVariables}
 
 -- of one side
 pub record SideFit (s : Side) : Type 0 where

@@ -7,15 +7,16 @@ use Prim.Native.String.{String}
 use Rattle.text.specs.Text.{Bytes, same}
 use Rattle.text.specs.Word.{bytes}
 use Rattle.algebra.specs.Tree.{Triple, Pattern, bgp, values, filter, bound}
 use Rattle.counting.specs.Bag.{count}
 use Rattle.counting.specs.Row.{sameRow}
 use Rattle.counting.specs.Scope.{scopedOrHidden}
 use Rattle.counting.specs.Answer.{answer}
 use Rattle.counting.specs.Countable.{expressionsKnown}
-use Rattle.counting.specs.Merge.{Pair, Constant, Side, whole, merged}
-use Rattle.counting.specs.Expected.{expected}
-use Rattle.counting.proofs.Decide.{keepsApart, sideParts, joinParts}
+use Rattle.merging.specs.Sides.{Pair, Constant, Side, whole, merged}
+use Rattle.merging.specs.Expected.{sum}
+use Rattle.merging.proofs.Decide.{keepsApart, sideParts, joinParts}
 use Rattle.counting.proofs.Standard.{t, fields, one}
+use Rattle.merging.proofs.Side.{asSingle}
 
 -- a side without columns, and one with these columns
 abbrev side : List String → Pattern → (Bytes → Bytes) → List Constant → Side
@@ -26,7 +27,7 @@ nothing = side [] (bgp []) (λ v. v) []
 
 -- which parts of Fit hold: of the left side, of the right side, of both; the row without columns stands `there` times in the merged answer, and is expected `due` times
 abbrev Counts : List Triple → Side → Side → List Pair → List Bool → List Bool → List Bool → ℕ → ℕ → Type 0
-Counts g l r js ls rs both there due = (sideParts l ≡ ls) × (sideParts r ≡ rs) × (joinParts l r js ≡ both) × (count sameRow [] (answer [] g (merged l r js)) ≡ there) × (expected g l r js [] ≡ due)
+Counts g l r js ls rs both there due = (sideParts l ≡ ls) × (sideParts r ≡ rs) × (joinParts l r js ≡ both) × (count sameRow [] (answer [] g (merged l r js)) ≡ there) × (sum (asSingle g l) (asSingle g r) [] [] ≡ due)
 
 -- every part of a side holds, or all but one
 abbrev side-holds : List Bool
@@ -62,12 +63,12 @@ constant i x = record { position = i; term = bytes x }
 
 -- hidden names of both sides that meet: they contradict one another
 hidden-names-meet : Counts [] (side [] (value "?h" "<1>") (λ v. v) []) (side [] (value "?h" "<2>") (λ v. v) []) [] side-holds side-holds but-joined 0 1
-unfolding sideParts joinParts count answer merged expected
+unfolding sideParts joinParts count answer merged sum
 hidden-names-meet = (refl, refl, refl, refl, refl)
 
 -- two names of one side that become one
 names-become-one : Counts [] (side [] (values (fields ("?a" ∷ "?b" ∷ [])) (fields ("<1>" ∷ "<2>" ∷ []) ∷ [])) (λ v. bytes "?n") []) nothing [] but-apart side-holds both-hold 0 1
-unfolding sideParts joinParts count answer merged expected
+unfolding sideParts joinParts count answer merged sum
 names-become-one = (refl, refl, refl, refl, refl)
 
 -- a name that only an expression has, and that is another's new name: on the names in scope or hidden the renaming keeps names apart, and yet the filter starts to hold
@@ -75,25 +76,25 @@ abbrev unknown : Side
 unknown = side [] (filter (value "?a" "<1>") (bound (bytes "?l0"))) (λ v. cond (same v (bytes "?a")) (bytes "?l0") v) []
 
 expression-name-unknown : (expressionsKnown (whole unknown) ≡ false) × (keepsApart (scopedOrHidden (whole unknown)) (unknown .name) ≡ true) × Counts [] unknown nothing [] but-apart side-holds both-hold 1 0
-unfolding expressionsKnown keepsApart sideParts joinParts count answer merged expected
+unfolding expressionsKnown keepsApart sideParts joinParts count answer merged sum
 expression-name-unknown = (refl, refl, (refl, refl, refl, refl, refl))
 
 -- a new name that is no variable: the triple pattern asks for the term
 new-name-no-variable : Counts (t "<s>" "<p>" "<o>" ∷ []) (side [] (one "?a" "<p>" "<o>") (λ v. bytes "<n>") []) nothing [] but-variables side-holds both-hold 0 1
-unfolding sideParts joinParts count answer merged expected
+unfolding sideParts joinParts count answer merged sum
 new-name-no-variable = (refl, refl, refl, refl, refl)
 
 -- constants at positions past the columns, on both sides, meet under a name that is no column
 constants-outside : Counts [] (side [] (bgp []) (λ v. v) (constant 0 "<1>" ∷ [])) (side [] (bgp []) (λ v. v) (constant 0 "<2>" ∷ [])) [] but-inside but-inside both-hold 0 1
-unfolding sideParts joinParts count answer merged expected
+unfolding sideParts joinParts count answer merged sum
 constants-outside = (refl, refl, refl, refl, refl)
 
 -- one column with two constants
 constants-twice : Counts [] (side ("?a" ∷ []) (bgp []) (λ v. v) (constant 0 "<1>" ∷ constant 0 "<2>" ∷ [])) nothing [] but-once side-holds both-hold 0 1
-unfolding sideParts joinParts count answer merged expected
+unfolding sideParts joinParts count answer merged sum
 constants-twice = (refl, refl, refl, refl, refl)
 
 -- a join position past the left columns makes a pair of what is no column
 joins-outside : Counts [] (side [] (value "" "<1>") (λ v. bytes "?n") []) (side ("?b" ∷ []) (value "?b" "<2>") (λ v. bytes "?n") []) (record { left = 0; right = 0 } ∷ []) side-holds side-holds but-left 0 1
-unfolding sideParts joinParts count answer merged expected
+unfolding sideParts joinParts count answer merged sum
 joins-outside = (refl, refl, refl, refl, refl)

@@ -1,34 +1,49 @@
 -- One side of a merge: its columns and constants under the new names, and the rows of its renamed pattern. Assumes nothing.
 use mathlib.Core.Path.{_≡_, refl, sym, _∙_, ap, ap₂, subst, fun-ext}
-use mathlib.Core.Bool.{Bool, true, false, cond, _&&_, and-true}
+use mathlib.Core.Bool.{Bool, true, false, cond, and-true}
 use mathlib.Core.List.{List, [], _∷_, _++_, map}
 use mathlib.Core.Option.{none, some}
 use Prim.Native.Nat.{ℕ, zero, suc, _<_}
 use native.Mathlib.Nat.{add-zero}
 use native.Mathlib.Omega.{arith}
 use lib.ListN.{length}
-use lib.Dec.{ltb, eqb, ltb→lt}
+use lib.Dec.{eqb}
 use Rattle.text.specs.Text.{Bytes}
 use Rattle.algebra.specs.Tree.{Triple, Pattern, join, values, always}
-use Rattle.counting.specs.Bag.{Sub, all, any, mem, total}
+use Rattle.scoping.specs.Sets.{any}
+use Rattle.algebra.specs.Valid.{mem}
+use Rattle.counting.specs.Bag.{Sub, total}
 use Rattle.counting.specs.Row.{Cell, orCell, Row, empty, merge, cut, agree, cells, named, oneTerm, cell}
 use Rattle.counting.specs.Condition.{passes}
 use Rattle.counting.specs.Scope.{inScope, namesWith, names}
 use Rattle.counting.specs.Answer.{pairs, lineRows, eval, answer}
 use Rattle.scoping.specs.Rename.{renameInGraphPattern}
-use Rattle.counting.specs.Merge.{Constant, Side, whole, columnAt, constantColumns, constantTerms, bindConstants, withoutConstants, renamedColumns, renamedPattern, freeColumns}
-use Rattle.counting.specs.Expected.{constantRow, rows}
-use Rattle.counting.specs.Fit.{inside, SideFit}
-use Rattle.text.proofs.Basics.{so→T, and-left, and-right}
+use Rattle.merging.specs.Sides.{Constant, Side, whole, columnAt, constantColumns, constantTerms, bindConstants, withoutConstants, renamedColumns, renamedPattern, freeColumns}
+use Rattle.merging.specs.Expected.{Single}
+use Rattle.scoping.specs.Premises.{inside}
+use Rattle.merging.proofs.Fit.{SideFit}
+use Rattle.scoping.proofs.Positions.{inside-first, inside-rest}
 use Rattle.counting.proofs.Basics.{either, mem-nil, mem-here, mem-there, mem-eq, mem-cases, mem-left, mem-right, sub-append, mem-map, mem-unmap, map-map}
 use Rattle.counting.proofs.Every.{every-imp}
 use Rattle.counting.proofs.Sums.{total-cong, total-every, total-map, total-each, total-when}
 use Rattle.counting.proofs.Only.{Only, only-sub, only-named, eval-only, fits-none, agree-of}
 use Rattle.counting.proofs.Push.{push, push-named, push-cut-at, oneTerm-push}
 use Rattle.counting.proofs.Rename.{scope-in, scope-renamed, eval-renamed}
 use Rattle.counting.proofs.Columns.{cells-cut, named-cells}
 use Rattle.counting.proofs.Wider.{agree-both}
 use Rattle.counting.proofs.Laws.{pairs-sum}
+
+-- ---- a side's answer under its own new names
+
+-- its constant list as a row (a constant is an IRI or a literal, never `-`)
+abbrev pub constantRow : Side → Row
+constantRow s = named (constantColumns (renamedColumns s) (s .constants)) (map cell (constantTerms (s .constants)))
+
+abbrev pub rows : List Triple → Side → List (List Cell)
+rows g s = answer (s .columns) g (whole s)
+
+abbrev pub asSingle : List Triple → Side → Single
+asSingle g s = record { rows = rows g s; names = renamedColumns s; constants = constantRow s }
 
 -- ---- positions
 
@@ -42,22 +57,17 @@ at-map f [] i h = absurd (omega arith)
 at-map f (c ∷ cs) zero h = refl
 at-map f (c ∷ cs) (suc i) h = at-map f cs i (omega arith)
 
-pub first-inside : (cs : List Bytes) (i : ℕ) (b : Bool) → (ltb i (length cs) && b) ≡ true → i < length cs
-first-inside cs i b h = ltb→lt i (length cs) (so→T (ltb i (length cs)) (and-left (ltb i (length cs)) b h))
-
 -- the columns at positions that are inside are columns
 pub positions-in : {A : Type 0} (cs : List Bytes) (pos : A → ℕ) (js : List A) → inside cs (map pos js) ≡ true → Sub (map (λ j. columnAt cs (pos j)) js) cs
-unfolding inside all
 positions-in cs pos [] h v m = mem-nil v m
 positions-in cs pos (j ∷ js) h v m = either
-    (λ e. ap (λ x. mem x cs) e ∙ at-in cs (pos j) (first-inside cs (pos j) _ h))
-    (positions-in cs pos js (and-right (ltb (pos j) (length cs)) _ h) v)
+    (λ e. ap (λ x. mem x cs) e ∙ at-in cs (pos j) (inside-first cs (pos j) (map pos js) h))
+    (positions-in cs pos js (inside-rest cs (pos j) (map pos js) h) v)
     (mem-cases v (columnAt cs (pos j)) _ m)
 
 positions-map : {A : Type 0} (f : Bytes → Bytes) (cs : List Bytes) (pos : A → ℕ) (js : List A) → inside cs (map pos js) ≡ true → map (λ j. columnAt (map f cs) (pos j)) js ≡ map f (map (λ j. columnAt cs (pos j)) js)
-unfolding inside all
 positions-map f cs pos [] h = refl
-positions-map f cs pos (j ∷ js) h = ap₂ _∷_ (at-map f cs (pos j) (first-inside cs (pos j) _ h)) (positions-map f cs pos js (and-right (ltb (pos j) (length cs)) _ h))
+positions-map f cs pos (j ∷ js) h = ap₂ _∷_ (at-map f cs (pos j) (inside-first cs (pos j) (map pos js) h)) (positions-map f cs pos js (inside-rest cs (pos j) (map pos js) h))
 
 pub map-sub : (f : Bytes → Bytes) (xs ys : List Bytes) → Sub xs ys → Sub (map f xs) (map f ys)
 map-sub f xs ys s w m = let t = mem-unmap f w xs m in subst (λ x. mem x (map f ys) ≡ true) (sym (t .2)) (mem-map f (t .0) ys (s (t .0) (t .1)))

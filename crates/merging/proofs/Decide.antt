@@ -4,13 +4,14 @@ use mathlib.Core.Bool.{Bool, true, false, not, _&&_, _||_, false≢true, Bool·b
 use mathlib.Core.List.{List, [], _∷_, map}
 use Rattle.text.specs.Text.{Bytes, same}
 use Rattle.text.specs.Field.{isVar}
-use Rattle.counting.specs.Bag.{all}
+use Rattle.scoping.specs.Sets.{all}
 use Rattle.counting.specs.Row.{cell, oneTerm}
 use Rattle.counting.specs.Scope.{names, namesWith, expressionVars}
-use Rattle.counting.specs.Merge.{Pair, Side, whole, constantColumns, constantTerms, leftJoinVariables, rightJoinVariables}
-use Rattle.counting.specs.Fit.{isPair, inside, SideFit, Fit}
+use Rattle.merging.specs.Sides.{Pair, Side, whole, constantColumns, constantTerms, leftJoinVariables, rightJoinVariables}
+use Rattle.scoping.specs.Premises.{isPair, inside}
+use Rattle.merging.proofs.Fit.{SideFit, Fit}
 use Rattle.text.proofs.Basics.{and-left, and-right, same-eq}
 use Rattle.counting.proofs.Basics.{eq-same, all-at}
 
 -- no two names of the list become one
 unfoldable pub keepsApart : List Bytes → (Bytes → Bytes) → Bool

@@ -1,0 +1,136 @@
+-- Document 01's premises and the laws of naming make the two sides of a merge fit. Assumes nothing.
+use mathlib.Core.Path.{_≡_, refl, sym, _∙_, ap, ap₂, subst}
+use mathlib.Core.Bool.{Bool, true, false, not}
+use mathlib.Core.List.{List, [], _∷_, map}
+use Prim.Native.Nat.{ℕ, zero, suc, _≤_, _<_}
+use native.Mathlib.Omega.{arith}
+use lib.ListN.{length, getD}
+use lib.Dec.{eqb, eqb-refl}
+use Rattle.text.specs.Text.{Bytes, same}
+use Rattle.text.specs.Field.{most}
+use Rattle.text.proofs.Basics.{T→so, and-left, and-right, and-both}
+use Rattle.algebra.specs.Valid.{mem}
+use Rattle.scoping.specs.Sets.{any, Once}
+use Rattle.scoping.specs.Label.{isLabel, prefixJ, prefixL, prefixR}
+use Rattle.scoping.specs.Numbering.{numbered}
+use Rattle.scoping.specs.Premises as S
+use Rattle.scoping.specs.Premises.{columnsAt, inside, differentPositions, isPair}
+use Rattle.scoping.proofs.Positions.{not-no, inside-first, inside-rest, different-first, different-rest}
+use Rattle.scoping.proofs.ScopedOrHidden.{numbered-scoped}
+use Rattle.scoping.proofs.NewVariables.{numbered-few}
+use Rattle.scoping.proofs.Theorem.{side-apart, side-variables, sides-meet}
+use Rattle.counting.specs.Bag.{different}
+use Rattle.counting.specs.Row.{Cell, fits, named, oneTerm, cell}
+use Rattle.counting.specs.Scope.{names, scopedOrHidden}
+use Rattle.counting.specs.Countable.{expressionsKnown}
+use Rattle.counting.proofs.Basics.{clash, not-true, or-inl, or-inr, either, mem-nil, mem-cases, all-at}
+use Rattle.counting.proofs.Only.{only-named, fits-none}
+use Rattle.merging.specs.Sides.{Pair, Constant, Side, columnAt, constantColumns, constantTerms, lefts, rights, standardized}
+use Rattle.merging.specs.Request.{Projection, tree, Request, leftSide, rightSide}
+use Rattle.merging.specs.Demand3.{Supposed, Premises}
+use Rattle.merging.proofs.Counted.{counted}
+use Rattle.merging.proofs.Fit.{SideFit, Fit}
+use Rattle.merging.proofs.Side.{at-in}
+use Rattle.merging.proofs.Written.{Known}
+
+-- ---- columns at different positions are different
+
+not-of : (b : Bool) → b ≡ false → not b ≡ true
+not-of b h = ap not h
+
+-- in a list that repeats no name, two positions with one name are one
+at-once : (cs : List Bytes) → different cs ≡ true → (i j : ℕ) → i < length cs → j < length cs → columnAt cs i ≡ columnAt cs j → i ≡ j
+unfolding different
+at-once [] d i j hi hj e = absurd (omega arith)
+at-once (c ∷ cs) d zero zero hi hj e = refl
+at-once (c ∷ cs) d zero (suc j) hi hj e = clash (ap (λ x. mem x cs) e ∙ at-in cs j (omega arith)) (not-no (mem c cs) (and-left (not (mem c cs)) (different cs) d))
+at-once (c ∷ cs) d (suc i) zero hi hj e = clash (ap (λ x. mem x cs) (sym e) ∙ at-in cs i (omega arith)) (not-no (mem c cs) (and-left (not (mem c cs)) (different cs) d))
+at-once (c ∷ cs) d (suc i) (suc j) hi hj e = ap suc (at-once cs (and-right (not (mem c cs)) (different cs) d) i j (omega arith) (omega arith) e)
+
+-- a column that stands at one of the positions stands at its own
+found-at : {A : Type 0} (cs : List Bytes) → different cs ≡ true → (pos : A → ℕ) (i : ℕ) → i < length cs → (ks : List A) → inside cs (map pos ks) ≡ true → mem (columnAt cs i) (map (λ k. columnAt cs (pos k)) ks) ≡ true → any (eqb i) (map pos ks) ≡ true
+unfolding any
+found-at cs d pos i hi [] h m = mem-nil (columnAt cs i) m
+found-at cs d pos i hi (k ∷ ks) h m = either
+    (λ e. or-inl (eqb i (pos k)) (any (eqb i) (map pos ks)) (subst (λ n. eqb i n ≡ true) (at-once cs d i (pos k) hi (inside-first cs (pos k) (map pos ks) h) e) (T→so (eqb i i) (eqb-refl i))))
+    (λ t. or-inr (eqb i (pos k)) (any (eqb i) (map pos ks)) (found-at cs d pos i hi ks (inside-rest cs (pos k) (map pos ks) h) t))
+    (mem-cases (columnAt cs i) (columnAt cs (pos k)) (map (λ k. columnAt cs (pos k)) ks) m)
+
+pub columns-at-different : {A : Type 0} (cs : List Bytes) → different cs ≡ true → (pos : A → ℕ) (ks : List A) → inside cs (map pos ks) ≡ true → differentPositions (map pos ks) ≡ true → different (map (λ k. columnAt cs (pos k)) ks) ≡ true
+unfolding different
+columns-at-different cs d pos [] h p = refl
+columns-at-different cs d pos (k ∷ ks) h p = and-both (not (mem (columnAt cs (pos k)) (map (λ k. columnAt cs (pos k)) ks))) (different (map (λ k. columnAt cs (pos k)) ks))
+    (not-of (mem (columnAt cs (pos k)) (map (λ k. columnAt cs (pos k)) ks)) (not-true (mem (columnAt cs (pos k)) (map (λ k. columnAt cs (pos k)) ks)) (λ m. clash (found-at cs d pos (pos k) (inside-first cs (pos k) (map pos ks) h) ks (inside-rest cs (pos k) (map pos ks) h) m) (different-first (pos k) (map pos ks) p))))
+    (columns-at-different cs d pos ks (inside-rest cs (pos k) (map pos ks) h) (different-rest (pos k) (map pos ks) p))
+
+-- different columns get one term each
+pub one-term : (cs : List Bytes) (xs : List Cell) → different cs ≡ true → oneTerm cs xs ≡ true
+unfolding oneTerm different
+one-term [] xs d = refl
+one-term (c ∷ cs) [] d = refl
+one-term (c ∷ cs) (x ∷ xs) d = and-both (fits x (named cs xs c)) (oneTerm cs xs)
+    (ap (fits x) (only-named cs xs c (not-no (mem c cs) (and-left (not (mem c cs)) (different cs) d))) ∙ fits-none x)
+    (one-term cs xs (and-right (not (mem c cs)) (different cs) d))
+
+-- ---- one side
+
+once-of : (cs : List Bytes) → different cs ≡ true → Once cs
+unfolding different
+once-of [] d = tt
+once-of (c ∷ cs) d = (not-no (mem c cs) (and-left (not (mem c cs)) (different cs) d), once-of cs (and-right (not (mem c cs)) (different cs) d))
+
+module _ (prefix : ℕ) (x : Projection) (is : List ℕ) (ks : List Constant) (k : Known prefix x is ks) (s : Supposed x) where
+  -- the premises as crates/scoping wants them for the names
+  pub names-of : differentPositions is ≡ true → S.Premises (x .columns) (x .inner) is
+  names-of d = record {
+    valid = k .valid;
+    plain = λ w h. not-no (isLabel w) (all-at (λ w. not (isLabel w)) (numbered (tree x)) (s .no-label) w h);
+    columns = once-of (x .columns) (s .columns-once);
+    positions = k .joins-inside;
+    different = d;
+  }
+
+  -- every name of the tree is numbered
+  numbered-if : (v : Bytes) → mem v (names (tree x)) ≡ true → mem v (numbered (tree x)) ≡ true
+  unfolding expressionsKnown
+  numbered-if v h = numbered-scoped (tree x) (k .valid) v ∙ counted (tree x) .at v (all-at (λ v. mem v (scopedOrHidden (tree x))) (names (tree x)) (s .expressions-known) v h)
+
+  few-names : length (numbered (tree x)) ≤ most
+  few-names = let a = k .names in let b = numbered-few (tree x) in omega arith
+
+  few-pairs : length is ≤ most
+  few-pairs = let a = k .pairs in omega arith
+
+  side-fit : (prefix ≡ prefixJ → ⊥) → differentPositions is ≡ true → SideFit (standardized prefix (x .columns) (x .inner) is ks)
+  side-fit n d = record {
+    apart = λ u v h j. side-apart (x .columns) (x .inner) is (names-of d) prefix n u v (numbered-if u h) (numbered-if v j);
+    variables = λ v h. side-variables (x .columns) (x .inner) is (names-of d) prefix few-names few-pairs v (numbered-if v h);
+    constant-inside = k .constants-inside;
+    constant-once = one-term (constantColumns (x .columns) ks) (map cell (constantTerms ks)) (columns-at-different (x .columns) (s .columns-once) (λ c. c .position) ks (k .constants-inside) (k .constants-good .different));
+  }
+
+-- ---- both
+
+columns-map : (cs : List Bytes) (f : Pair → ℕ) (js : List Pair) → columnsAt cs (map f js) ≡ map (λ j. getD cs (f j) []) js
+unfolding columnsAt
+columns-map cs f [] = refl
+columns-map cs f (j ∷ js) = ap (λ (l : List Bytes). getD cs (f j) [] ∷ l) (columns-map cs f js)
+
+module _ (m : Request) (a : Known prefixL (m .left) (lefts (m .joins)) (m .left-constants)) (b : Known prefixR (m .right) (rights (m .joins)) (m .right-constants)) (s : Premises m) where
+  pub left-names : S.Premises (m .left .columns) (m .left .inner) (lefts (m .joins))
+  left-names = names-of prefixL (m .left) (lefts (m .joins)) (m .left-constants) a (s .left) (s .left-once)
+
+  pub right-names : S.Premises (m .right .columns) (m .right .inner) (rights (m .joins))
+  right-names = names-of prefixR (m .right) (rights (m .joins)) (m .right-constants) b (s .right) (s .right-once)
+
+  pub sides-fit : Fit (leftSide m) (rightSide m) (m .joins)
+  sides-fit = record {
+    left = side-fit prefixL (m .left) (lefts (m .joins)) (m .left-constants) a (s .left) (λ e. omega arith) (s .left-once);
+    right = side-fit prefixR (m .right) (rights (m .joins)) (m .right-constants) b (s .right) (λ e. omega arith) (s .right-once);
+    left-inside = a .joins-inside;
+    right-inside = b .joins-inside;
+    joined = λ u v h k.
+        sides-meet (m .left .columns) (m .left .inner) (lefts (m .joins)) (m .right .columns) (m .right .inner) (rights (m .joins)) left-names right-names u v
+        (numbered-if prefixL (m .left) (lefts (m .joins)) (m .left-constants) a (s .left) u h) (numbered-if prefixR (m .right) (rights (m .joins)) (m .right-constants) b (s .right) v k)
+        ∙ ap₂ (λ (x y : List Bytes). isPair x y u v) (columns-map (m .left .columns) (λ j. j .left) (m .joins)) (columns-map (m .right .columns) (λ j. j .right) (m .joins));
+  }

@@ -1,0 +1,130 @@
+-- The promise of demand 3, of two trees that were read and of lists whose positions are all inside. Assumes nothing.
+use mathlib.Core.Path.{_≡_, refl, sym, ap, subst, _∙_}
+use mathlib.Core.Bool.{Bool, true, _&&_}
+use mathlib.Core.List.{List, map}
+use Prim.Native.Nat.{ℕ, _≤_}
+use native.Mathlib.Omega.{arith}
+use lib.ListN.{length}
+use Rattle.text.specs.Text.{Bytes}
+use Rattle.text.specs.Field.{clean}
+use Rattle.text.proofs.Basics.{and-left, and-right}
+use Rattle.algebra.specs.Tree.{Triple, join}
+use Rattle.algebra.specs.Reader.{reads}
+use Rattle.algebra.specs.Layout.{layout}
+use Rattle.algebra.specs.Texts.{readTree, readQuery}
+use Rattle.algebra.specs.Valid.{Valid, ValidQuery}
+use Rattle.algebra.proofs.Theorem.{tree-exactly, query-exactly}
+use Rattle.algebra.proofs.Roomy.{read-any-exactly}
+use Rattle.scoping.specs.Label.{prefixL, prefixR}
+use Rattle.scoping.specs.Numbering.{byPlace}
+use Rattle.scoping.specs.Premises.{inside}
+use Rattle.scoping.proofs.FirstPlaces.{by-place-query}
+use Rattle.counting.specs.Bag.{count}
+use Rattle.counting.specs.Row.{Cell, sameRow}
+use Rattle.counting.specs.Answer.{answer}
+use Rattle.merging.specs.Sides.{Pair, renamedPattern, mergedColumns, merged, lefts, rights}
+use Rattle.merging.specs.Request.{Projection, tree, Request, leftSide, rightSide, allInside, positions}
+use Rattle.merging.specs.Merge.{mergeProjectPatterns}
+use Rattle.merging.specs.Names.{mergedNames}
+use Rattle.merging.specs.Expected.{expectedCount}
+use Rattle.merging.specs.Demand3.{Lists, query, Premises, Counted}
+use Rattle.merging.proofs.Lists.{map-length, joins-few, constants-good}
+use Rattle.merging.proofs.Written.{Known, merged-valid}
+use Rattle.merging.proofs.Names.{Letter}
+use Rattle.merging.proofs.Fits.{left-names, right-names, sides-fit}
+use Rattle.merging.proofs.Merge.{merged-count}
+use Rattle.merging.proofs.MergedColumns.{side-names, merged-names}
+use Rattle.merging.proofs.Expected.{expected-is}
+
+-- ---- the promise, of two sides that were read
+
+module _ (m : Request) (a : Known prefixL (m .left) (lefts (m .joins)) (m .left-constants)) (b : Known prefixR (m .right) (rights (m .joins)) (m .right-constants)) where
+  module _ (s : Premises m) where
+    columns-named : mergedColumns (leftSide m) (rightSide m) (m .joins) ≡ mergedNames m
+    columns-named = merged-names m (left-names m a b s) (right-names m a b s) (sides-fit m a b s)
+
+    -- under nemo's names, then under 01's
+    counts-named : (g : List Triple) (row : List Cell) → count sameRow row (answer (mergedNames m) g (mergeProjectPatterns m)) ≡ expectedCount m g row
+    unfolding mergeProjectPatterns
+    counts-named g row =
+        ap (λ (cs : List Bytes). count sameRow row (answer cs g (mergeProjectPatterns m))) (sym columns-named)
+        ∙ merged-count (leftSide m) (rightSide m) (m .joins) (sides-fit m a b s) g row
+        ∙ expected-is m (a .constants-good .terms) (b .constants-good .terms) (side-names prefixL (m .left) (lefts (m .joins)) (left-names m a b s)) (side-names prefixR (m .right) (rights (m .joins)) (right-names m a b s)) columns-named g row
+
+  mergedProjection : Projection
+  mergedProjection = record { columns = mergedColumns (leftSide m) (rightSide m) (m .joins); inner = join (renamedPattern (leftSide m)) (renamedPattern (rightSide m)) }
+
+  promised : (text : Bytes) → layout (mergeProjectPatterns m) ≡ text → Counted m text
+  unfolding mergeProjectPatterns merged mergedProjection
+  promised text e = record {
+    merged = mergedProjection;
+    read = read-any-exactly text (mergeProjectPatterns m) .1 (e, merged-valid m a b);
+    columns = columns-named;
+    counts = counts-named;
+  }
+
+-- ---- what is known of the sides where nothing was refused
+
+-- a tree that was read
+pub record TreeRead (x : Projection) : Type 0 where
+  pub valid : Valid (tree x)
+  pub names : length (byPlace (tree x)) ≤ 1024
+
+pub tree-read : (s : Bytes) (x : Projection) → readTree s ≡ reads (tree x) → TreeRead x
+unfolding byPlace
+tree-read s x e = let y = tree-exactly s (tree x) .0 e in record { valid = y .1; names = y .2 .names }
+
+pub query-read : (s kind dataset base : Bytes) (x : Projection) → readQuery s ≡ reads (query kind dataset base (tree x)) → TreeRead x
+unfolding ValidQuery
+query-read s kind dataset base x e =
+    let y = query-exactly s (query kind dataset base (tree x)) .0 e in
+    record { valid = y .1 .3; names = subst (λ (l : List Bytes). length l ≤ 1024) (by-place-query (query kind dataset base (tree x))) (y .2 .names) }
+
+letter-l : Letter prefixL
+unfolding clean
+letter-l = refl
+
+letter-r : Letter prefixR
+unfolding clean
+letter-r = refl
+
+module _ (m : Request) (pairs leftConstants rightConstants : Bytes) (a : TreeRead (m .left)) (b : TreeRead (m .right)) (ls : Lists pairs leftConstants rightConstants m) (i : allInside m ≡ true) where
+  pairs-few : {B : Type 0} (f : Pair → B) → length (map f (m .joins)) ≤ 64
+  pairs-few f = let e = map-length f (m .joins) in let h = joins-few pairs (m .joins) (ls .joins) in omega arith
+
+  four : (inside (m .left .columns) (lefts (m .joins)) ≡ true) × (inside (m .right .columns) (rights (m .joins)) ≡ true) × (inside (m .left .columns) (positions (m .left-constants)) ≡ true) × (inside (m .right .columns) (positions (m .right-constants)) ≡ true)
+  unfolding allInside
+  four =
+      let js = and-left (inside (m .left .columns) (lefts (m .joins)) && inside (m .right .columns) (rights (m .joins))) (inside (m .left .columns) (positions (m .left-constants)) && inside (m .right .columns) (positions (m .right-constants))) i in
+      let ks = and-right (inside (m .left .columns) (lefts (m .joins)) && inside (m .right .columns) (rights (m .joins))) (inside (m .left .columns) (positions (m .left-constants)) && inside (m .right .columns) (positions (m .right-constants))) i in (
+        and-left (inside (m .left .columns) (lefts (m .joins))) (inside (m .right .columns) (rights (m .joins))) js,
+        and-right (inside (m .left .columns) (lefts (m .joins))) (inside (m .right .columns) (rights (m .joins))) js,
+        and-left (inside (m .left .columns) (positions (m .left-constants))) (inside (m .right .columns) (positions (m .right-constants))) ks,
+        and-right (inside (m .left .columns) (positions (m .left-constants))) (inside (m .right .columns) (positions (m .right-constants))) ks,
+      )
+
+  left-known : Known prefixL (m .left) (lefts (m .joins)) (m .left-constants)
+  left-known = record {
+    letter = letter-l;
+    valid = a .valid;
+    names = a .names;
+    pairs = pairs-few (λ j. j .left);
+    joins-inside = four .0;
+    constants-inside = four .2;
+    constants-good = constants-good leftConstants (m .left-constants) (ls .left-constants);
+  }
+
+  right-known : Known prefixR (m .right) (rights (m .joins)) (m .right-constants)
+  right-known = record {
+    letter = letter-r;
+    valid = b .valid;
+    names = b .names;
+    pairs = pairs-few (λ j. j .right);
+    joins-inside = four .1;
+    constants-inside = four .3;
+    constants-good = constants-good rightConstants (m .right-constants) (ls .right-constants);
+  }
+
+  -- the promise, where nothing was refused
+  pub all-promised : (text : Bytes) → layout (mergeProjectPatterns m) ≡ text → Counted m text
+  all-promised = promised m left-known right-known

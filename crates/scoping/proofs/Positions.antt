@@ -1,0 +1,38 @@
+-- Positions of columns: each inside, none twice. Assumes nothing.
+use mathlib.Core.Path.{_≡_, refl}
+use mathlib.Core.Bool.{Bool, true, false, not, _||_, _&&_, false≢true, true≢false}
+use mathlib.Core.List.{List, [], _∷_}
+use Prim.Native.Nat.{ℕ, _<_}
+use lib.ListN.{length}
+use lib.Dec.{eqb, ltb}
+use borrow.Author.Tests.{ltb-true}
+use Rattle.text.specs.Text.{Bytes}
+use Rattle.text.proofs.Basics.{and-left, and-right}
+use Rattle.scoping.specs.Sets.{all, any}
+use Rattle.scoping.specs.Premises.{inside, differentPositions}
+
+pub or-neither : (a b : Bool) → (a || b) ≡ false → (a ≡ false) × (b ≡ false)
+or-neither true b h = absurd (true≢false h)
+or-neither false b h = (refl, h)
+
+pub not-no : (b : Bool) → not b ≡ true → b ≡ false
+not-no true h = absurd (false≢true h)
+not-no false h = refl
+
+module _ (cs : List Bytes) (i : ℕ) (is : List ℕ) (h : inside cs (i ∷ is) ≡ true) where
+  pub inside-first : i < length cs
+  unfolding inside all
+  inside-first = ltb-true i (length cs) (and-left (ltb i (length cs)) (inside cs is) h)
+
+  pub inside-rest : inside cs is ≡ true
+  unfolding inside all
+  inside-rest = and-right (ltb i (length cs)) (inside cs is) h
+
+module _ (i : ℕ) (is : List ℕ) (h : differentPositions (i ∷ is) ≡ true) where
+  pub different-first : any (eqb i) is ≡ false
+  unfolding differentPositions
+  different-first = not-no (any (eqb i) is) (and-left (not (any (eqb i) is)) (differentPositions is) h)
+
+  pub different-rest : differentPositions is ≡ true
+  unfolding differentPositions
+  different-rest = and-right (not (any (eqb i) is)) (differentPositions is) h
