@@ -1,14 +1,15 @@
 -- Laws of Booleans, byte strings, names in lists, and lists of lists. Assumes nothing.
 use mathlib.Core.Path.{_≡_, refl, sym, _∙_, ap, ap₂, subst, fun-ext}
 use mathlib.Core.Logic.{_⊎_, inl, inr}
-use mathlib.Core.Bool.{Bool, true, false, not, _&&_, _||_, false≢true, true≢false}
+use mathlib.Core.Bool.{Bool, true, false, cond, not, _&&_, _||_, false≢true, true≢false}
 use mathlib.Core.List.{List, [], _∷_, _++_, map}
 use lib.Dec.{T, eqb, eqb→eq, eqb-refl}
 use Rattle.text.specs.Text.{Bytes, same}
 use Rattle.text.proofs.Basics.{and-left, and-right, and-both, same-refl, same-eq}
-use Rattle.scoping.specs.Sets.{all, any}
+use Rattle.scoping.specs.Sets.{all, any, keep}
 use Rattle.algebra.specs.Valid.{mem}
-use Rattle.counting.specs.Bag.{Sub, each, when, keep, once}
+use Rattle.scoping.proofs.Sets.{mem-keep}
+use Rattle.counting.specs.Bag.{Sub, each, when, once}
 
 -- ---- Booleans
 
@@ -167,9 +168,24 @@ unfolding when
 map-when h true x = refl
 map-when h false x = refl
 
+cond-when : {A : Type 0} (c : Bool) (x : A) (xs : List A) → cond c (x ∷ xs) xs ≡ when c x ++ xs
+unfolding when
+cond-when true x xs = refl
+cond-when false x xs = refl
+
+pub keep-each : {A : Type 0} (f : A → Bool) (xs : List A) → keep f xs ≡ each (λ x. when (f x) x) xs
+unfolding keep each
+keep-each f [] = refl
+keep-each f (x ∷ xs) = cond-when (f x) x (keep f xs) ∙ ap (λ l. when (f x) x ++ l) (keep-each f xs)
+
 pub keep-map : {A B : Type 0} (f : B → Bool) (g : A → Bool) (h : A → B) (xs : List A) → ((x : A) → f (h x) ≡ g x) → keep f (map h xs) ≡ map h (keep g xs)
-unfolding keep
-keep-map f g h xs e = each-map _ h xs ∙ (each-cong _ _ xs (λ x. ap (λ c. when c (h x)) (e x) ∙ sym (map-when h (g x) x)) ∙ sym (map-each h _ xs))
+keep-map f g h xs e =
+    keep-each f (map h xs)
+    ∙ (each-map _ h xs ∙ (each-cong _ _ xs (λ x. ap (λ c. when c (h x)) (e x) ∙ sym (map-when h (g x) x)) ∙ sym (map-each h _ xs)))
+    ∙ ap (map h) (sym (keep-each g xs))
+
+pub keep-sub : (f : Bytes → Bool) (xs : List Bytes) → Sub (keep f xs) xs
+keep-sub f xs v m = and-right (f v) (mem v xs) (sym (mem-keep f v xs) ∙ m)
 
 pub once-map : {A B : Type 0} (f : B → B → Bool) (g : A → A → Bool) (h : A → B) (xs : List A) → ((x y : A) → f (h x) (h y) ≡ g x y) → once f (map h xs) ≡ map h (once g xs)
 unfolding once

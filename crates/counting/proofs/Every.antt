@@ -1,9 +1,10 @@
 -- What holds of every element of a list, and lists that are the same because what holds of their elements makes it so. Assumes nothing.
-use mathlib.Core.Path.{_≡_, refl, _∙_, ap, ap₂}
+use mathlib.Core.Path.{_≡_, refl, sym, _∙_, ap, ap₂, subst}
 use mathlib.Core.Bool.{Bool, true, false, cond, not, _||_}
 use mathlib.Core.List.{List, [], _∷_, _++_, map}
-use Rattle.scoping.specs.Sets.{any}
-use Rattle.counting.specs.Bag.{each, when, keep, once}
+use Rattle.scoping.specs.Sets.{any, keep}
+use Rattle.counting.specs.Bag.{each, when, once}
+use Rattle.counting.proofs.Basics.{keep-each}
 
 -- every element of a list has P
 pub data Every {A : Type 0} (P : A → Type 0) : List A → Type 0 where
@@ -33,8 +34,7 @@ every-when true x p = more p done
 every-when false x p = done
 
 pub every-keep : {A : Type 0} {P : A → Type 0} (f : A → Bool) {xs : List A} → Every P xs → Every P (keep f xs)
-unfolding keep
-every-keep f r = every-each (λ x. when (f x) x) (λ x p. every-when (f x) x p) r
+every-keep {P = P} f {xs} r = subst (Every P) (sym (keep-each f xs)) (every-each (λ x. when (f x) x) (λ x p. every-when (f x) x p) r)
 
 pub every-once : {A : Type 0} {P : A → Type 0} (eq : A → A → Bool) {xs : List A} → Every P xs → Every P (once eq xs)
 unfolding once
@@ -76,8 +76,7 @@ any-every f h done e = refl
 any-every f h (more {x = x} p r) e = ap₂ _||_ (e x p) (any-every f h r e)
 
 pub keep-every : {A : Type 0} {P : A → Type 0} (f h : A → Bool) {xs : List A} → Every P xs → ((x : A) → P x → f x ≡ h x) → keep f xs ≡ keep h xs
-unfolding keep
-keep-every f h r e = each-every (λ x. when (f x) x) (λ x. when (h x) x) r (λ x p. ap (λ c. when c x) (e x p))
+keep-every f h {xs} r e = keep-each f xs ∙ each-every (λ x. when (f x) x) (λ x. when (h x) x) r (λ x p. ap (λ c. when c x) (e x p)) ∙ sym (keep-each h xs)
 
 pub once-every : {A : Type 0} {P : A → Type 0} (f h : A → A → Bool) {xs : List A} → Every P xs → ((x y : A) → P x → P y → f x y ≡ h x y) → once f xs ≡ once h xs
 unfolding once

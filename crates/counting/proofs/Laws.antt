@@ -7,8 +7,8 @@ use Prim.Native.Nat.{ℕ, _+_, _*_}
 use native.Mathlib.Nat.{add-zero, add-comm, mul-one, mul-zero}
 use Rattle.text.specs.Text.{Bytes}
 use Rattle.algebra.specs.Tree.{Triple, Pattern, join, union, minus, leftjoin, filter, extend, values, project, distinct, Expression, Condition, always, provided}
-use Rattle.scoping.specs.Sets.{any}
-use Rattle.counting.specs.Bag.{Sub, each, when, keep, once, total, tick, count}
+use Rattle.scoping.specs.Sets.{any, keep}
+use Rattle.counting.specs.Bag.{Sub, each, when, once, total, tick, count}
 use Rattle.counting.specs.Row.{Cell, Row, merge, cut, agree, sameOn, cells, named, oneTerm, cell, sameRow}
 use Rattle.counting.specs.Condition.{termOf, passes}
 use Rattle.counting.specs.Scope.{inScope}

@@ -7,9 +7,9 @@ use Rattle.text.specs.Text.{Bytes, same}
 use Rattle.text.specs.Field.{isVar}
 use Rattle.algebra.specs.Tree.{Triple, Pattern, bgp, path, join, union, minus, leftjoin, filter, graph, extend, values, orderby, project, distinct, reduced, slice, group, service}
 use Rattle.algebra.specs.Tree.{Expression, term, bound, exists, apply, call, Condition, always, provided, Expressions, eend, econs}
-use Rattle.scoping.specs.Sets.{all, any}
+use Rattle.scoping.specs.Sets.{all, any, keep}
 use Rattle.algebra.specs.Valid.{mem}
-use Rattle.counting.specs.Bag.{Sub, Inj, each, when, keep, once}
+use Rattle.counting.specs.Bag.{Sub, Inj, each, when, once}
 use Rattle.counting.specs.Row.{sameCell, isBound, Row, bind, merge, cut, agree, sameOn, named, oneTerm, cell}
 use Rattle.counting.specs.Condition.{truth, connective, wordTruth, value, termOf, termsOf, truthOf, truthsOf, isTrue, passes}
 use Rattle.counting.specs.Scope.{fieldVars, tripleVars, inScope, expressionVars, expressionsVars, conditionVars, namesWith, names}

@@ -6,12 +6,12 @@ use mathlib.Core.Option.{none, some}
 use Prim.Native.Nat.{ℕ, _+_, _*_}
 use native.Mathlib.Nat.{add-zero, zero-add, add-assoc, mul-comm, mul-one, mul-add, add-mul, zero-mul, mul-zero}
 use native.Mathlib.Omega.{arith}
-use Rattle.scoping.specs.Sets.{any}
-use Rattle.counting.specs.Bag.{each, when, keep, once, total, tick, count}
+use Rattle.scoping.specs.Sets.{any, keep}
+use Rattle.counting.specs.Bag.{each, when, once, total, tick, count}
 use Rattle.counting.specs.Row.{Cell, sameCell, sameRow}
 use Rattle.counting.proofs.Every.{Every, done, more, every-imp}
 use Rattle.text.proofs.Basics.{same-refl, same-eq, and-left, and-right, and-both}
-use Rattle.counting.proofs.Basics.{clash, both-ways}
+use Rattle.counting.proofs.Basics.{clash, both-ways, keep-each}
 
 -- ---- sums
 
@@ -49,8 +49,7 @@ total-when f true x = add-zero (f x)
 total-when f false x = refl
 
 pub total-keep : {A : Type 0} (f : A → ℕ) (c : A → Bool) (xs : List A) → total f (keep c xs) ≡ total (λ x. cond (c x) (f x) 0) xs
-unfolding keep
-total-keep f c xs = total-each f (λ x. when (c x) x) xs ∙ total-cong _ _ xs (λ x. total-when f (c x) x)
+total-keep f c xs = ap (total f) (keep-each c xs) ∙ total-each f (λ x. when (c x) x) xs ∙ total-cong _ _ xs (λ x. total-when f (c x) x)
 
 pub total-cond : {A : Type 0} (c : Bool) (f : A → ℕ) (xs : List A) → total (λ x. cond c (f x) 0) xs ≡ cond c (total f xs) 0
 total-cond true f xs = refl

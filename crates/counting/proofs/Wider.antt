@@ -6,9 +6,9 @@ use mathlib.Core.Option.{none}
 use Rattle.text.specs.Text.{Bytes}
 use Rattle.algebra.specs.Tree.{Triple, Pattern, bgp, path, join, union, minus, leftjoin, filter, graph, extend, values, orderby, project, distinct, reduced, slice, group, service}
 use Rattle.algebra.specs.Tree.{Condition, always, provided}
-use Rattle.scoping.specs.Sets.{all, any}
+use Rattle.scoping.specs.Sets.{all, any, keep}
 use Rattle.algebra.specs.Valid.{mem}
-use Rattle.counting.specs.Bag.{Sub, each, when, keep, once}
+use Rattle.counting.specs.Bag.{Sub, each, when, once}
 use Rattle.counting.specs.Row.{sameCell, isBound, Row, merge, cut, agree, shares, sameOn}
 use Rattle.counting.specs.Condition.{termOf, passes}
 use Rattle.counting.specs.Scope.{expressionVars, conditionVars, inScope, namesWith, names}

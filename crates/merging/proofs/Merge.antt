@@ -7,7 +7,8 @@ use Prim.Native.Nat.{ℕ}
 use Rattle.text.specs.Text.{Bytes, same}
 use Rattle.algebra.specs.Tree.{Triple, join, project}
 use Rattle.algebra.specs.Valid.{mem}
-use Rattle.counting.specs.Bag.{Sub, each, when, keep, total, tick, count}
+use Rattle.scoping.specs.Sets.{keep}
+use Rattle.counting.specs.Bag.{Sub, total, tick, count}
 use Rattle.counting.specs.Row.{Cell, fits, orCell, Row, merge, cut, agree, agreeAll, mergeAll, cells, named, sameRow}
 use Rattle.counting.specs.Scope.{inScope, names}
 use Rattle.counting.specs.Answer.{eval, answer}
@@ -16,7 +17,7 @@ use Rattle.merging.specs.Expected.{fourRows, makes, sum}
 use Rattle.scoping.specs.Premises.{isPair}
 use Rattle.merging.proofs.Fit.{Fit}
 use Rattle.text.proofs.Basics.{and-left, and-right, same-eq}
-use Rattle.counting.proofs.Basics.{clash, either, or-cases, eq-same, mem-nil, mem-eq, mem-there, mem-cases, mem-left, mem-right, mem-append-cases, sub-append, mem-map, mem-unmap}
+use Rattle.counting.proofs.Basics.{clash, either, or-cases, eq-same, mem-nil, mem-eq, mem-there, mem-cases, mem-left, mem-right, mem-append-cases, sub-append, mem-map, mem-unmap, keep-sub}
 use Rattle.counting.proofs.Sums.{total-cong, total-map, total-cond, sum-pairs}
 use Rattle.counting.proofs.Only.{Only, only-left, only-sub, fits-none, none-fits, Cover, cover-left, cover-right}
 use Rattle.counting.proofs.Push.{push, Hit, hit, miss, view}
@@ -36,16 +37,6 @@ pair-in (l ∷ ls) (r ∷ rs) a b h = either
     (or-cases (same l a && same r b) (isPair ls rs a b) h)
 
 -- ---- the merged columns are new names of columns
-
-when-eq : (v x : Bytes) (c : Bool) → mem v (when c x) ≡ true → v ≡ x
-unfolding when
-when-eq v x true m = either (λ e. e) (λ k. mem-nil v k) (mem-cases v x [] m)
-when-eq v x false m = mem-nil v m
-
-keep-sub : (f : Bytes → Bool) (xs : List Bytes) → Sub (keep f xs) xs
-unfolding keep each
-keep-sub f [] v m = m
-keep-sub f (x ∷ xs) v m = either (λ k. mem-eq v x xs (when-eq v x (f x) k)) (λ k. mem-there v x xs (keep-sub f xs v k)) (mem-append-cases v (when (f x) x) (each (λ y. when (f y) y) xs) m)
 
 merged-in : (l r : Side) (js : List Pair) → Sub (mergedColumns l r js) (renamedColumns l ++ renamedColumns r)
 unfolding mergedColumns

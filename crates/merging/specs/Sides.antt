@@ -8,9 +8,8 @@ use Rattle.text.specs.Text.{Bytes, same}
 use Rattle.algebra.specs.Tree.{Pattern, join, values, project}
 use Rattle.scoping.specs.Rename.{renameInGraphPattern}
 use Rattle.scoping.specs.Premises.{sideName}
-use Rattle.scoping.specs.Sets.{all, any}
+use Rattle.scoping.specs.Sets.{all, any, keep}
 use Rattle.algebra.specs.Valid.{mem}
-use Rattle.counting.specs.Bag.{keep}
 
 -- a line of a join list
 pub record Pair : Type 0 where

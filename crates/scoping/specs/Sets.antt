@@ -18,6 +18,11 @@ unfoldable pub any : {A : Type 0} → (A → Bool) → List A → Bool
 any f [] = false
 any f (x ∷ xs) = f x || any f xs
 
+-- the elements that pass
+unfoldable pub keep : {A : Type 0} → (A → Bool) → List A → List A
+keep f [] = []
+keep f (x ∷ xs) = cond (f x) (x ∷ keep f xs) (keep f xs)
+
 -- two lists are the same set
 abbrev pub Alike : List Bytes → List Bytes → Type 0
 Alike xs ys = (v : Bytes) → mem v xs ≡ mem v ys
@@ -32,11 +37,6 @@ unfoldable pub indexOf : Bytes → List Bytes → ℕ
 unfolding same
 indexOf w [] = 0
 indexOf w (x ∷ xs) = cond (same w x) 0 (suc (indexOf w xs))
-
--- the names that pass a test
-unfoldable pub keep : (Bytes → Bool) → List Bytes → List Bytes
-keep f [] = []
-keep f (v ∷ vs) = cond (f v) (v ∷ keep f vs) (keep f vs)
 
 -- the variables among fields that may be other terms
 unfoldable pub variablesOf : List Bytes → List Bytes
