@@ -1,20 +1,20 @@
--- What the tally calls lines are the lines of the text, and its names are distinct variables. Assumes nothing.
+-- What the tally calls lines are the lines of the text, and its names are different variables. Assumes nothing.
 use mathlib.Core.Path.{_≡_, refl, sym, _∙_, ap}
-use mathlib.Core.Bool.{Bool, true, false, cond, _||_, true≢false}
+use mathlib.Core.Bool.{Bool, true, false, cond, not, _||_, true≢false, false≢true}
 use mathlib.Core.List.{List, [], _∷_, _++_}
 use Prim.Native.Nat.{ℕ, suc, _+_}
 use native.Mathlib.Omega.{arith}
 use lib.ListN.{length}
 use Rattle.text.specs.Text.{Bytes, Line, same, linesOf}
 use Rattle.text.specs.Field.{isVar}
-use Rattle.text.proofs.Basics.{same-eq, same-refl}
+use Rattle.text.proofs.Basics.{same-eq, same-refl, and-left, and-right, and-both}
 use Rattle.text.proofs.Texts.{lines-back}
 use Rattle.algebra.specs.Tree.{Pattern}
 use Rattle.algebra.specs.Query.{Query, PairList, Pair, unique, BindingSet, Filter}
 use Rattle.algebra.specs.Layout.{put, layout, putQuery, putPairs, putSets, putFilters}
-use Rattle.algebra.specs.Valid.{mem, Valid}
+use Rattle.algebra.specs.Valid.{mem, different, Valid}
 use Rattle.algebra.specs.Tally.{Tally, start, notes, noted, headed, paired, tally, tallyQuery, tallyPair, tallyPairs, tallySets, tallyFilters}
-use Rattle.algebra.specs.Bounded.{Distinct, Variables}
+use Rattle.algebra.specs.Bounded.{Variables}
 use Rattle.algebra.proofs.Walk.{Keeps, walk, walk-query, walk-sets, walk-filters}
 use Rattle.algebra.proofs.Neat.{neat}
 
@@ -75,10 +75,29 @@ unfolding mem
 mem-last v f [] h e = rw e
 mem-last v f (x ∷ xs) h e = let a = or-neither (same v x) (mem v xs) h in rw (a .0, mem-last v f xs (a .1) e)
 
-distinct-more : (f : Bytes) (ns : List Bytes) → Distinct ns → mem f ns ≡ false → Distinct (ns ++ (f ∷ []))
-unfolding Distinct mem
-distinct-more f [] d h = (refl, tt)
-distinct-more f (x ∷ xs) d h = let a = or-neither (same f x) (mem f xs) h in (mem-last x f xs (d .0) (same-not f x (a .0)), distinct-more f xs (d .1) (a .1))
+not-no : (b : Bool) → not b ≡ true → b ≡ false
+not-no true h = absurd (false≢true h)
+not-no false h = refl
+
+-- the first stands not behind, and the rest are different
+pub different-head : (x : Bytes) (xs : List Bytes) → different (x ∷ xs) ≡ true → mem x xs ≡ false
+unfolding different
+different-head x xs d = not-no (mem x xs) (and-left (not (mem x xs)) (different xs) d)
+
+pub different-tail : (x : Bytes) (xs : List Bytes) → different (x ∷ xs) ≡ true → different xs ≡ true
+unfolding different
+different-tail x xs d = and-right (not (mem x xs)) (different xs) d
+
+pub different-both : (x : Bytes) (xs : List Bytes) → mem x xs ≡ false → different xs ≡ true → different (x ∷ xs) ≡ true
+unfolding different
+different-both x xs h d = and-both (not (mem x xs)) (different xs) (ap not h) d
+
+different-more : (f : Bytes) (ns : List Bytes) → different ns ≡ true → mem f ns ≡ false → different (ns ++ (f ∷ [])) ≡ true
+unfolding mem
+different-more f [] d h = different-both f [] refl d
+different-more f (x ∷ xs) d h =
+    let a = or-neither (same f x) (mem f xs) h in
+    different-both x (xs ++ (f ∷ [])) (mem-last x f xs (different-head x xs d) (same-not f x (a .0))) (different-more f xs (different-tail x xs d) (a .1))
 
 variables-more : (f : Bytes) (ns : List Bytes) → Variables ns → isVar f ≡ true → Variables (ns ++ (f ∷ []))
 unfolding Variables
@@ -86,7 +105,7 @@ variables-more f [] v h = (h, tt)
 variables-more f (x ∷ xs) v h = (v .0, variables-more f xs (v .1) h)
 
 abbrev Names : List Bytes → Type 0
-Names ns = Distinct ns × Variables ns
+Names ns = (different ns ≡ true) × Variables ns
 
 notes-names : (fs ns : List Bytes) → Names ns → Names (notes fs ns)
 unfolding notes
@@ -95,7 +114,7 @@ notes-names (f ∷ fs) ns h = notes-names fs _ (go (isVar f) (mem f ns) refl ref
   where
     go : (b c : Bool) → isVar f ≡ b → mem f ns ≡ c → Names (cond b (cond c ns (ns ++ (f ∷ []))) ns)
     go true true p q = h
-    go true false p q = (distinct-more f ns (h .0) q, variables-more f ns (h .1) p)
+    go true false p q = (different-more f ns (h .0) q, variables-more f ns (h .1) p)
     go false c p q = h
 
 names-keep : Keeps (λ s m. Names (m .names))
@@ -103,11 +122,11 @@ unfolding noted headed
 names-keep = record { noted = λ l s fs m h i. notes-names fs (m .names) i; headed = λ w cs s m i. notes-names cs (m .names) i }
 
 no-names : Names []
-unfolding Distinct Variables
-no-names = (tt, tt)
+unfolding different Variables
+no-names = (refl, tt)
 
-pub names-distinct : (p : Pattern) → Distinct (tally p start .names) × Variables (tally p start .names)
-names-distinct p = walk (λ s m. Names (m .names)) names-keep p [] start no-names
+pub names-different : (p : Pattern) → (different (tally p start .names) ≡ true) × Variables (tally p start .names)
+names-different p = walk (λ s m. Names (m .names)) names-keep p [] start no-names
 
-pub names-distinct-query : (q : Query) → Distinct (tallyQuery q start .names) × Variables (tallyQuery q start .names)
-names-distinct-query q = walk-query (λ s m. Names (m .names)) names-keep q [] start no-names
+pub names-different-query : (q : Query) → (different (tallyQuery q start .names) ≡ true) × Variables (tallyQuery q start .names)
+names-different-query q = walk-query (λ s m. Names (m .names)) names-keep q [] start no-names

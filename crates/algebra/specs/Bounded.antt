@@ -2,14 +2,14 @@
 use Prim.Native.Nat.{ℕ, _≤_, max}
 use mathlib.Core.Path.{_≡_}
 use mathlib.Core.List.{List, [], _∷_}
-use mathlib.Core.Bool.{true, false}
+use mathlib.Core.Bool.{true}
 use lib.ListN.{length}
 use Rattle.text.specs.Text.{Bytes, textOf}
 use Rattle.text.specs.Field.{isVar}
 use Rattle.algebra.specs.Tree.{Pattern}
 use Rattle.algebra.specs.Query.{Query, PairList, Pair, BindingSet, Filter}
 use Rattle.algebra.specs.Layout.{layout, putQuery, putPairs, putSets, putFilters}
-use Rattle.algebra.specs.Valid.{Valid, ValidQuery, ValidPairs, ValidSets, ValidFilters, mem}
+use Rattle.algebra.specs.Valid.{Valid, ValidQuery, ValidPairs, ValidSets, ValidFilters}
 use Rattle.algebra.specs.Depth.{depth, depthFilter}
 use Rattle.algebra.specs.Tally.{Limits, Tally, start, tally, tallyQuery, tallyPairs, tallySets, tallyFilters}
 
@@ -84,12 +84,6 @@ pub record Just {A : Type 0} (P : A → Type 0) : Type 0 where
   pub it : A
   pub holds : P it
   pub only : (a : A) → P a → a ≡ it
-
--- no name stands twice
-unfoldable pub Distinct : List Bytes → Type 0
-unfolding mem
-Distinct [] = Unit {0}
-Distinct (x ∷ xs) = (mem x xs ≡ false) × Distinct xs
 
 -- each is a variable
 unfoldable pub Variables : List Bytes → Type 0

@@ -2,7 +2,7 @@
 use Prim.Native.Nat.{ℕ, suc, _+_, _-_, _≤_}
 use mathlib.Core.Path.{_≡_}
 use mathlib.Core.List.{List, [], _∷_, _++_}
-use mathlib.Core.Bool.{Bool, true, false, cond, _||_}
+use mathlib.Core.Bool.{Bool, true, false, cond, not, _||_, _&&_}
 use lib.ListN.{length}
 use Rattle.text.specs.Text.{Bytes, same}
 use Rattle.text.specs.Field.{most, Kind, variable, node, plain, name, cell, integer, limit, flag, opaque, lexical, form, fits, allFit}
@@ -86,6 +86,12 @@ ValidQuery q = Fits form (q .kind) × Fits opaque (q .dataset) × Fits opaque (q
 unfoldable pub mem : Bytes → List Bytes → Bool
 mem v [] = false
 mem v (x ∷ xs) = same v x || mem v xs
+
+-- no name twice
+unfoldable pub different : List Bytes → Bool
+unfolding mem same
+different [] = true
+different (x ∷ xs) = not (mem x xs) && different xs
 
 -- pairs of the list's kinds; in a list without repetition no first field is among those before it, `seen`
 unfoldable pub ValidPairs : PairList → List Bytes → List Pair → Type 0

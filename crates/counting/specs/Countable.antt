@@ -9,8 +9,7 @@ use Rattle.algebra.specs.Tree.{Triple, Pattern, bgp, path, join, union, minus, 
 use Rattle.algebra.specs.Tree.{Expression, term, bound, exists, apply, call, Condition, always, provided, Expressions, eend, econs}
 use Rattle.algebra.specs.Tree as Tree
 use Rattle.scoping.specs.Sets.{all}
-use Rattle.algebra.specs.Valid.{mem}
-use Rattle.counting.specs.Bag.{different}
+use Rattle.algebra.specs.Valid.{mem, different}
 use Rattle.counting.specs.Condition.{Connective, sameTerm, conjunction, disjunction, negation, outside, connective}
 use Rattle.counting.specs.Scope.{inScope, expressionVars, namesWith, names, scopedOrHidden}
 

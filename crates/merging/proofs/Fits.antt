@@ -9,8 +9,9 @@ use lib.Dec.{eqb, eqb-refl}
 use Rattle.text.specs.Text.{Bytes, same}
 use Rattle.text.specs.Field.{most}
 use Rattle.text.proofs.Basics.{T→so, and-left, and-right, and-both}
-use Rattle.algebra.specs.Valid.{mem}
-use Rattle.scoping.specs.Sets.{any, Once}
+use Rattle.algebra.specs.Valid.{mem, different}
+use Rattle.algebra.proofs.Lines.{different-head, different-tail, different-both}
+use Rattle.scoping.specs.Sets.{any}
 use Rattle.scoping.specs.Label.{isLabel, prefixJ, prefixL, prefixR}
 use Rattle.scoping.specs.Numbering.{numbered}
 use Rattle.scoping.specs.Premises as S
@@ -19,7 +20,6 @@ use Rattle.scoping.proofs.Positions.{not-no, inside-first, inside-rest, differe
 use Rattle.scoping.proofs.ScopedOrHidden.{numbered-scoped}
 use Rattle.scoping.proofs.NewVariables.{numbered-few}
 use Rattle.scoping.proofs.Theorem.{side-apart, side-variables, sides-meet}
-use Rattle.counting.specs.Bag.{different}
 use Rattle.counting.specs.Row.{Cell, fits, named, oneTerm, cell}
 use Rattle.counting.specs.Scope.{names, scopedOrHidden}
 use Rattle.counting.specs.Countable.{expressionsKnown}
@@ -40,12 +40,11 @@ not-of b h = ap not h
 
 -- in a list that repeats no name, two positions with one name are one
 at-once : (cs : List Bytes) → different cs ≡ true → (i j : ℕ) → i < length cs → j < length cs → columnAt cs i ≡ columnAt cs j → i ≡ j
-unfolding different
 at-once [] d i j hi hj e = absurd (omega arith)
 at-once (c ∷ cs) d zero zero hi hj e = refl
-at-once (c ∷ cs) d zero (suc j) hi hj e = clash (ap (λ x. mem x cs) e ∙ at-in cs j (omega arith)) (not-no (mem c cs) (and-left (not (mem c cs)) (different cs) d))
-at-once (c ∷ cs) d (suc i) zero hi hj e = clash (ap (λ x. mem x cs) (sym e) ∙ at-in cs i (omega arith)) (not-no (mem c cs) (and-left (not (mem c cs)) (different cs) d))
-at-once (c ∷ cs) d (suc i) (suc j) hi hj e = ap suc (at-once cs (and-right (not (mem c cs)) (different cs) d) i j (omega arith) (omega arith) e)
+at-once (c ∷ cs) d zero (suc j) hi hj e = clash (ap (λ x. mem x cs) e ∙ at-in cs j (omega arith)) (different-head c cs d)
+at-once (c ∷ cs) d (suc i) zero hi hj e = clash (ap (λ x. mem x cs) (sym e) ∙ at-in cs i (omega arith)) (different-head c cs d)
+at-once (c ∷ cs) d (suc i) (suc j) hi hj e = ap suc (at-once cs (different-tail c cs d) i j (omega arith) (omega arith) e)
 
 -- a column that stands at one of the positions stands at its own
 found-at : {A : Type 0} (cs : List Bytes) → different cs ≡ true → (pos : A → ℕ) (i : ℕ) → i < length cs → (ks : List A) → inside cs (map pos ks) ≡ true → mem (columnAt cs i) (map (λ k. columnAt cs (pos k)) ks) ≡ true → any (eqb i) (map pos ks) ≡ true
@@ -65,19 +64,14 @@ columns-at-different cs d pos (k ∷ ks) h p = and-both (not (mem (columnAt cs (
 
 -- different columns get one term each
 pub one-term : (cs : List Bytes) (xs : List Cell) → different cs ≡ true → oneTerm cs xs ≡ true
-unfolding oneTerm different
+unfolding oneTerm
 one-term [] xs d = refl
 one-term (c ∷ cs) [] d = refl
 one-term (c ∷ cs) (x ∷ xs) d = and-both (fits x (named cs xs c)) (oneTerm cs xs)
-    (ap (fits x) (only-named cs xs c (not-no (mem c cs) (and-left (not (mem c cs)) (different cs) d))) ∙ fits-none x)
-    (one-term cs xs (and-right (not (mem c cs)) (different cs) d))
+    (ap (fits x) (only-named cs xs c (different-head c cs d)) ∙ fits-none x)
+    (one-term cs xs (different-tail c cs d))
 
 -- ---- one side
-
-once-of : (cs : List Bytes) → different cs ≡ true → Once cs
-unfolding different
-once-of [] d = tt
-once-of (c ∷ cs) d = (not-no (mem c cs) (and-left (not (mem c cs)) (different cs) d), once-of cs (and-right (not (mem c cs)) (different cs) d))
 
 module _ (prefix : ℕ) (x : Projection) (is : List ℕ) (ks : List Constant) (k : Known prefix x is ks) (s : Supposed x) where
   -- the premises as crates/scoping wants them for the names
@@ -85,7 +79,7 @@ module _ (prefix : ℕ) (x : Projection) (is : List ℕ) (ks : List Constant) (k
   names-of d = record {
     valid = k .valid;
     plain = λ w h. not-no (isLabel w) (all-at (λ w. not (isLabel w)) (numbered (tree x)) (s .no-label) w h);
-    columns = once-of (x .columns) (s .columns-once);
+    columns = s .columns-once;
     positions = k .joins-inside;
     different = d;
   }

@@ -11,6 +11,7 @@ use Rattle.algebra.specs.Query.{Query}
 use Rattle.algebra.specs.Tree.{Triple}
 use Rattle.algebra.specs.Tree.{Pattern, bgp, path, join, union, minus, leftjoin, filter, graph, extend, values, orderby, project, distinct, reduced, slice, group, service}
 use Rattle.algebra.specs.Tree.{Expression, term, bound, exists, apply, call, Condition, always, provided, Expressions, eend, econs, Orders, oend, ocons, Aggregates, aend, agg, aggall}
+use Rattle.algebra.proofs.Lines.{names-different}
 use Rattle.scoping.specs.Sets.{Once, keep, variablesOf, tripleVariables}
 use Rattle.scoping.specs.Places.{Mark, visible, silent, Place, under, marked, places, placesE, placesC, placesEs, placesOs, placesAs, namesOf}
 use Rattle.scoping.specs.Numbering.{byPlace}
@@ -160,26 +161,6 @@ mem-notes v (f ∷ fs) ns h = mem-notes v fs (cond (isVar f) (cond (mem f ns) ns
     go false e s k true i = let z : _≡_ {A = Bool} true false = sym h ∙ ap isVar (same-eq v f i) ∙ e in cc
     go false e s k false i = refl
 
-once-end : (f : Bytes) (ns : List Bytes) → Once ns → mem f ns ≡ false → Once (ns ++ (f ∷ []))
-unfolding mem
-once-end f [] o h = (refl, tt)
-once-end f (n ∷ ns) o h = go (once-end f ns (o .1)) (same f n) refl (mem f ns) refl h
-  where
-    go : (mem f ns ≡ false → Once (ns ++ (f ∷ []))) → (t : Bool) → same f n ≡ t → (s : Bool) → mem f ns ≡ s → (t || s) ≡ false → Once ((n ∷ ns) ++ (f ∷ []))
-    go r true e s k x = absurd (true≢false x)
-    go r false e true k x = absurd (true≢false x)
-    go r false e false k x = (mem-append n ns (f ∷ []) ∙ ap (λ (b : Bool). b || (same n f || false)) (o .0) ∙ or-false (same n f) ∙ same-sym n f ∙ e, r k)
-
-once-notes : (fs ns : List Bytes) → Once ns → Once (notes fs ns)
-unfolding notes
-once-notes [] ns o = o
-once-notes (f ∷ fs) ns o = once-notes fs (cond (isVar f) (cond (mem f ns) ns (ns ++ (f ∷ []))) ns) (go (isVar f) (mem f ns) refl)
-  where
-    go : (t s : Bool) → mem f ns ≡ s → Once (cond t (cond s ns (ns ++ (f ∷ []))) ns)
-    go true true e = o
-    go true false e = once-end f ns o e
-    go false s e = o
-
 -- a variable is among the names by first place exactly if it stands somewhere
 pub by-place-mem : (p : Pattern) (v : Bytes) → isVar v ≡ true → mem v (byPlace p) ≡ mem v (namesOf (places p visible))
 unfolding mem
@@ -187,4 +168,4 @@ by-place-mem p v h = ap (mem v) (by-place-walked p) ∙ mem-notes v (namesOf (pl
 
 pub by-place-once : (p : Pattern) → Once (byPlace p)
 unfolding byPlace
-by-place-once p = subst Once (sym (by-place-walked p)) (once-notes (namesOf (places p visible)) [] tt)
+by-place-once p = names-different p .0

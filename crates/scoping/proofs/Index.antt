@@ -8,6 +8,7 @@ use lib.ListN.{length, getD}
 use Rattle.text.specs.Text.{Bytes, same}
 use Rattle.text.proofs.Basics.{same-eq, same-refl, and-left, and-right, and-both}
 use Rattle.algebra.specs.Valid.{mem}
+use Rattle.algebra.proofs.Lines.{different-head, different-tail}
 use Rattle.scoping.specs.Sets.{Once, indexOf}
 use Rattle.scoping.specs.Premises.{isPair}
 use Rattle.scoping.proofs.Sets.{not-same, eq-same}
@@ -43,10 +44,10 @@ pub index-at : (vs : List Bytes) (i : ℕ) → Once vs → i < length vs → ind
 unfolding indexOf
 index-at [] i o h = absurd (omega arith)
 index-at (v ∷ vs) zero o h = simp (same-refl v)
-index-at (v ∷ vs) (suc i) o h = ap (λ (b : Bool). cond b 0 (suc (indexOf (getD vs i []) vs))) other ∙ ap suc (index-at vs i (o .1) (omega arith))
+index-at (v ∷ vs) (suc i) o h = ap (λ (b : Bool). cond b 0 (suc (indexOf (getD vs i []) vs))) other ∙ ap suc (index-at vs i (different-tail v vs o) (omega arith))
   where
     other : same (getD vs i []) v ≡ false
-    other = not-same (getD vs i []) v (λ e. true≢false (sym (mem-at vs i (omega arith)) ∙ ap (λ (n : Bytes). mem n vs) e ∙ o .0))
+    other = not-same (getD vs i []) v (λ e. true≢false (sym (mem-at vs i (omega arith)) ∙ ap (λ (n : Bytes). mem n vs) e ∙ different-head v vs o))
 
 -- ---- pairs
 

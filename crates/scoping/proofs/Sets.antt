@@ -6,6 +6,7 @@ use Prim.Native.Nat.{ℕ}
 use Rattle.text.specs.Text.{Bytes, same}
 use Rattle.text.proofs.Basics.{same-eq, same-refl}
 use Rattle.algebra.specs.Valid.{mem}
+use Rattle.algebra.proofs.Lines.{different-head, different-tail, different-both}
 use Rattle.scoping.specs.Sets.{Alike, Once, keep}
 
 pub and-none : (t : Bool) → (t && false) ≡ false
@@ -71,9 +72,9 @@ mem-keep f v (x ∷ vs) = go (f x) refl (same v x) refl (mem-keep f v vs)
 
 pub once-keep : (f : Bytes → Bool) (vs : List Bytes) → Once vs → Once (keep f vs)
 unfolding keep
-once-keep f [] o = tt
-once-keep f (x ∷ vs) o = go (f x) (once-keep f vs (o .1)) (mem-keep f x vs)
+once-keep f [] o = o
+once-keep f (x ∷ vs) o = go (f x) (once-keep f vs (different-tail x vs o)) (mem-keep f x vs)
   where
     go : (t : Bool) → Once (keep f vs) → mem x (keep f vs) ≡ (f x && mem x vs) → Once (cond t (x ∷ keep f vs) (keep f vs))
-    go true r e = (e ∙ ap (λ (b : Bool). f x && b) (o .0) ∙ and-none (f x), r)
+    go true r e = different-both x (keep f vs) (e ∙ ap (λ (b : Bool). f x && b) (different-head x vs o) ∙ and-none (f x)) r
     go false r e = r

@@ -10,8 +10,9 @@ use borrow.Author.Tests.{eqb-false}
 use Rattle.text.specs.Text.{Bytes, same}
 use Rattle.text.specs.Field.{most, isVar}
 use Rattle.text.proofs.Basics.{same-refl}
-use Rattle.algebra.specs.Valid.{mem}
+use Rattle.algebra.specs.Valid.{mem, different}
 use Rattle.algebra.specs.Tree.{Pattern, project}
+use Rattle.algebra.proofs.Lines.{different-both}
 use Rattle.scoping.specs.Sets.{any, Once, indexOf}
 use Rattle.scoping.specs.Variables.{variablesInPattern}
 use Rattle.scoping.specs.Label.{isLabel, prefixJ, prefixL, prefixR}
@@ -49,10 +50,10 @@ column-other cs o i h (j ∷ is) k d =
     ∙ column-other cs o i h is (inside-rest cs j is k) (or-neither (eqb i j) (any (eqb i) is) d .1)
 
 once-columns : (cs : List Bytes) → Once cs → (is : List ℕ) → inside cs is ≡ true → differentPositions is ≡ true → Once (columnsAt cs is)
-unfolding columnsAt
-once-columns cs o [] k d = tt
+unfolding columnsAt different
+once-columns cs o [] k d = refl
 once-columns cs o (i ∷ is) k d =
-    (column-other cs o i (inside-first cs i is k) is (inside-rest cs i is k) (different-first i is d), once-columns cs o is (inside-rest cs i is k) (different-rest i is d))
+    different-both (getD cs i []) (columnsAt cs is) (column-other cs o i (inside-first cs i is k) is (inside-rest cs i is k) (different-first i is d)) (once-columns cs o is (inside-rest cs i is k) (different-rest i is d))
 
 columns-length : (cs : List Bytes) (is : List ℕ) → length (columnsAt cs is) ≡ length is
 unfolding columnsAt

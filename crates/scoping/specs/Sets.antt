@@ -6,7 +6,7 @@ use mathlib.Core.List.{List, [], _∷_, _++_}
 use Rattle.text.specs.Text.{Bytes, same}
 use Rattle.text.specs.Field.{isVar}
 use Rattle.algebra.specs.Tree.{Triple, Aggregates, aend, agg, aggall}
-use Rattle.algebra.specs.Valid.{mem}
+use Rattle.algebra.specs.Valid.{mem, different}
 
 -- every element passes
 unfoldable pub all : {A : Type 0} → (A → Bool) → List A → Bool
@@ -29,8 +29,7 @@ Alike xs ys = (v : Bytes) → mem v xs ≡ mem v ys
 
 -- no name twice
 abbrev pub Once : List Bytes → Type 0
-Once [] = Unit {0}
-Once (v ∷ vs) = (mem v vs ≡ false) × Once vs
+Once vs = different vs ≡ true
 
 -- the place of a name in a list: its first; behind all of them if it is not there
 unfoldable pub indexOf : Bytes → List Bytes → ℕ
