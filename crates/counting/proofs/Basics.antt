@@ -5,8 +5,9 @@ use mathlib.Core.Bool.{Bool, true, false, cond, not, _&&_, _||_, false≢true, t
 use mathlib.Core.List.{List, [], _∷_, _++_, map}
 use lib.Dec.{T, eqb, eqb→eq, eqb-refl}
 use Rattle.text.specs.Text.{Bytes, same}
+use Rattle.text.specs.Field.{isVar}
 use Rattle.text.proofs.Basics.{and-left, and-right, and-both, same-refl, same-eq}
-use Rattle.scoping.specs.Sets.{all, any, keep}
+use Rattle.scoping.specs.Sets.{all, any, keep, variablesOf}
 use Rattle.algebra.specs.Valid.{mem}
 use Rattle.scoping.proofs.Sets.{mem-keep}
 use Rattle.counting.specs.Bag.{Sub, each, when, once}
@@ -104,6 +105,16 @@ mem-map f v (x ∷ xs) h = either (λ e. mem-eq (f v) (f x) (map f xs) (ap f e))
 pub mem-unmap : (f : Bytes → Bytes) (w : Bytes) (xs : List Bytes) → mem w (map f xs) ≡ true → (v : Bytes) × (mem v xs ≡ true) × (w ≡ f v)
 mem-unmap f w [] h = mem-nil w h
 mem-unmap f w (x ∷ xs) h = either (λ e. (x, mem-here x xs, e)) (λ e. let t = mem-unmap f w xs e in (t .0, mem-there (t .0) x xs (t .1), t .2)) (mem-cases w (f x) (map f xs) h)
+
+-- ---- variables among fields
+
+pub mem-variables : (v : Bytes) (fs : List Bytes) → isVar v ≡ true → mem v fs ≡ true → mem v (variablesOf fs) ≡ true
+unfolding variablesOf
+mem-variables v fs h m = mem-keep isVar v fs ∙ and-both (isVar v) (mem v fs) h m
+
+pub variables-mem : (v : Bytes) (fs : List Bytes) → mem v (variablesOf fs) ≡ true → (isVar v ≡ true) × (mem v fs ≡ true)
+unfolding variablesOf
+variables-mem v fs m = let h = sym (mem-keep isVar v fs) ∙ m in (and-left (isVar v) (mem v fs) h, and-right (isVar v) (mem v fs) h)
 
 -- ---- tests over lists
 

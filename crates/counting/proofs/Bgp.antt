@@ -8,15 +8,15 @@ use native.Mathlib.Nat.{mul-comm, one-mul, zero-mul}
 use Rattle.text.specs.Text.{Bytes, same}
 use Rattle.text.specs.Field.{isVar}
 use Rattle.algebra.specs.Tree.{Triple, bgp}
-use Rattle.scoping.specs.Sets.{all, any}
+use Rattle.scoping.specs.Sets.{all, any, variablesOf, tripleVariables}
 use Rattle.algebra.specs.Valid.{mem}
 use Rattle.counting.specs.Bag.{Sub, each, when, once, total, tick, count}
 use Rattle.counting.specs.Row.{Cell, sameCell, Row, bind, cells, sameOn, sameRow}
 use Rattle.counting.specs.Condition.{value}
-use Rattle.counting.specs.Scope.{fieldVars, tripleVars, inScope}
+use Rattle.scoping.specs.Variables.{variablesInPattern, scopeOf}
 use Rattle.counting.specs.Answer.{ways, isIn, terms, bgpRows, eval, answer}
 use Rattle.text.proofs.Basics.{and-left, and-right, and-both, same-refl, same-eq}
-use Rattle.counting.proofs.Basics.{clash, not-true, both-ways, or-cases, either, mem-nil, mem-here, mem-there, mem-cases, mem-left, mem-right, mem-append-cases, all-cong, all-at, all-of}
+use Rattle.counting.proofs.Basics.{clash, not-true, both-ways, or-cases, either, mem-nil, mem-here, mem-there, mem-cases, mem-left, mem-right, mem-append-cases, mem-variables, variables-mem, all-cong, all-at, all-of}
 use Rattle.counting.proofs.Sums.{cond-zero, total-cong, total-zero, total-map, total-each, total-keep, total-cond, total-mul, cond-tick, count-any, sameCell-eq}
 use Rattle.counting.proofs.Columns.{count-rows}
 
@@ -111,71 +111,64 @@ three-in c d e (x ∷ g) h = either
     (cell-more c (terms g) (terms (x ∷ g)) s (t .0), cell-more d (terms g) (terms (x ∷ g)) s (t .1), cell-more e (terms g) (terms (x ∷ g)) s (t .2)))
     (or-cases (sameCell c (some (x .subj)) && (sameCell d (some (x .pred)) && sameCell e (some (x .obj)))) _ h)
 
-field-bound : (ts : List Bytes) (r : Row) (v x : Bytes) → cellIn ts (value x r) ≡ true → mem v (fieldVars x) ≡ true → cellIn ts (r v) ≡ true
-unfolding value fieldVars when
-field-bound ts r v x h m = go (isVar x) h m
-  where
-    go : (t : Bool) → cellIn ts (cond t (r x) (some x)) ≡ true → mem v (when t x) ≡ true → cellIn ts (r v) ≡ true
-    go true h m = either (λ e. ap (λ k. cellIn ts (r k)) e ∙ h) (λ k. mem-nil v k) (mem-cases v x [] m)
-    go false h m = mem-nil v m
+field-bound : (ts : List Bytes) (r : Row) (v x : Bytes) → cellIn ts (value x r) ≡ true → isVar v ≡ true → v ≡ x → cellIn ts (r v) ≡ true
+unfolding value
+field-bound ts r v x h m e = ap (λ (y : Bytes). cellIn ts (r y)) e ∙ sym (ap (λ (t : Bool). cellIn ts (cond t (r x) (some x))) (ap isVar (sym e) ∙ m)) ∙ h
 
 -- where a row makes every `t` line a triple, it binds each of their names to a term
-triple-bound : (g : List Triple) (r : Row) (t : Triple) → isIn g r t ≡ true → (v : Bytes) → mem v (tripleVars t) ≡ true → cellIn (terms g) (r v) ≡ true
+triple-bound : (g : List Triple) (r : Row) (t : Triple) → isIn g r t ≡ true → (v : Bytes) → mem v (variablesOf (t .subj ∷ t .pred ∷ t .obj ∷ [])) ≡ true → cellIn (terms g) (r v) ≡ true
 unfolding isIn Three
 triple-bound g r t h v m =
     let k = three-in (value (t .subj) r) (value (t .pred) r) (value (t .obj) r) g h in
-    either (λ a. field-bound (terms g) r v (t .subj) (k .0) a) (λ b. either (λ a. field-bound (terms g) r v (t .pred) (k .1) a) (λ a. field-bound (terms g) r v (t .obj) (k .2) a) (mem-append-cases v (fieldVars (t .pred)) (fieldVars (t .obj)) b)) (mem-append-cases v (fieldVars (t .subj)) (fieldVars (t .pred) ++ fieldVars (t .obj)) m)
+    let w = variables-mem v (t .subj ∷ t .pred ∷ t .obj ∷ []) m in
+    either (field-bound (terms g) r v (t .subj) (k .0) (w .0))
+    (λ b. either (field-bound (terms g) r v (t .pred) (k .1) (w .0))
+    (λ c. either (field-bound (terms g) r v (t .obj) (k .2) (w .0)) (λ n. mem-nil v n) (mem-cases v (t .obj) [] c)) (mem-cases v (t .pred) (t .obj ∷ []) b)) (mem-cases v (t .subj) (t .pred ∷ t .obj ∷ []) (w .1))
 
-all-bound : (g : List Triple) (r : Row) (ts : List Triple) → all (isIn g r) ts ≡ true → (v : Bytes) → mem v (each tripleVars ts) ≡ true → cellIn (terms g) (r v) ≡ true
-unfolding all each
+all-bound : (g : List Triple) (r : Row) (ts : List Triple) → all (isIn g r) ts ≡ true → (v : Bytes) → mem v (tripleVariables ts) ≡ true → cellIn (terms g) (r v) ≡ true
+unfolding all tripleVariables
 all-bound g r [] h v m = mem-nil v m
-all-bound g r (t ∷ ts) h v m = either (triple-bound g r t (and-left (isIn g r t) (all (isIn g r) ts) h) v) (all-bound g r ts (and-right (isIn g r t) (all (isIn g r) ts) h) v) (mem-append-cases v (tripleVars t) (each tripleVars ts) m)
+all-bound g r (t ∷ ts) h v m = either (triple-bound g r t (and-left (isIn g r t) (all (isIn g r) ts) h) v) (all-bound g r ts (and-right (isIn g r t) (all (isIn g r) ts) h) v) (mem-append-cases v (variablesOf (t .subj ∷ t .pred ∷ t .obj ∷ [])) (tripleVariables ts) m)
 
 -- rows that are the same on a pattern's names make it alike
-value-same : (x : Bytes) (r s : Row) → ((v : Bytes) → mem v (fieldVars x) ≡ true → r v ≡ s v) → value x r ≡ value x s
-unfolding value fieldVars when
+value-same : (x : Bytes) (r s : Row) → (isVar x ≡ true → r x ≡ s x) → value x r ≡ value x s
+unfolding value
 value-same x r s h = go (isVar x) h
   where
-    go : (t : Bool) → ((v : Bytes) → mem v (when t x) ≡ true → r v ≡ s v) → cond t (r x) (some x) ≡ cond t (s x) (some x)
-    go true h = h x (mem-here x [])
+    go : (t : Bool) → (t ≡ true → r x ≡ s x) → cond t (r x) (some x) ≡ cond t (s x) (some x)
+    go true h = h refl
     go false h = refl
 
-isIn-same : (g : List Triple) (r x : Row) (t : Triple) → ((v : Bytes) → mem v (tripleVars t) ≡ true → r v ≡ x v) → isIn g r t ≡ isIn g x t
+isIn-same : (g : List Triple) (r x : Row) (t : Triple) → ((v : Bytes) → mem v (variablesOf (t .subj ∷ t .pred ∷ t .obj ∷ [])) ≡ true → r v ≡ x v) → isIn g r t ≡ isIn g x t
 unfolding isIn
-isIn-same g r x t h = λ i. any (λ y. sameCell (es i) (some (y .subj)) && (sameCell (ep i) (some (y .pred)) && sameCell (eo i) (some (y .obj)))) g
+isIn-same g r x t h = λ i. any (λ y. sameCell (at (t .subj) (mem-here (t .subj) _) i) (some (y .subj)) && (sameCell (at (t .pred) (mem-there (t .pred) (t .subj) _ (mem-here (t .pred) _)) i) (some (y .pred)) && sameCell (at (t .obj) (mem-there (t .obj) (t .subj) _ (mem-there (t .obj) (t .pred) _ (mem-here (t .obj) []))) i) (some (y .obj)))) g
   where
-    es : value (t .subj) r ≡ value (t .subj) x
-    es = value-same (t .subj) r x (λ v m. h v (mem-left v (fieldVars (t .subj)) (fieldVars (t .pred) ++ fieldVars (t .obj)) m))
+    at : (v : Bytes) → mem v (t .subj ∷ t .pred ∷ t .obj ∷ []) ≡ true → value v r ≡ value v x
+    at v m = value-same v r x (λ e. h v (mem-variables v (t .subj ∷ t .pred ∷ t .obj ∷ []) e m))
 
-    ep : value (t .pred) r ≡ value (t .pred) x
-    ep = value-same (t .pred) r x (λ v m. h v (mem-right v (fieldVars (t .subj)) (fieldVars (t .pred) ++ fieldVars (t .obj)) (mem-left v (fieldVars (t .pred)) (fieldVars (t .obj)) m)))
-
-    eo : value (t .obj) r ≡ value (t .obj) x
-    eo = value-same (t .obj) r x (λ v m. h v (mem-right v (fieldVars (t .subj)) (fieldVars (t .pred) ++ fieldVars (t .obj)) (mem-right v (fieldVars (t .pred)) (fieldVars (t .obj)) m)))
-
-allIn-same : (g : List Triple) (r x : Row) (ts : List Triple) → ((v : Bytes) → mem v (each tripleVars ts) ≡ true → r v ≡ x v) → all (isIn g r) ts ≡ all (isIn g x) ts
-unfolding all each
+allIn-same : (g : List Triple) (r x : Row) (ts : List Triple) → ((v : Bytes) → mem v (tripleVariables ts) ≡ true → r v ≡ x v) → all (isIn g r) ts ≡ all (isIn g x) ts
+unfolding all tripleVariables
 allIn-same g r x [] h = refl
-allIn-same g r x (t ∷ ts) h = ap₂ _&&_ (isIn-same g r x t (λ v m. h v (mem-left v (tripleVars t) (each tripleVars ts) m))) (allIn-same g r x ts (λ v m. h v (mem-right v (tripleVars t) (each tripleVars ts) m)))
+allIn-same g r x (t ∷ ts) h = ap₂ _&&_ (isIn-same g r x t (λ v m. h v (mem-left v (variablesOf (t .subj ∷ t .pred ∷ t .obj ∷ [])) (tripleVariables ts) m))) (allIn-same g r x ts (λ v m. h v (mem-right v (variablesOf (t .subj ∷ t .pred ∷ t .obj ∷ [])) (tripleVariables ts) m)))
 
 -- read at the row itself
-at-row : (g ts : List Triple) (r x : Row) (c : Bool) → sameOn (each tripleVars ts) r x ≡ c → cond (all (isIn g x) ts) (tick c) 0 ≡ cond (all (isIn g r) ts) (tick c) 0
+at-row : (g ts : List Triple) (r x : Row) (c : Bool) → sameOn (tripleVariables ts) r x ≡ c → cond (all (isIn g x) ts) (tick c) 0 ≡ cond (all (isIn g r) ts) (tick c) 0
 unfolding sameOn
-at-row g ts r x true e = ap (λ k. cond {A = ℕ} k 1 0) (allIn-same g x r ts (λ v m. sym (sameCell-eq (r v) (x v) (all-at (λ u. sameCell (r u) (x u)) (each tripleVars ts) e v m))))
+at-row g ts r x true e = ap (λ k. cond {A = ℕ} k 1 0) (allIn-same g x r ts (λ v m. sym (sameCell-eq (r v) (x v) (all-at (λ u. sameCell (r u) (x u)) (tripleVariables ts) e v m))))
 at-row g ts r x false e = cond-zero (all (isIn g x) ts) ∙ sym (cond-zero (all (isIn g r) ts))
 
 -- the same, counted over the rows themselves
-by-rows : (g ts : List Triple) (r : Row) → count (sameOn (each tripleVars ts)) r (bgpRows g ts) ≡ tick (all (isIn g r) ts)
+by-rows : (g ts : List Triple) (r : Row) → count (sameOn (tripleVariables ts)) r (bgpRows g ts) ≡ tick (all (isIn g r) ts)
 unfolding count bgpRows
 by-rows g ts r =
-    total-keep (λ x. tick (sameOn (each tripleVars ts) r x)) (λ x. all (isIn g x) ts) (ways (each tripleVars ts) (once same (terms g)))
-    ∙ (total-cong _ _ (ways (each tripleVars ts) (once same (terms g))) (λ x. at-row g ts r x (sameOn (each tripleVars ts) r x) refl)
-    ∙ (total-cond (all (isIn g r) ts) (λ x. tick (sameOn (each tripleVars ts) r x)) (ways (each tripleVars ts) (once same (terms g)))
-    ∙ (ap (λ n. cond (all (isIn g r) ts) n 0) (ways-count (each tripleVars ts) (terms g) r)
-    ∙ (cond-tick (all (isIn g r) ts) (all (λ u. cellIn (terms g) (r u)) (each tripleVars ts))
-    ∙ ap tick (both-ways (all (isIn g r) ts && all (λ u. cellIn (terms g) (r u)) (each tripleVars ts)) (all (isIn g r) ts)
+    total-keep (λ x. tick (sameOn (tripleVariables ts) r x)) (λ x. all (isIn g x) ts) (ways (tripleVariables ts) (once same (terms g)))
+    ∙ (total-cong _ _ (ways (tripleVariables ts) (once same (terms g))) (λ x. at-row g ts r x (sameOn (tripleVariables ts) r x) refl)
+    ∙ (total-cond (all (isIn g r) ts) (λ x. tick (sameOn (tripleVariables ts) r x)) (ways (tripleVariables ts) (once same (terms g)))
+    ∙ (ap (λ n. cond (all (isIn g r) ts) n 0) (ways-count (tripleVariables ts) (terms g) r)
+    ∙ (cond-tick (all (isIn g r) ts) (all (λ u. cellIn (terms g) (r u)) (tripleVariables ts))
+    ∙ ap tick (both-ways (all (isIn g r) ts && all (λ u. cellIn (terms g) (r u)) (tripleVariables ts)) (all (isIn g r) ts)
     (λ h. and-left (all (isIn g r) ts) _ h)
-    (λ h. and-both (all (isIn g r) ts) _ h (all-of (λ u. cellIn (terms g) (r u)) (each tripleVars ts) (all-bound g r ts h))))))))
+    (λ h. and-both (all (isIn g r) ts) _ h (all-of (λ u. cellIn (terms g) (r u)) (tripleVariables ts) (all-bound g r ts h))))))))
 
 pub sameRow-cells : (U : List Bytes) (a b : Row) → sameRow (cells U a) (cells U b) ≡ sameOn U a b
 unfolding sameRow sameOn all
@@ -183,9 +176,9 @@ sameRow-cells [] a b = refl
 sameRow-cells (v ∷ vs) a b = ap (λ c. sameCell (a v) (b v) && c) (sameRow-cells vs a b)
 
 -- bgp: each row of just its variables that makes every `t` line one of the triples, once; no other
-pub bgp-count : (g ts : List Triple) (r : Row) → count sameRow (cells (inScope (bgp ts)) r) (answer (inScope (bgp ts)) g (bgp ts)) ≡ tick (all (isIn g r) ts)
-unfolding inScope eval count
-bgp-count g ts r = count-rows (each tripleVars ts) (cells (each tripleVars ts) r) g (bgp ts) ∙ (total-cong _ _ (bgpRows g ts) (λ x. ap tick (sameRow-cells (each tripleVars ts) r x)) ∙ by-rows g ts r)
+pub bgp-count : (g ts : List Triple) (r : Row) → count sameRow (cells (scopeOf (bgp ts)) r) (answer (scopeOf (bgp ts)) g (bgp ts)) ≡ tick (all (isIn g r) ts)
+unfolding variablesInPattern eval count
+bgp-count g ts r = count-rows (tripleVariables ts) (cells (tripleVariables ts) r) g (bgp ts) ∙ (total-cong _ _ (bgpRows g ts) (λ x. ap tick (sameRow-cells (tripleVariables ts) r x)) ∙ by-rows g ts r)
 
 -- ---- the order and the repetition of the triples
 
@@ -212,6 +205,6 @@ three-lists g h k (some a) (some b) none = never _ g (λ x. and-none a b x) ∙ 
 three-lists g h k (some a) (some b) (some c) = k (record { subj = a; pred = b; obj = c })
 
 -- bgp: two lists of the same triples, in whatever order and repetition, give each row the same count
-pub bgp-any-order : (g h ts : List Triple) → ((t : Triple) → hasTriple g t ≡ hasTriple h t) → (r : Row) → count sameRow (cells (inScope (bgp ts)) r) (answer (inScope (bgp ts)) g (bgp ts)) ≡ count sameRow (cells (inScope (bgp ts)) r) (answer (inScope (bgp ts)) h (bgp ts))
+pub bgp-any-order : (g h ts : List Triple) → ((t : Triple) → hasTriple g t ≡ hasTriple h t) → (r : Row) → count sameRow (cells (scopeOf (bgp ts)) r) (answer (scopeOf (bgp ts)) g (bgp ts)) ≡ count sameRow (cells (scopeOf (bgp ts)) r) (answer (scopeOf (bgp ts)) h (bgp ts))
 unfolding isIn three-test
 bgp-any-order g h ts k r = bgp-count g ts r ∙ (ap (λ f. tick (all f ts)) (fun-ext (λ t. three-lists g h k (value (t .subj) r) (value (t .pred) r) (value (t .obj) r))) ∙ sym (bgp-count h ts r))

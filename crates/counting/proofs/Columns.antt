@@ -9,7 +9,8 @@ use Rattle.algebra.specs.Tree.{Triple, Pattern}
 use Rattle.algebra.specs.Valid.{mem}
 use Rattle.counting.specs.Bag.{Sub, Inj, total, tick, count}
 use Rattle.counting.specs.Row.{Cell, Row, bind, named, cells, cut, sameRow}
-use Rattle.counting.specs.Scope.{inScope, names}
+use Rattle.scoping.specs.Variables.{variablesInPattern, scopeOf}
+use Rattle.counting.specs.Scope.{names}
 use Rattle.counting.specs.Answer.{eval, answer}
 use Rattle.scoping.specs.Rename.{renameInGraphPattern}
 use Rattle.text.proofs.Basics.{same-eq}
@@ -73,7 +74,7 @@ answer-renamed f g p cs inj new =
     ∙ ap (λ k. map k (eval g p)) (fun-ext (λ r. map-map (push (cs ++ names p) f r) f cs ∙ cells-in (λ v. push (cs ++ names p) f r (f v)) r cs (λ v m. push-at (cs ++ names p) f inj r v (mem-left v cs (names p) m)))))
 
 -- over other columns the rows spread: those in scope decide
-pub answer-spread : (U cs : List Bytes) (g : List Triple) (p : Pattern) → Sub (inScope p) U → answer cs g p ≡ map (λ xs. cells cs (named U xs)) (answer U g p)
+pub answer-spread : (U cs : List Bytes) (g : List Triple) (p : Pattern) → Sub (scopeOf p) U → answer cs g p ≡ map (λ xs. cells cs (named U xs)) (answer U g p)
 unfolding answer
 answer-spread U cs g p s =
     map-every (cells cs) (λ r. cells cs (named U (cells U r))) (only-in U g p s) (λ r o. ap (cells cs) (sym (row-of-cells U r o)))

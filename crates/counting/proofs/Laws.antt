@@ -11,7 +11,7 @@ use Rattle.scoping.specs.Sets.{any, keep}
 use Rattle.counting.specs.Bag.{Sub, each, when, once, total, tick, count}
 use Rattle.counting.specs.Row.{Cell, Row, merge, cut, agree, sameOn, cells, named, oneTerm, cell, sameRow}
 use Rattle.counting.specs.Condition.{termOf, passes}
-use Rattle.counting.specs.Scope.{inScope}
+use Rattle.scoping.specs.Variables.{variablesInPattern, scopeOf}
 use Rattle.counting.specs.Answer.{pairs, orElse, extendBy, lineRows, removed, eval, answer}
 use Rattle.counting.proofs.Basics.{sub-left, sub-right, keep-map}
 use Rattle.counting.proofs.Every.{Every, done, more, every-imp, every-once, every-two, keep-every}
@@ -29,7 +29,7 @@ test-at-cells U m f a o true e = ap (λ r. cond {A = ℕ} (f r) 1 0) (sym (ap (n
 test-at-cells U m f a o false e = cond-zero (f a) ∙ sym (cond-zero (f (named U m)))
 
 -- of the rows kept by a test, m counts as before if the test holds of it, else not at all
-kept-count : (U : List Bytes) (m : List Cell) (f : Row → Bool) (g : List Triple) (p : Pattern) → Sub (inScope p) U → total (λ a. cond (f a) (tick (sameRow m (cells U a))) 0) (eval g p) ≡ cond (f (named U m)) (count sameRow m (answer U g p)) 0
+kept-count : (U : List Bytes) (m : List Cell) (f : Row → Bool) (g : List Triple) (p : Pattern) → Sub (scopeOf p) U → total (λ a. cond (f a) (tick (sameRow m (cells U a))) 0) (eval g p) ≡ cond (f (named U m)) (count sameRow m (answer U g p)) 0
 kept-count U m f g p s =
     total-every _ _ (every-imp (λ a o. test-at-cells U m f a o (sameRow m (cells U a)) refl) (only-in U g p s))
     ∙ (total-cond (f (named U m)) (λ a. tick (sameRow m (cells U a))) (eval g p) ∙ ap (λ n. cond (f (named U m)) n 0) (sym (count-rows U m g p)))
@@ -40,18 +40,18 @@ unfolding eval
 union-count U g p q m = count-rows U m g (union p q) ∙ (total-append (λ a. tick (sameRow m (cells U a))) (eval g p) (eval g q) ∙ sym (ap₂ _+_ (count-rows U m g p) (count-rows U m g q)))
 
 -- filter: the rows that make the expression true
-pub filter-count : (U : List Bytes) (g : List Triple) (p : Pattern) (e : Expression) → Sub (inScope p) U → (m : List Cell) → count sameRow m (answer U g (filter p e)) ≡ cond (passes (provided e) (named U m)) (count sameRow m (answer U g p)) 0
+pub filter-count : (U : List Bytes) (g : List Triple) (p : Pattern) (e : Expression) → Sub (scopeOf p) U → (m : List Cell) → count sameRow m (answer U g (filter p e)) ≡ cond (passes (provided e) (named U m)) (count sameRow m (answer U g p)) 0
 unfolding eval
 filter-count U g p e s m = count-rows U m g (filter p e) ∙ (total-keep (λ a. tick (sameRow m (cells U a))) (passes (provided e)) (eval g p) ∙ kept-count U m (passes (provided e)) g p s)
 
 -- minus: left rows, save where a right row agrees and shares a bound variable
-pub minus-count : (U : List Bytes) (g : List Triple) (p q : Pattern) → Sub (inScope p ++ inScope q) U → (m : List Cell) → count sameRow m (answer U g (minus p q)) ≡ cond (not (removed U (eval g q) (named U m))) (count sameRow m (answer U g p)) 0
+pub minus-count : (U : List Bytes) (g : List Triple) (p q : Pattern) → Sub (scopeOf p ++ scopeOf q) U → (m : List Cell) → count sameRow m (answer U g (minus p q)) ≡ cond (not (removed U (eval g q) (named U m))) (count sameRow m (answer U g p)) 0
 unfolding eval
 minus-count U g p q s m =
     count-rows U m g (minus p q)
-    ∙ (ap (total (λ a. tick (sameRow m (cells U a)))) (keep-every _ _ (eval-only g p) (λ a oa. ap not (sym (removed-wider U (inScope p) (inScope q) a (eval g q) s oa))))
+    ∙ (ap (total (λ a. tick (sameRow m (cells U a)))) (keep-every _ _ (eval-only g p) (λ a oa. ap not (sym (removed-wider U (scopeOf p) (scopeOf q) a (eval g q) s oa))))
     ∙ (total-keep (λ a. tick (sameRow m (cells U a))) (λ a. not (removed U (eval g q) a)) (eval g p)
-    ∙ kept-count U m (λ a. not (removed U (eval g q) a)) g p (sub-left (inScope p) (inScope q) U s)))
+    ∙ kept-count U m (λ a. not (removed U (eval g q) a)) g p (sub-left (scopeOf p) (scopeOf q) U s)))
 
 -- ---- rows that are made of one row each
 
@@ -63,7 +63,7 @@ weigh : (c : Bool) (n : ℕ) → cond c n 0 ≡ n * tick c
 weigh true n = sym (mul-one n)
 weigh false n = sym (mul-zero n)
 
-made-count : (U cs : List Bytes) (f : Row → Row) (g : List Triple) (p : Pattern) → Sub (inScope p) U → (m : List Cell) → total (λ a. tick (sameRow m (cells cs (f a)))) (eval g p) ≡ sums U cs f g p m
+made-count : (U cs : List Bytes) (f : Row → Row) (g : List Triple) (p : Pattern) → Sub (scopeOf p) U → (m : List Cell) → total (λ a. tick (sameRow m (cells cs (f a)))) (eval g p) ≡ sums U cs f g p m
 unfolding sums answer
 made-count U cs f g p s m =
     total-every _ _ (every-imp (λ a o. ap (λ r. tick (sameRow m (cells cs (f r)))) (sym (row-of-cells U a o))) (only-in U g p s))
@@ -72,12 +72,12 @@ made-count U cs f g p s m =
     ∙ sum-once sameRow sameRow-refl sameRow-eq (λ x. tick (sameRow m (cells cs (f (named U x))))) (map (cells U) (eval g p))))
 
 -- extend: `?v` bound to the term or, for a variable, to its term; if unbound, the row as it is
-pub extend-count : (U cs : List Bytes) (g : List Triple) (v : Bytes) (p : Pattern) (e : Expression) → Sub (inScope p) U → (m : List Cell) → count sameRow m (answer cs g (extend v p e)) ≡ sums U cs (λ r. extendBy v (termOf e r) r) g p m
+pub extend-count : (U cs : List Bytes) (g : List Triple) (v : Bytes) (p : Pattern) (e : Expression) → Sub (scopeOf p) U → (m : List Cell) → count sameRow m (answer cs g (extend v p e)) ≡ sums U cs (λ r. extendBy v (termOf e r) r) g p m
 unfolding eval
 extend-count U cs g v p e s m = count-rows cs m g (extend v p e) ∙ (total-map (λ a. tick (sameRow m (cells cs a))) (λ r. extendBy v (termOf e r) r) (eval g p) ∙ made-count U cs (λ r. extendBy v (termOf e r) r) g p s m)
 
 -- project: rows cut to its columns; one row's counts add up
-pub project-count : (U cs : List Bytes) (g : List Triple) (p : Pattern) → Sub (inScope p) U → (m : List Cell) → count sameRow m (answer cs g (project cs p)) ≡ sums U cs (λ r. r) g p m
+pub project-count : (U cs : List Bytes) (g : List Triple) (p : Pattern) → Sub (scopeOf p) U → (m : List Cell) → count sameRow m (answer cs g (project cs p)) ≡ sums U cs (λ r. r) g p m
 unfolding eval
 project-count U cs g p s m =
     count-rows cs m g (project cs p)
@@ -98,10 +98,10 @@ unfolding once
 once-map-every f k h done e = refl
 once-map-every f k h (more {x = x} {xs = xs} p r) e = ap (λ l. h x ∷ l) (ap (keep (λ y. not (f (h x) y))) (once-map-every f k h r e) ∙ (keep-map (λ y. not (f (h x) y)) (λ y. not (f (h x) (h y))) h (once k xs) (λ y. refl) ∙ ap (map h) (keep-every (λ y. not (f (h x) (h y))) (λ y. not (k x y)) (every-once k r) (λ y q. ap not (e x y p q)))))
 
-pub distinct-count : (U : List Bytes) (g : List Triple) (p : Pattern) → Sub (inScope p) U → (m : List Cell) → count sameRow m (answer U g (distinct p)) ≡ tick (any (sameRow m) (answer U g p))
+pub distinct-count : (U : List Bytes) (g : List Triple) (p : Pattern) → Sub (scopeOf p) U → (m : List Cell) → count sameRow m (answer U g (distinct p)) ≡ tick (any (sameRow m) (answer U g p))
 unfolding eval answer
 distinct-count U g p s m =
-    ap (count sameRow m) (sym (once-map-every sameRow (sameOn (inScope p)) (cells U) (eval-only g p) (λ a b oa ob. sameRow-cells U a b ∙ sameOn-wider U (inScope p) a b s oa ob)))
+    ap (count sameRow m) (sym (once-map-every sameRow (sameOn (scopeOf p)) (cells U) (eval-only g p) (λ a b oa ob. sameRow-cells U a b ∙ sameOn-wider U (scopeOf p) a b s oa ob)))
     ∙ count-any sameRow sameRow-refl sameRow-eq m (map (cells U) (eval g p))
 
 -- ---- pairs
@@ -129,23 +129,23 @@ products-total U g p q c m = sum-pairs (meets U c m) (map (cells U) (eval g p)) 
     inner : Row → List Cell → ℕ
     inner a y = tick (meets U c m (cells U a) y)
 
-pairs-products : (U : List Bytes) (g : List Triple) (p q : Pattern) (c : Condition) → Sub (inScope p ++ inScope q) U → (m : List Cell) → total (λ a. total (λ x. tick (sameRow m (cells U x))) (pairs (inScope p ++ inScope q) c a (eval g q))) (eval g p) ≡ products U g p q c m
+pairs-products : (U : List Bytes) (g : List Triple) (p q : Pattern) (c : Condition) → Sub (scopeOf p ++ scopeOf q) U → (m : List Cell) → total (λ a. total (λ x. tick (sameRow m (cells U x))) (pairs (scopeOf p ++ scopeOf q) c a (eval g q))) (eval g p) ≡ products U g p q c m
 unfolding meets
 pairs-products U g p q c s m =
     total-every _ _ (every-two (λ a oa ou.
-    pairs-sum (λ x. tick (sameRow m (cells U x))) (inScope p ++ inScope q) c a (eval g q)
+    pairs-sum (λ x. tick (sameRow m (cells U x))) (scopeOf p ++ scopeOf q) c a (eval g q)
     ∙ total-every _ _ (every-imp (λ b ob.
-    cond-tick (pass (inScope p ++ inScope q) c a b) (sameRow m (cells U (merge a b)))
-    ∙ ap tick (ap (λ t. (t && passes c (merge a b)) && sameRow m (cells U (merge a b))) (sym (agree-both U (inScope p) (inScope q) a b s oa))
-    ∙ ap₂ (λ x y. pass U c x y && sameRow m (cells U (merge x y))) (sym (row-of-cells U a ou)) (sym (row-of-cells U b ob)))) (only-in U g q (sub-right (inScope p) (inScope q) U s)))) (eval-only g p) (only-in U g p (sub-left (inScope p) (inScope q) U s)))
+    cond-tick (pass (scopeOf p ++ scopeOf q) c a b) (sameRow m (cells U (merge a b)))
+    ∙ ap tick (ap (λ t. (t && passes c (merge a b)) && sameRow m (cells U (merge a b))) (sym (agree-both U (scopeOf p) (scopeOf q) a b s oa))
+    ∙ ap₂ (λ x y. pass U c x y && sameRow m (cells U (merge x y))) (sym (row-of-cells U a ou)) (sym (row-of-cells U b ob)))) (only-in U g q (sub-right (scopeOf p) (scopeOf q) U s)))) (eval-only g p) (only-in U g p (sub-left (scopeOf p) (scopeOf q) U s)))
     ∙ sym (products-total U g p q c m)
 
 -- join: unions of agreeing pairs, counts multiplied
-pub join-count : (U : List Bytes) (g : List Triple) (p q : Pattern) → Sub (inScope p ++ inScope q) U → (m : List Cell) → count sameRow m (answer U g (join p q)) ≡ products U g p q always m
+pub join-count : (U : List Bytes) (g : List Triple) (p q : Pattern) → Sub (scopeOf p ++ scopeOf q) U → (m : List Cell) → count sameRow m (answer U g (join p q)) ≡ products U g p q always m
 unfolding eval
 join-count U g p q s m =
     count-rows U m g (join p q)
-    ∙ (total-each (λ a. tick (sameRow m (cells U a))) (λ a. pairs (inScope p ++ inScope q) always a (eval g q)) (eval g p) ∙ pairs-products U g p q always s m)
+    ∙ (total-each (λ a. tick (sameRow m (cells U a))) (λ a. pairs (scopeOf p ++ scopeOf q) always a (eval g q)) (eval g p) ∙ pairs-products U g p q always s m)
 
 -- ---- rows without a pair
 
@@ -173,7 +173,7 @@ filled-pairs vs c a [] = refl
 filled-pairs vs c a (b ∷ bs) = filled-when (pass vs c a b) (merge a b) (pairs vs c a bs) ∙ ap (λ t. pass vs c a b || t) (filled-pairs vs c a bs)
 
 -- leftjoin: the join's pairs whose union makes the expression, if any, true, and left rows in none of these
-pub leftjoin-count : (U : List Bytes) (g : List Triple) (p q : Pattern) (c : Condition) → Sub (inScope p ++ inScope q) U → (m : List Cell) → count sameRow m (answer U g (leftjoin p q c)) ≡ products U g p q c m + cond (not (paired U c (eval g q) (named U m))) (count sameRow m (answer U g p)) 0
+pub leftjoin-count : (U : List Bytes) (g : List Triple) (p q : Pattern) (c : Condition) → Sub (scopeOf p ++ scopeOf q) U → (m : List Cell) → count sameRow m (answer U g (leftjoin p q c)) ≡ products U g p q c m + cond (not (paired U c (eval g q) (named U m))) (count sameRow m (answer U g p)) 0
 unfolding eval
 leftjoin-count U g p q c s m =
     count-rows U m g (leftjoin p q c)
@@ -181,11 +181,11 @@ leftjoin-count U g p q c s m =
     ∙ (total-cong _ _ (eval g p) (λ a. or-else-sum hits a (some-pairs a))
     ∙ (total-add (λ a. total hits (some-pairs a)) (λ a. cond (not (filled (some-pairs a))) (hits a) 0) (eval g p)
     ∙ ap₂ _+_ (pairs-products U g p q c s m)
-    (total-every _ _ (every-imp (λ a oa. ap (λ t. cond (not t) (hits a) 0) (ap filled (sym (pairs-wider U (inScope p) (inScope q) c a (eval g q) s oa)) ∙ filled-pairs U c a (eval g q))) (eval-only g p))
-    ∙ kept-count U m (λ a. not (paired U c (eval g q) a)) g p (sub-left (inScope p) (inScope q) U s)))))
+    (total-every _ _ (every-imp (λ a oa. ap (λ t. cond (not t) (hits a) 0) (ap filled (sym (pairs-wider U (scopeOf p) (scopeOf q) c a (eval g q) s oa)) ∙ filled-pairs U c a (eval g q))) (eval-only g p))
+    ∙ kept-count U m (λ a. not (paired U c (eval g q) a)) g p (sub-left (scopeOf p) (scopeOf q) U s)))))
   where
     hits : Row → ℕ
     hits a = tick (sameRow m (cells U a))
 
     some-pairs : Row → List Row
-    some-pairs a = pairs (inScope p ++ inScope q) c a (eval g q)
+    some-pairs a = pairs (scopeOf p ++ scopeOf q) c a (eval g q)

@@ -6,12 +6,12 @@ use mathlib.Core.Option.{none, some}
 use Rattle.text.specs.Text.{Bytes, same}
 use Rattle.algebra.specs.Tree.{Triple, Pattern, bgp, path, join, union, minus, leftjoin, filter, graph, extend, values, orderby, project, distinct, reduced, slice, group, service}
 use Rattle.algebra.specs.Tree.{Condition, always, provided}
-use Rattle.scoping.specs.Sets.{all}
+use Rattle.scoping.specs.Sets.{all, tripleVariables}
 use Rattle.algebra.specs.Valid.{mem}
 use Rattle.counting.specs.Bag.{Sub, each, when, once}
 use Rattle.counting.specs.Row.{Cell, fits, orCell, Row, bind, merge, cut, agree, sameOn, named, oneTerm, cell}
 use Rattle.counting.specs.Condition.{termOf, passes}
-use Rattle.counting.specs.Scope.{tripleVars, inScope}
+use Rattle.scoping.specs.Variables.{variablesInPattern, scopeOf}
 use Rattle.counting.specs.Answer.{ways, isIn, terms, bgpRows, pairs, orElse, extendBy, lineRows, removed, eval}
 use Rattle.text.proofs.Basics.{same-eq}
 use Rattle.counting.proofs.Basics.{split, clash, not-true, both-ways, either, mem-there, mem-eq, mem-left, mem-right, all-at, all-of}
@@ -78,27 +78,27 @@ every-orElse : {A : Type 0} {P : A → Type 0} (a : A) {xs : List A} → P a →
 every-orElse a p done = more p done
 every-orElse a p (more q r) = more q r
 
-only-bgp : (g ts : List Triple) → Every (Only (each tripleVars ts)) (bgpRows g ts)
+only-bgp : (g ts : List Triple) → Every (Only (tripleVariables ts)) (bgpRows g ts)
 unfolding bgpRows
-only-bgp g ts = every-keep (λ r. all (isIn g r) ts) (only-ways (each tripleVars ts) (once same (terms g)))
+only-bgp g ts = every-keep (λ r. all (isIn g r) ts) (only-ways (tripleVariables ts) (once same (terms g)))
 
 only-line : (cs xs : List Bytes) → Every (Only cs) (lineRows cs xs)
 unfolding lineRows
 only-line cs xs = every-when (oneTerm cs (map cell xs)) (named cs (map cell xs)) (only-named cs (map cell xs))
 
 -- each row of a pattern binds only variables in scope
-pub eval-only : (g : List Triple) (p : Pattern) → Every (Only (inScope p)) (eval g p)
-unfolding eval inScope
+pub eval-only : (g : List Triple) (p : Pattern) → Every (Only (scopeOf p)) (eval g p)
+unfolding eval variablesInPattern
 eval-only g (bgp ts) = only-bgp g ts
-eval-only g (join p q) = every-each (λ a. pairs (inScope p ++ inScope q) always a (eval g q)) (λ a h. only-pairs (inScope p) (inScope q) (inScope p ++ inScope q) always a h (eval-only g q)) (eval-only g p)
-eval-only g (leftjoin p q c) = every-each (λ a. orElse a (pairs (inScope p ++ inScope q) c a (eval g q))) (λ a h. every-orElse a (only-left (inScope p) (inScope q) a h) (only-pairs (inScope p) (inScope q) (inScope p ++ inScope q) c a h (eval-only g q))) (eval-only g p)
+eval-only g (join p q) = every-each (λ a. pairs (scopeOf p ++ scopeOf q) always a (eval g q)) (λ a h. only-pairs (scopeOf p) (scopeOf q) (scopeOf p ++ scopeOf q) always a h (eval-only g q)) (eval-only g p)
+eval-only g (leftjoin p q c) = every-each (λ a. orElse a (pairs (scopeOf p ++ scopeOf q) c a (eval g q))) (λ a h. every-orElse a (only-left (scopeOf p) (scopeOf q) a h) (only-pairs (scopeOf p) (scopeOf q) (scopeOf p ++ scopeOf q) c a h (eval-only g q))) (eval-only g p)
 eval-only g (filter p e) = every-keep (passes (provided e)) (eval-only g p)
-eval-only g (union p q) = every-append (every-imp (λ r h. only-left (inScope p) (inScope q) r h) (eval-only g p)) (every-imp (λ r h. only-right (inScope p) (inScope q) r h) (eval-only g q))
-eval-only g (minus p q) = every-keep (λ a. not (removed (inScope p ++ inScope q) (eval g q) a)) (eval-only g p)
-eval-only g (extend v p e) = every-map (λ r. extendBy v (termOf e r) r) (λ r h. only-extend v (termOf e r) (inScope p) r h) (eval-only g p)
+eval-only g (union p q) = every-append (every-imp (λ r h. only-left (scopeOf p) (scopeOf q) r h) (eval-only g p)) (every-imp (λ r h. only-right (scopeOf p) (scopeOf q) r h) (eval-only g q))
+eval-only g (minus p q) = every-keep (λ a. not (removed (scopeOf p ++ scopeOf q) (eval g q) a)) (eval-only g p)
+eval-only g (extend v p e) = every-map (λ r. extendBy v (termOf e r) r) (λ r h. only-extend v (termOf e r) (scopeOf p) r h) (eval-only g p)
 eval-only g (values cs rs) = every-each {P = λ x. List Bytes} (lineRows cs) (λ xs k. only-line cs xs) (every-all (λ xs. xs) rs)
 eval-only g (project cs p) = every-map (cut cs) (λ r h. only-cut cs r) (eval-only g p)
-eval-only g (distinct p) = every-once (sameOn (inScope p)) (eval-only g p)
+eval-only g (distinct p) = every-once (sameOn (scopeOf p)) (eval-only g p)
 eval-only g (path s t o) = done
 eval-only g (graph n p) = done
 eval-only g (orderby p os) = done
@@ -108,8 +108,8 @@ eval-only g (group ks p rs) = done
 eval-only g (service n s p) = done
 
 -- the rows of p bind only names of U
-pub only-in : (U : List Bytes) (g : List Triple) (p : Pattern) → Sub (inScope p) U → Every (Only U) (eval g p)
-only-in U g p s = every-imp (λ r o. only-sub (inScope p) U r s o) (eval-only g p)
+pub only-in : (U : List Bytes) (g : List Triple) (p : Pattern) → Sub (scopeOf p) U → Every (Only U) (eval g p)
+only-in U g p s = every-imp (λ r o. only-sub (scopeOf p) U r s o) (eval-only g p)
 
 -- ---- what a test over a list of names says of every name
 

@@ -7,109 +7,119 @@ use Rattle.text.specs.Text.{Bytes, same}
 use Rattle.text.specs.Field.{isVar}
 use Rattle.algebra.specs.Tree.{Triple, Pattern, bgp, path, join, union, minus, leftjoin, filter, graph, extend, values, orderby, project, distinct, reduced, slice, group, service}
 use Rattle.algebra.specs.Tree.{Expression, term, bound, exists, apply, call, Condition, always, provided, Expressions, eend, econs}
-use Rattle.scoping.specs.Sets.{all, any, keep}
+use Rattle.scoping.specs.Sets.{all, any, keep, variablesOf, tripleVariables, aggregateVariables}
 use Rattle.algebra.specs.Valid.{mem}
 use Rattle.counting.specs.Bag.{Sub, Inj, each, when, once}
 use Rattle.counting.specs.Row.{sameCell, isBound, Row, bind, merge, cut, agree, sameOn, named, oneTerm, cell}
 use Rattle.counting.specs.Condition.{truth, connective, wordTruth, value, termOf, termsOf, truthOf, truthsOf, isTrue, passes}
-use Rattle.counting.specs.Scope.{fieldVars, tripleVars, inScope, expressionVars, expressionsVars, conditionVars, namesWith, names}
+use Rattle.scoping.specs.Variables.{variablesInPattern, scopeOf}
+use Rattle.scoping.specs.ScopedOrHidden.{conditionVars, namesWith}
+use Rattle.counting.specs.Scope.{expressionVars, expressionsVars, names}
 use Rattle.counting.specs.Answer.{ways, isIn, terms, bgpRows, pairs, orElse, extendBy, lineRows, removed, eval}
 use Rattle.scoping.specs.Rename.{renameInTerm, renameInTriple, renameInGraphPattern, renameInExpression, renameInCondition, renameInExpressions}
-use Rattle.counting.proofs.Basics.{either, mem-nil, mem-here, mem-cases, sub-left, sub-right, sub-append, sub-rest, any-map, map-append, map-map, map-cong, each-cong, each-map, map-each, map-when, keep-map, once-map}
+use Rattle.scoping.proofs.Renamed.{aggregates-renamed}
+use Rattle.counting.proofs.Basics.{either, mem-nil, mem-here, mem-there, mem-cases, mem-variables, variables-mem, sub-left, sub-right, sub-append, sub-rest, any-map, map-append, map-map, map-cong, each-cong, each-map, map-each, map-when, keep-map, once-map}
 use Rattle.counting.proofs.Push.{push, push-at, mem-inj, push-empty, push-bind, push-merge, push-cut, push-named, oneTerm-push, push-extend, agree-push, shares-push, sameOn-push}
 
 two-renamed : (f : Bytes → Bytes) {xs′ ys′ : List Bytes} (xs ys : List Bytes) → xs′ ≡ map f xs → ys′ ≡ map f ys → xs′ ++ ys′ ≡ map f (xs ++ ys)
 two-renamed f xs ys p q = ap₂ _++_ p q ∙ sym (map-append f xs ys)
 
+map-cond : (f : Bytes → Bytes) (t : Bool) (x : Bytes) (xs : List Bytes) → cond t (f x ∷ map f xs) (map f xs) ≡ map f (cond t (x ∷ xs) xs)
+map-cond f true x xs = refl
+map-cond f false x xs = refl
+
 -- what is in scope stands in the pattern
-pub scope-in : (U : List Bytes) (p : Pattern) → Sub (names p) U → Sub (inScope p) U
-unfolding inScope namesWith
+pub scope-in : (U : List Bytes) (p : Pattern) → Sub (names p) U → Sub (scopeOf p) U
+unfolding variablesInPattern namesWith
 scope-in U (bgp ts) s = s
-scope-in U (join p q) s = sub-append (inScope p) (inScope q) U (scope-in U p (sub-left (names p) (names q) U s)) (scope-in U q (sub-right (names p) (names q) U s))
+scope-in U (join p q) s = sub-append (scopeOf p) (scopeOf q) U (scope-in U p (sub-left (names p) (names q) U s)) (scope-in U q (sub-right (names p) (names q) U s))
 scope-in U (leftjoin p q c) s =
     let t : Sub (names p ++ names q) U = sub-left (names p ++ names q) (conditionVars expressionVars c) U s in
-    sub-append (inScope p) (inScope q) U (scope-in U p (sub-left (names p) (names q) U t)) (scope-in U q (sub-right (names p) (names q) U t))
+    sub-append (scopeOf p) (scopeOf q) U (scope-in U p (sub-left (names p) (names q) U t)) (scope-in U q (sub-right (names p) (names q) U t))
 scope-in U (filter p e) s = scope-in U p (sub-left (names p) (expressionVars e) U s)
-scope-in U (union p q) s = sub-append (inScope p) (inScope q) U (scope-in U p (sub-left (names p) (names q) U s)) (scope-in U q (sub-right (names p) (names q) U s))
+scope-in U (union p q) s = sub-append (scopeOf p) (scopeOf q) U (scope-in U p (sub-left (names p) (names q) U s)) (scope-in U q (sub-right (names p) (names q) U s))
 scope-in U (minus p q) s = scope-in U p (sub-left (names p) (names q) U s)
-scope-in U (extend v p e) s = λ u m. either (λ k. ap (λ x. mem x U) k ∙ s v (mem-here v _)) (scope-in U p (sub-left (names p) (expressionVars e) U (sub-rest v (names p ++ expressionVars e) U s)) u) (mem-cases u v (inScope p) m)
+scope-in U (extend v p e) s = λ u m. either (λ k. ap (λ x. mem x U) k ∙ s v (mem-here v _)) (scope-in U p (sub-left (names p) (expressionVars e) U (sub-rest v (names p ++ expressionVars e) U s)) u) (mem-cases u v (scopeOf p) m)
 scope-in U (values cs rs) s = s
 scope-in U (project cs p) s = sub-left cs (names p) U s
 scope-in U (distinct p) s = scope-in U p s
 scope-in U (path s t o) k = k
-scope-in U (graph n p) k = k
-scope-in U (orderby p os) k = k
-scope-in U (reduced p) k = k
-scope-in U (slice s l p) k = k
-scope-in U (group ks p rs) k = k
-scope-in U (service n s p) k = k
+scope-in U (graph n p) k = sub-append (variablesOf (n ∷ [])) (scopeOf p) U (sub-left (variablesOf (n ∷ [])) (names p) U k) (scope-in U p (sub-right (variablesOf (n ∷ [])) (names p) U k))
+scope-in U (orderby p os) k = scope-in U p k
+scope-in U (reduced p) k = scope-in U p k
+scope-in U (slice s l p) k = scope-in U p k
+scope-in U (group ks p rs) k = sub-left (ks ++ aggregateVariables rs) (names p) U k
+scope-in U (service n s p) k = scope-in U p k
 
-pub both-in : (U : List Bytes) (p q : Pattern) → Sub (names p ++ names q) U → Sub (inScope p ++ inScope q) U
-both-in U p q s = sub-append (inScope p) (inScope q) U (scope-in U p (sub-left (names p) (names q) U s)) (scope-in U q (sub-right (names p) (names q) U s))
+pub both-in : (U : List Bytes) (p q : Pattern) → Sub (names p ++ names q) U → Sub (scopeOf p ++ scopeOf q) U
+both-in U p q s = sub-append (scopeOf p) (scopeOf q) U (scope-in U p (sub-left (names p) (names q) U s)) (scope-in U q (sub-right (names p) (names q) U s))
 
 module _ (U : List Bytes) (f : Bytes → Bytes) (inj : Inj U f) (new : (v : Bytes) → mem v U ≡ true → isVar (f v) ≡ true) where
   -- ---- fields: a variable's new name is a variable, any other term stays
 
-  field-cases : {A : Type 0} (x : Bytes) (a b : Bytes → A) (c d : A) → Sub (fieldVars x) U → (mem x U ≡ true → a (f x) ≡ c) → b x ≡ d → cond (isVar (renameInTerm f x)) (a (renameInTerm f x)) (b (renameInTerm f x)) ≡ cond (isVar x) c d
-  unfolding renameInTerm fieldVars when
-  field-cases x a b c d s h k = go (isVar x) refl s
+  -- a field that is a variable is known
+  abbrev Known : Bytes → Type 0
+  Known x = isVar x ≡ true → mem x U ≡ true
+
+  known-field : (x : Bytes) (fs : List Bytes) → mem x fs ≡ true → Sub (variablesOf fs) U → Known x
+  known-field x fs m s e = s x (mem-variables x fs e m)
+
+  field-cases : {A : Type 0} (x : Bytes) (a b : Bytes → A) (c d : A) → Known x → (mem x U ≡ true → a (f x) ≡ c) → b x ≡ d → cond (isVar (renameInTerm f x)) (a (renameInTerm f x)) (b (renameInTerm f x)) ≡ cond (isVar x) c d
+  unfolding renameInTerm
+  field-cases x a b c d s h k = go (isVar x) refl
     where
-      go : (t : Bool) → isVar x ≡ t → Sub (when t x) U → cond (isVar (cond t (f x) x)) (a (cond t (f x) x)) (b (cond t (f x) x)) ≡ cond t c d
-      go true e s = let m : mem x U ≡ true = s x (mem-here x []) in ap (λ t. cond t (a (f x)) (b (f x))) (new x m) ∙ h m
-      go false e s = ap (λ t. cond t (a x) (b x)) e ∙ k
+      go : (t : Bool) → isVar x ≡ t → cond (isVar (cond t (f x) x)) (a (cond t (f x) x)) (b (cond t (f x) x)) ≡ cond t c d
+      go true e = let m : mem x U ≡ true = s e in ap (λ t. cond t (a (f x)) (b (f x))) (new x m) ∙ h m
+      go false e = ap (λ t. cond t (a x) (b x)) e ∙ k
 
-  when-cond : {A : Type 0} (t : Bool) (x : A) → when t x ≡ cond t (x ∷ []) []
-  unfolding when
-  when-cond true x = refl
-  when-cond false x = refl
+  fields-renamed : (fs : List Bytes) → Sub (variablesOf fs) U → variablesOf (map (renameInTerm f) fs) ≡ map f (variablesOf fs)
+  unfolding variablesOf keep
+  fields-renamed [] s = refl
+  fields-renamed (x ∷ fs) s =
+      let r : variablesOf (map (renameInTerm f) fs) ≡ map f (variablesOf fs) = fields-renamed fs (λ v m. let k = variables-mem v fs m in s v (mem-variables v (x ∷ fs) (k .0) (mem-there v x fs (k .1)))) in
+      ap (λ l. cond (isVar (renameInTerm f x)) (renameInTerm f x ∷ l) l) r
+      ∙ field-cases x (λ y. y ∷ map f (variablesOf fs)) (λ y. map f (variablesOf fs)) (f x ∷ map f (variablesOf fs)) (map f (variablesOf fs)) (known-field x (x ∷ fs) (mem-here x fs) s) (λ m. refl) refl
+      ∙ map-cond f (isVar x) x (variablesOf fs)
 
-  fieldVars-renamed : (x : Bytes) → Sub (fieldVars x) U → fieldVars (renameInTerm f x) ≡ map f (fieldVars x)
-  unfolding fieldVars
-  fieldVars-renamed x s = when-cond (isVar (renameInTerm f x)) (renameInTerm f x) ∙ (field-cases x (λ y. y ∷ []) (λ y. []) (f x ∷ []) [] s (λ m. refl) refl ∙ (sym (when-cond (isVar x) (f x)) ∙ sym (map-when f (isVar x) x)))
-
-  tripleVars-renamed : (t : Triple) → Sub (tripleVars t) U → tripleVars (renameInTriple f t) ≡ map f (tripleVars t)
-  tripleVars-renamed t s =
-      let k : Sub (fieldVars (t .pred) ++ fieldVars (t .obj)) U = sub-right (fieldVars (t .subj)) (fieldVars (t .pred) ++ fieldVars (t .obj)) U s in
-      two-renamed f (fieldVars (t .subj)) _ (fieldVars-renamed (t .subj) (sub-left (fieldVars (t .subj)) (fieldVars (t .pred) ++ fieldVars (t .obj)) U s))
-      (two-renamed f (fieldVars (t .pred)) _ (fieldVars-renamed (t .pred) (sub-left (fieldVars (t .pred)) (fieldVars (t .obj)) U k)) (fieldVars-renamed (t .obj) (sub-right (fieldVars (t .pred)) (fieldVars (t .obj)) U k)))
-
-  bgpVars-renamed : (ts : List Triple) → Sub (each tripleVars ts) U → each tripleVars (map (renameInTriple f) ts) ≡ map f (each tripleVars ts)
-  unfolding each
+  bgpVars-renamed : (ts : List Triple) → Sub (tripleVariables ts) U → tripleVariables (map (renameInTriple f) ts) ≡ map f (tripleVariables ts)
+  unfolding tripleVariables
   bgpVars-renamed [] s = refl
-  bgpVars-renamed (t ∷ ts) s = two-renamed f (tripleVars t) (each tripleVars ts) (tripleVars-renamed t (sub-left (tripleVars t) (each tripleVars ts) U s)) (bgpVars-renamed ts (sub-right (tripleVars t) (each tripleVars ts) U s))
+  bgpVars-renamed (t ∷ ts) s =
+      let fs : List Bytes = t .subj ∷ t .pred ∷ t .obj ∷ [] in
+      two-renamed f (variablesOf fs) (tripleVariables ts) (fields-renamed fs (sub-left (variablesOf fs) (tripleVariables ts) U s)) (bgpVars-renamed ts (sub-right (variablesOf fs) (tripleVariables ts) U s))
 
   -- the variables in scope of a renamed pattern
-  pub scope-renamed : (p : Pattern) → Sub (names p) U → inScope (renameInGraphPattern f p) ≡ map f (inScope p)
-  unfolding inScope namesWith renameInGraphPattern
+  pub scope-renamed : (p : Pattern) → Sub (names p) U → scopeOf (renameInGraphPattern f p) ≡ map f (scopeOf p)
+  unfolding variablesInPattern namesWith renameInGraphPattern
   scope-renamed (bgp ts) s = bgpVars-renamed ts s
-  scope-renamed (join p q) s = two-renamed f (inScope p) (inScope q) (scope-renamed p (sub-left (names p) (names q) U s)) (scope-renamed q (sub-right (names p) (names q) U s))
+  scope-renamed (join p q) s = two-renamed f (scopeOf p) (scopeOf q) (scope-renamed p (sub-left (names p) (names q) U s)) (scope-renamed q (sub-right (names p) (names q) U s))
   scope-renamed (leftjoin p q c) s =
       let t : Sub (names p ++ names q) U = sub-left (names p ++ names q) (conditionVars expressionVars c) U s in
-      two-renamed f (inScope p) (inScope q) (scope-renamed p (sub-left (names p) (names q) U t)) (scope-renamed q (sub-right (names p) (names q) U t))
+      two-renamed f (scopeOf p) (scopeOf q) (scope-renamed p (sub-left (names p) (names q) U t)) (scope-renamed q (sub-right (names p) (names q) U t))
   scope-renamed (filter p e) s = scope-renamed p (sub-left (names p) (expressionVars e) U s)
-  scope-renamed (union p q) s = two-renamed f (inScope p) (inScope q) (scope-renamed p (sub-left (names p) (names q) U s)) (scope-renamed q (sub-right (names p) (names q) U s))
+  scope-renamed (union p q) s = two-renamed f (scopeOf p) (scopeOf q) (scope-renamed p (sub-left (names p) (names q) U s)) (scope-renamed q (sub-right (names p) (names q) U s))
   scope-renamed (minus p q) s = scope-renamed p (sub-left (names p) (names q) U s)
   scope-renamed (extend v p e) s = ap (λ l. f v ∷ l) (scope-renamed p (sub-left (names p) (expressionVars e) U (sub-rest v (names p ++ expressionVars e) U s)))
   scope-renamed (values cs rs) s = refl
   scope-renamed (project cs p) s = refl
   scope-renamed (distinct p) s = scope-renamed p s
-  scope-renamed (path s t o) k = refl
-  scope-renamed (graph n p) k = refl
-  scope-renamed (orderby p os) k = refl
-  scope-renamed (reduced p) k = refl
-  scope-renamed (slice s l p) k = refl
-  scope-renamed (group ks p rs) k = refl
-  scope-renamed (service n s p) k = refl
+  scope-renamed (path s t o) k = fields-renamed (s ∷ o ∷ []) k
+  scope-renamed (graph n p) k = two-renamed f (variablesOf (n ∷ [])) (scopeOf p) (fields-renamed (n ∷ []) (sub-left (variablesOf (n ∷ [])) (names p) U k)) (scope-renamed p (sub-right (variablesOf (n ∷ [])) (names p) U k))
+  scope-renamed (orderby p os) k = scope-renamed p k
+  scope-renamed (reduced p) k = scope-renamed p k
+  scope-renamed (slice s l p) k = scope-renamed p k
+  scope-renamed (group ks p rs) k = two-renamed f ks (aggregateVariables rs) refl (aggregates-renamed f rs)
+  scope-renamed (service n s p) k = scope-renamed p k
 
   -- ---- expressions
 
-  value-push : (x : Bytes) (r : Row) → Sub (fieldVars x) U → value (renameInTerm f x) (push U f r) ≡ value x r
+  value-push : (x : Bytes) (r : Row) → Known x → value (renameInTerm f x) (push U f r) ≡ value x r
   unfolding value
   value-push x r s = field-cases x (push U f r) some (r x) (some x) s (λ m. push-at U f inj r x m) refl
 
   term-push : (e : Expression) (r : Row) → Sub (expressionVars e) U → termOf (renameInExpression f e) (push U f r) ≡ termOf e r
   unfolding termOf renameInExpression expressionVars
-  term-push (term x) r s = value-push x r s
+  term-push (term x) r s = value-push x r (known-field x (x ∷ []) (mem-here x []) s)
   term-push (bound v) r s = refl
   term-push (exists p) r s = refl
   term-push (apply o es) r s = refl
@@ -152,23 +162,23 @@ module _ (U : List Bytes) (f : Bytes → Bytes) (inj : Inj U f) (new : (v : Byte
       let k : Sub vs U = sub-rest v vs U s in
       ap₂ (λ c l. cond c l (each (λ t. map (bind (f v) t) l) ts)) (mem-inj U f inj v vs (s v (mem-here v vs)) k) (ways-push vs ts k) ∙ ways-out v vs ts (s v (mem-here v vs)) (mem v vs)
 
-  isIn-push : (g : List Triple) (r : Row) (t : Triple) → Sub (tripleVars t) U → isIn g (push U f r) (renameInTriple f t) ≡ isIn g r t
+  isIn-push : (g : List Triple) (r : Row) (t : Triple) → Sub (variablesOf (t .subj ∷ t .pred ∷ t .obj ∷ [])) U → isIn g (push U f r) (renameInTriple f t) ≡ isIn g r t
   unfolding isIn
-  isIn-push g r t s = λ i. any (λ x. sameCell (value-push (t .subj) r (sub-left (fieldVars (t .subj)) _ U s) i) (some (x .subj)) && (sameCell (value-push (t .pred) r (sub-left (fieldVars (t .pred)) (fieldVars (t .obj)) U rest) i) (some (x .pred)) && sameCell (value-push (t .obj) r (sub-right (fieldVars (t .pred)) (fieldVars (t .obj)) U rest) i) (some (x .obj)))) g
+  isIn-push g r t s = λ i. any (λ x. sameCell (value-push (t .subj) r (known (t .subj) (mem-here (t .subj) _)) i) (some (x .subj)) && (sameCell (value-push (t .pred) r (known (t .pred) (mem-there (t .pred) (t .subj) _ (mem-here (t .pred) _))) i) (some (x .pred)) && sameCell (value-push (t .obj) r (known (t .obj) (mem-there (t .obj) (t .subj) _ (mem-there (t .obj) (t .pred) _ (mem-here (t .obj) [])))) i) (some (x .obj)))) g
     where
-      rest : Sub (fieldVars (t .pred) ++ fieldVars (t .obj)) U
-      rest = sub-right (fieldVars (t .subj)) (fieldVars (t .pred) ++ fieldVars (t .obj)) U s
+      known : (x : Bytes) → mem x (t .subj ∷ t .pred ∷ t .obj ∷ []) ≡ true → Known x
+      known x m = known-field x (t .subj ∷ t .pred ∷ t .obj ∷ []) m s
 
-  allIn-push : (g : List Triple) (r : Row) (ts : List Triple) → Sub (each tripleVars ts) U → all (isIn g (push U f r)) (map (renameInTriple f) ts) ≡ all (isIn g r) ts
-  unfolding all each
+  allIn-push : (g : List Triple) (r : Row) (ts : List Triple) → Sub (tripleVariables ts) U → all (isIn g (push U f r)) (map (renameInTriple f) ts) ≡ all (isIn g r) ts
+  unfolding all tripleVariables
   allIn-push g r [] s = refl
-  allIn-push g r (t ∷ ts) s = ap₂ _&&_ (isIn-push g r t (sub-left (tripleVars t) (each tripleVars ts) U s)) (allIn-push g r ts (sub-right (tripleVars t) (each tripleVars ts) U s))
+  allIn-push g r (t ∷ ts) s = ap₂ _&&_ (isIn-push g r t (sub-left (variablesOf (t .subj ∷ t .pred ∷ t .obj ∷ [])) (tripleVariables ts) U s)) (allIn-push g r ts (sub-right (variablesOf (t .subj ∷ t .pred ∷ t .obj ∷ [])) (tripleVariables ts) U s))
 
-  bgp-push : (g ts : List Triple) → Sub (each tripleVars ts) U → bgpRows g (map (renameInTriple f) ts) ≡ map (push U f) (bgpRows g ts)
+  bgp-push : (g ts : List Triple) → Sub (tripleVariables ts) U → bgpRows g (map (renameInTriple f) ts) ≡ map (push U f) (bgpRows g ts)
   unfolding bgpRows
   bgp-push g ts s =
-      ap (keep (λ r. all (isIn g r) (map (renameInTriple f) ts))) (ap (λ l. ways l (once same (terms g))) (bgpVars-renamed ts s) ∙ ways-push (each tripleVars ts) (once same (terms g)) s)
-      ∙ keep-map (λ r. all (isIn g r) (map (renameInTriple f) ts)) (λ r. all (isIn g r) ts) (push U f) (ways (each tripleVars ts) (once same (terms g))) (λ r. allIn-push g r ts s)
+      ap (keep (λ r. all (isIn g r) (map (renameInTriple f) ts))) (ap (λ l. ways l (once same (terms g))) (bgpVars-renamed ts s) ∙ ways-push (tripleVariables ts) (once same (terms g)) s)
+      ∙ keep-map (λ r. all (isIn g r) (map (renameInTriple f) ts)) (λ r. all (isIn g r) ts) (push U f) (ways (tripleVariables ts) (once same (terms g))) (λ r. allIn-push g r ts s)
 
   pairs-push : (vs : List Bytes) (c : Condition) (a : Row) (bs : List Row) → Sub vs U → Sub (conditionVars expressionVars c) U → pairs (map f vs) (renameInCondition f c) (push U f a) (map (push U f) bs) ≡ map (push U f) (pairs vs c a bs)
   unfolding pairs
@@ -190,8 +200,8 @@ module _ (U : List Bytes) (f : Bytes → Bytes) (inj : Inj U f) (new : (v : Byte
   line-push cs xs s = ap₂ when (oneTerm-push U f inj cs (map cell xs) s) (sym (push-named U f inj cs (map cell xs) s)) ∙ sym (map-when (push U f) (oneTerm cs (map cell xs)) (named cs (map cell xs)))
 
   -- the rows of a pattern of two, whose rows are a function of the names in scope and both sides' rows
-  two-push : (p q : Pattern) → Sub (names p ++ names q) U → (g : List Triple) → eval g (renameInGraphPattern f p) ≡ map (push U f) (eval g p) → eval g (renameInGraphPattern f q) ≡ map (push U f) (eval g q) → (F : List Bytes → List Row → List Row → List Row) → F (inScope (renameInGraphPattern f p) ++ inScope (renameInGraphPattern f q)) (eval g (renameInGraphPattern f p)) (eval g (renameInGraphPattern f q)) ≡ F (map f (inScope p ++ inScope q)) (map (push U f) (eval g p)) (map (push U f) (eval g q))
-  two-push p q s g ep eq F = λ i. F (two-renamed f (inScope p) (inScope q) (scope-renamed p (sub-left (names p) (names q) U s)) (scope-renamed q (sub-right (names p) (names q) U s)) i) (ep i) (eq i)
+  two-push : (p q : Pattern) → Sub (names p ++ names q) U → (g : List Triple) → eval g (renameInGraphPattern f p) ≡ map (push U f) (eval g p) → eval g (renameInGraphPattern f q) ≡ map (push U f) (eval g q) → (F : List Bytes → List Row → List Row → List Row) → F (scopeOf (renameInGraphPattern f p) ++ scopeOf (renameInGraphPattern f q)) (eval g (renameInGraphPattern f p)) (eval g (renameInGraphPattern f q)) ≡ F (map f (scopeOf p ++ scopeOf q)) (map (push U f) (eval g p)) (map (push U f) (eval g q))
+  two-push p q s g ep eq F = λ i. F (two-renamed f (scopeOf p) (scopeOf q) (scope-renamed p (sub-left (names p) (names q) U s)) (scope-renamed q (sub-right (names p) (names q) U s)) i) (ep i) (eq i)
 
   -- the renamed pattern has the renamed rows
   pub eval-renamed : (g : List Triple) (p : Pattern) → Sub (names p) U → eval g (renameInGraphPattern f p) ≡ map (push U f) (eval g p)
@@ -199,18 +209,18 @@ module _ (U : List Bytes) (f : Bytes → Bytes) (inj : Inj U f) (new : (v : Byte
   eval-renamed g (bgp ts) s = bgp-push g ts s
   eval-renamed g (join p q) s =
       two-push p q s g (eval-renamed g p (sub-left (names p) (names q) U s)) (eval-renamed g q (sub-right (names p) (names q) U s)) (λ vs xs bs. each (λ a. pairs vs always a bs) xs)
-      ∙ (each-map _ (push U f) (eval g p) ∙ (each-cong _ _ (eval g p) (λ a. pairs-push (inScope p ++ inScope q) always a (eval g q) (both-in U p q s) (λ v m. mem-nil v m)) ∙ sym (map-each (push U f) _ (eval g p))))
+      ∙ (each-map _ (push U f) (eval g p) ∙ (each-cong _ _ (eval g p) (λ a. pairs-push (scopeOf p ++ scopeOf q) always a (eval g q) (both-in U p q s) (λ v m. mem-nil v m)) ∙ sym (map-each (push U f) _ (eval g p))))
   eval-renamed g (leftjoin p q c) s =
       let t : Sub (names p ++ names q) U = sub-left (names p ++ names q) (conditionVars expressionVars c) U s in
       two-push p q t g (eval-renamed g p (sub-left (names p) (names q) U t)) (eval-renamed g q (sub-right (names p) (names q) U t)) (λ vs xs bs. each (λ a. orElse a (pairs vs (renameInCondition f c) a bs)) xs)
-      ∙ (each-map _ (push U f) (eval g p) ∙ (each-cong _ _ (eval g p) (λ a. ap (orElse (push U f a)) (pairs-push (inScope p ++ inScope q) c a (eval g q) (both-in U p q t) (sub-right (names p ++ names q) (conditionVars expressionVars c) U s)) ∙ orElse-push a (pairs (inScope p ++ inScope q) c a (eval g q))) ∙ sym (map-each (push U f) _ (eval g p))))
+      ∙ (each-map _ (push U f) (eval g p) ∙ (each-cong _ _ (eval g p) (λ a. ap (orElse (push U f a)) (pairs-push (scopeOf p ++ scopeOf q) c a (eval g q) (both-in U p q t) (sub-right (names p ++ names q) (conditionVars expressionVars c) U s)) ∙ orElse-push a (pairs (scopeOf p ++ scopeOf q) c a (eval g q))) ∙ sym (map-each (push U f) _ (eval g p))))
   eval-renamed g (filter p e) s =
       ap (keep (passes (provided (renameInExpression f e)))) (eval-renamed g p (sub-left (names p) (expressionVars e) U s))
       ∙ keep-map (passes (provided (renameInExpression f e))) (passes (provided e)) (push U f) (eval g p) (λ r. passes-push (provided e) r (sub-right (names p) (expressionVars e) U s))
   eval-renamed g (union p q) s = ap₂ _++_ (eval-renamed g p (sub-left (names p) (names q) U s)) (eval-renamed g q (sub-right (names p) (names q) U s)) ∙ sym (map-append (push U f) (eval g p) (eval g q))
   eval-renamed g (minus p q) s =
       two-push p q s g (eval-renamed g p (sub-left (names p) (names q) U s)) (eval-renamed g q (sub-right (names p) (names q) U s)) (λ vs xs bs. keep (λ a. not (removed vs bs a)) xs)
-      ∙ keep-map (λ a. not (removed (map f (inScope p ++ inScope q)) (map (push U f) (eval g q)) a)) _ (push U f) (eval g p) (λ a. ap not (removed-push (inScope p ++ inScope q) a (eval g q) (both-in U p q s)))
+      ∙ keep-map (λ a. not (removed (map f (scopeOf p ++ scopeOf q)) (map (push U f) (eval g q)) a)) _ (push U f) (eval g p) (λ a. ap not (removed-push (scopeOf p ++ scopeOf q) a (eval g q) (both-in U p q s)))
   eval-renamed g (extend v p e) s =
       let t : Sub (names p ++ expressionVars e) U = sub-rest v (names p ++ expressionVars e) U s in
       ap (map (λ r. extendBy (f v) (termOf (renameInExpression f e) r) r)) (eval-renamed g p (sub-left (names p) (expressionVars e) U t))
@@ -221,7 +231,7 @@ module _ (U : List Bytes) (f : Bytes → Bytes) (inj : Inj U f) (new : (v : Byte
       ∙ (map-map _ (push U f) (eval g p) ∙ (map-cong _ _ (eval g p) (λ r. sym (push-cut U f inj cs r (sub-left cs (names p) U s))) ∙ sym (map-map (push U f) (cut cs) (eval g p))))
   eval-renamed g (distinct p) s =
       ap₂ (λ vs l. once (sameOn vs) l) (scope-renamed p s) (eval-renamed g p s)
-      ∙ once-map (sameOn (map f (inScope p))) (sameOn (inScope p)) (push U f) (eval g p) (λ a b. sameOn-push U f inj (inScope p) a b (scope-in U p s))
+      ∙ once-map (sameOn (map f (scopeOf p))) (sameOn (scopeOf p)) (push U f) (eval g p) (λ a b. sameOn-push U f inj (scopeOf p) a b (scope-in U p s))
   eval-renamed g (path s t o) k = refl
   eval-renamed g (graph n p) k = refl
   eval-renamed g (orderby p os) k = refl

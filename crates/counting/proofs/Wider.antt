@@ -11,7 +11,9 @@ use Rattle.algebra.specs.Valid.{mem}
 use Rattle.counting.specs.Bag.{Sub, each, when, once}
 use Rattle.counting.specs.Row.{sameCell, isBound, Row, merge, cut, agree, shares, sameOn}
 use Rattle.counting.specs.Condition.{termOf, passes}
-use Rattle.counting.specs.Scope.{expressionVars, conditionVars, inScope, namesWith, names}
+use Rattle.scoping.specs.Variables.{variablesInPattern, scopeOf}
+use Rattle.scoping.specs.ScopedOrHidden.{conditionVars, namesWith}
+use Rattle.counting.specs.Scope.{expressionVars, names}
 use Rattle.counting.specs.Answer.{bgpRows, pairs, orElse, extendBy, lineRows, removed, eval}
 use Rattle.counting.proofs.Basics.{split, both-ways, either, or-cases, or-inl, or-inr, mem-nil, mem-here, mem-there, mem-cases, sub-left, sub-right, sub-rest, all-at, all-of, each-cong}
 use Rattle.counting.proofs.Every.{each-every, keep-every, once-every}
@@ -91,20 +93,20 @@ unfolding evalIn eval namesWith
 eval-wider U g (bgp ts) s = refl
 eval-wider U g (join p q) s =
     ap₂ (λ xs ys. each (λ a. pairs U always a ys) xs) (eval-wider U g p (sub-left (names p) (names q) U s)) (eval-wider U g q (sub-right (names p) (names q) U s))
-    ∙ each-every _ _ (eval-only g p) (λ a oa. pairs-wider U (inScope p) (inScope q) always a (eval g q) (both-in U p q s) oa)
+    ∙ each-every _ _ (eval-only g p) (λ a oa. pairs-wider U (scopeOf p) (scopeOf q) always a (eval g q) (both-in U p q s) oa)
 eval-wider U g (leftjoin p q c) s =
     let t : Sub (names p ++ names q) U = sub-left (names p ++ names q) (conditionVars expressionVars c) U s in
     ap₂ (λ xs ys. each (λ a. orElse a (pairs U c a ys)) xs) (eval-wider U g p (sub-left (names p) (names q) U t)) (eval-wider U g q (sub-right (names p) (names q) U t))
-    ∙ each-every _ _ (eval-only g p) (λ a oa. ap (orElse a) (pairs-wider U (inScope p) (inScope q) c a (eval g q) (both-in U p q t) oa))
+    ∙ each-every _ _ (eval-only g p) (λ a oa. ap (orElse a) (pairs-wider U (scopeOf p) (scopeOf q) c a (eval g q) (both-in U p q t) oa))
 eval-wider U g (filter p e) s = ap (keep (passes (provided e))) (eval-wider U g p (sub-left (names p) (expressionVars e) U s))
 eval-wider U g (union p q) s = ap₂ _++_ (eval-wider U g p (sub-left (names p) (names q) U s)) (eval-wider U g q (sub-right (names p) (names q) U s))
 eval-wider U g (minus p q) s =
     ap₂ (λ xs ys. keep (λ a. not (removed U ys a)) xs) (eval-wider U g p (sub-left (names p) (names q) U s)) (eval-wider U g q (sub-right (names p) (names q) U s))
-    ∙ keep-every _ _ (eval-only g p) (λ a oa. ap not (removed-wider U (inScope p) (inScope q) a (eval g q) (both-in U p q s) oa))
+    ∙ keep-every _ _ (eval-only g p) (λ a oa. ap not (removed-wider U (scopeOf p) (scopeOf q) a (eval g q) (both-in U p q s) oa))
 eval-wider U g (extend v p e) s = ap (map (λ r. extendBy v (termOf e r) r)) (eval-wider U g p (sub-left (names p) (expressionVars e) U (sub-rest v (names p ++ expressionVars e) U s)))
 eval-wider U g (values cs rs) s = refl
 eval-wider U g (project cs p) s = ap (map (cut cs)) (eval-wider U g p (sub-right cs (names p) U s))
-eval-wider U g (distinct p) s = ap (once (sameOn U)) (eval-wider U g p s) ∙ once-every (sameOn U) (sameOn (inScope p)) (eval-only g p) (λ a b oa ob. sameOn-wider U (inScope p) a b (scope-in U p s) oa ob)
+eval-wider U g (distinct p) s = ap (once (sameOn U)) (eval-wider U g p s) ∙ once-every (sameOn U) (sameOn (scopeOf p)) (eval-only g p) (λ a b oa ob. sameOn-wider U (scopeOf p) a b (scope-in U p s) oa ob)
 eval-wider U g (path s t o) k = refl
 eval-wider U g (graph n p) k = refl
 eval-wider U g (orderby p os) k = refl

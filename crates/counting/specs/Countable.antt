@@ -11,7 +11,9 @@ use Rattle.algebra.specs.Tree as Tree
 use Rattle.scoping.specs.Sets.{all}
 use Rattle.algebra.specs.Valid.{mem, different}
 use Rattle.counting.specs.Condition.{Connective, sameTerm, conjunction, disjunction, negation, outside, connective}
-use Rattle.counting.specs.Scope.{inScope, expressionVars, namesWith, names, scopedOrHidden}
+use Rattle.scoping.specs.Variables.{variablesInPattern, scopeOf}
+use Rattle.scoping.specs.ScopedOrHidden.{namesWith, scopedOrHidden}
+use Rattle.counting.specs.Scope.{expressionVars, names}
 
 -- ---- one walk over a tree, with a test for each kind that has something to test
 
@@ -29,14 +31,14 @@ conditionPasses f (provided e) = f e
 
 -- every part of the tree passes its test
 unfoldable pub everywhere : Tests → Pattern → Bool
-unfolding inScope
+unfolding variablesInPattern
 everywhere t (bgp ts) = t .triples ts
 everywhere t (join p q) = everywhere t p && everywhere t q
 everywhere t (leftjoin p q c) = everywhere t p && (everywhere t q && conditionPasses (t .condition) c)
 everywhere t (filter p e) = everywhere t p && t .condition e
 everywhere t (union p q) = everywhere t p && everywhere t q
 everywhere t (minus p q) = everywhere t p && everywhere t q
-everywhere t (extend v p e) = everywhere t p && t .extended v (inScope p) e
+everywhere t (extend v p e) = everywhere t p && t .extended v (scopeOf p) e
 everywhere t (values cs rs) = t .columns cs
 everywhere t (project cs p) = everywhere t p
 everywhere t (distinct p) = everywhere t p

@@ -6,7 +6,8 @@ use Rattle.text.specs.Text.{Bytes, same}
 use Rattle.text.specs.Field.{isVar}
 use Rattle.scoping.specs.Sets.{all}
 use Rattle.counting.specs.Row.{cell, oneTerm}
-use Rattle.counting.specs.Scope.{names, namesWith, expressionVars}
+use Rattle.scoping.specs.ScopedOrHidden.{namesWith}
+use Rattle.counting.specs.Scope.{names, expressionVars}
 use Rattle.merging.specs.Sides.{Pair, Side, whole, constantColumns, constantTerms, leftJoinVariables, rightJoinVariables}
 use Rattle.scoping.specs.Premises.{isPair, inside}
 use Rattle.merging.proofs.Fit.{SideFit, Fit}

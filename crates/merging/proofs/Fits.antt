@@ -21,14 +21,14 @@ use Rattle.scoping.proofs.ScopedOrHidden.{numbered-scoped}
 use Rattle.scoping.proofs.NewVariables.{numbered-few}
 use Rattle.scoping.proofs.Theorem.{side-apart, side-variables, sides-meet}
 use Rattle.counting.specs.Row.{Cell, fits, named, oneTerm, cell}
-use Rattle.counting.specs.Scope.{names, scopedOrHidden}
+use Rattle.scoping.specs.ScopedOrHidden.{scopedOrHidden}
+use Rattle.counting.specs.Scope.{names}
 use Rattle.counting.specs.Countable.{expressionsKnown}
 use Rattle.counting.proofs.Basics.{clash, not-true, or-inl, or-inr, either, mem-nil, mem-cases, all-at}
 use Rattle.counting.proofs.Only.{only-named, fits-none}
 use Rattle.merging.specs.Sides.{Pair, Constant, Side, columnAt, constantColumns, constantTerms, lefts, rights, standardized}
 use Rattle.merging.specs.Request.{Projection, tree, Request, leftSide, rightSide}
 use Rattle.merging.specs.Demand3.{Supposed, Premises}
-use Rattle.merging.proofs.Counted.{counted}
 use Rattle.merging.proofs.Fit.{SideFit, Fit}
 use Rattle.merging.proofs.Side.{at-in}
 use Rattle.merging.proofs.Written.{Known}
@@ -87,7 +87,7 @@ module _ (prefix : ℕ) (x : Projection) (is : List ℕ) (ks : List Constant) (k
   -- every name of the tree is numbered
   numbered-if : (v : Bytes) → mem v (names (tree x)) ≡ true → mem v (numbered (tree x)) ≡ true
   unfolding expressionsKnown
-  numbered-if v h = numbered-scoped (tree x) (k .valid) v ∙ counted (tree x) .at v (all-at (λ v. mem v (scopedOrHidden (tree x))) (names (tree x)) (s .expressions-known) v h)
+  numbered-if v h = numbered-scoped (tree x) (k .valid) v ∙ all-at (λ v. mem v (scopedOrHidden (tree x))) (names (tree x)) (s .expressions-known) v h
 
   few-names : length (numbered (tree x)) ≤ most
   few-names = let a = k .names in let b = numbered-few (tree x) in omega arith

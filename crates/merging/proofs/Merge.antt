@@ -10,7 +10,8 @@ use Rattle.algebra.specs.Valid.{mem}
 use Rattle.scoping.specs.Sets.{keep}
 use Rattle.counting.specs.Bag.{Sub, total, tick, count}
 use Rattle.counting.specs.Row.{Cell, fits, orCell, Row, merge, cut, agree, agreeAll, mergeAll, cells, named, sameRow}
-use Rattle.counting.specs.Scope.{inScope, names}
+use Rattle.scoping.specs.Variables.{variablesInPattern, scopeOf}
+use Rattle.counting.specs.Scope.{names}
 use Rattle.counting.specs.Answer.{eval, answer}
 use Rattle.merging.specs.Sides.{Pair, Side, whole, renamedColumns, renamedPattern, freeColumns, leftJoinVariables, rightJoinVariables, mergedColumns, merged}
 use Rattle.merging.specs.Expected.{fourRows, makes, sum}
@@ -191,7 +192,7 @@ module _ (l r : Side) (js : List Pair) (fit : Fit l r js) (g : List Triple) wher
     unfolding from-left
     merged-count =
         as-total
-        ∙ (join-sum hits all-names g (renamedPattern l) (renamedPattern r) (sub-append (inScope (renamedPattern l)) (inScope (renamedPattern r)) all-names (λ w k. left-new w (renamed-scope l (fit .left) w k)) (λ w k. right-new w (renamed-scope r (fit .right) w k)))
+        ∙ (join-sum hits all-names g (renamedPattern l) (renamedPattern r) (sub-append (scopeOf (renamedPattern l)) (scopeOf (renamedPattern r)) all-names (λ w k. left-new w (renamed-scope l (fit .left) w k)) (λ w k. right-new w (renamed-scope r (fit .right) w k)))
         ∙ (side-sum l (fit .left) from-left all-names g left-new
         ∙ (total-cong _ _ (eval g (l .inner)) left-row
         ∙ sym sum-total)))

@@ -9,7 +9,7 @@ use Rattle.text.specs.Word.{bytes}
 use Rattle.algebra.specs.Tree.{Triple, Pattern, bgp, values, filter, bound}
 use Rattle.counting.specs.Bag.{count}
 use Rattle.counting.specs.Row.{sameRow}
-use Rattle.counting.specs.Scope.{scopedOrHidden}
+use Rattle.scoping.specs.ScopedOrHidden.{scopedOrHidden}
 use Rattle.counting.specs.Answer.{answer}
 use Rattle.counting.specs.Countable.{expressionsKnown}
 use Rattle.merging.specs.Sides.{Pair, Constant, Side, whole, merged}

@@ -15,7 +15,9 @@ use Rattle.algebra.specs.Valid.{mem}
 use Rattle.counting.specs.Bag.{Sub, total}
 use Rattle.counting.specs.Row.{Cell, orCell, Row, empty, merge, cut, agree, cells, named, oneTerm, cell}
 use Rattle.counting.specs.Condition.{passes}
-use Rattle.counting.specs.Scope.{inScope, namesWith, names}
+use Rattle.scoping.specs.Variables.{variablesInPattern, scopeOf}
+use Rattle.scoping.specs.ScopedOrHidden.{namesWith}
+use Rattle.counting.specs.Scope.{names}
 use Rattle.counting.specs.Answer.{pairs, lineRows, eval, answer}
 use Rattle.scoping.specs.Rename.{renameInGraphPattern}
 use Rattle.merging.specs.Sides.{Constant, Side, whole, columnAt, constantColumns, constantTerms, bindConstants, withoutConstants, renamedColumns, renamedPattern, freeColumns}
@@ -89,11 +91,11 @@ free-sub s = without-sub 0 (renamedColumns s) (s .constants)
 
 -- ---- sums over joined rows, over any list W that has the names in scope
 
-pub join-sum : (F : Row → ℕ) (W : List Bytes) (g : List Triple) (p q : Pattern) → Sub (inScope p ++ inScope q) W → total F (eval g (join p q)) ≡ total (λ a. total (λ b. cond (agree W a b) (F (merge a b)) 0) (eval g q)) (eval g p)
+pub join-sum : (F : Row → ℕ) (W : List Bytes) (g : List Triple) (p q : Pattern) → Sub (scopeOf p ++ scopeOf q) W → total F (eval g (join p q)) ≡ total (λ a. total (λ b. cond (agree W a b) (F (merge a b)) 0) (eval g q)) (eval g p)
 unfolding eval passes
 join-sum F W g p q s =
-    total-each F (λ a. pairs (inScope p ++ inScope q) always a (eval g q)) (eval g p)
-    ∙ total-every _ _ (every-imp (λ a oa. pairs-sum F (inScope p ++ inScope q) always a (eval g q) ∙ total-cong _ _ (eval g q) (λ b. ap (λ c. cond c (F (merge a b)) 0) (and-true (agree (inScope p ++ inScope q) a b) ∙ sym (agree-both W (inScope p) (inScope q) a b s oa)))) (eval-only g p))
+    total-each F (λ a. pairs (scopeOf p ++ scopeOf q) always a (eval g q)) (eval g p)
+    ∙ total-every _ _ (every-imp (λ a oa. pairs-sum F (scopeOf p ++ scopeOf q) always a (eval g q) ∙ total-cong _ _ (eval g q) (λ b. ap (λ c. cond c (F (merge a b)) 0) (and-true (agree (scopeOf p ++ scopeOf q) a b) ∙ sym (agree-both W (scopeOf p) (scopeOf q) a b s oa)))) (eval-only g p))
 
 pub or-none : (x : Cell) → orCell x none ≡ x
 or-none none = refl
@@ -111,17 +113,17 @@ line-sum F g cs xs h =
     ∙ (add-zero (total F (lineRows cs xs))
     ∙ (total-when F (oneTerm cs (map cell xs)) (named cs (map cell xs)) ∙ ap (λ c. cond c (F (named cs (map cell xs))) 0) h))
 
-constants-sum : (F : Row → ℕ) (W : List Bytes) (g : List Triple) (p : Pattern) (cs : List Bytes) (ks : List Constant) → Sub (inScope p ++ constantColumns cs ks) W → oneTerm (constantColumns cs ks) (map cell (constantTerms ks)) ≡ true
+constants-sum : (F : Row → ℕ) (W : List Bytes) (g : List Triple) (p : Pattern) (cs : List Bytes) (ks : List Constant) → Sub (scopeOf p ++ constantColumns cs ks) W → oneTerm (constantColumns cs ks) (map cell (constantTerms ks)) ≡ true
     → total F (eval g (bindConstants p cs ks)) ≡ total (λ a. cond (agree W a (named (constantColumns cs ks) (map cell (constantTerms ks)))) (F (merge a (named (constantColumns cs ks) (map cell (constantTerms ks))))) 0) (eval g p)
-unfolding bindConstants named inScope
+unfolding bindConstants named variablesInPattern
 constants-sum F W g p cs [] s h = total-cong F _ (eval g p) (λ a. sym (ap₂ (λ c r. cond c (F r) 0) (agree-of W a empty (λ w. fits-none (a w))) (merge-empty a)))
 constants-sum F W g p cs (k ∷ ks) s h =
     join-sum F W g p (values (constantColumns cs (k ∷ ks)) (constantTerms (k ∷ ks) ∷ [])) s
     ∙ total-cong _ _ (eval g p) (λ a. line-sum (λ b. cond (agree W a b) (F (merge a b)) 0) g (constantColumns cs (k ∷ ks)) (constantTerms (k ∷ ks)) h)
 
-bind-scope : (p : Pattern) (cs : List Bytes) (ks : List Constant) → Sub (inScope (bindConstants p cs ks)) (inScope p ++ constantColumns cs ks)
-unfolding bindConstants inScope
-bind-scope p cs [] v m = mem-left v (inScope p) [] m
+bind-scope : (p : Pattern) (cs : List Bytes) (ks : List Constant) → Sub (scopeOf (bindConstants p cs ks)) (scopeOf p ++ constantColumns cs ks)
+unfolding bindConstants variablesInPattern
+bind-scope p cs [] v m = mem-left v (scopeOf p) [] m
 bind-scope p cs (k ∷ ks) v m = m
 
 -- a side's answer, over the rows of its inner pattern
@@ -162,14 +164,14 @@ module _ (s : Side) (fit : SideFit s) where
   pub constant-only : Only (renamedColumns s) (constantRow s)
   constant-only = only-sub _ (renamedColumns s) (constantRow s) new-constant-columns-in (only-named (constantColumns (renamedColumns s) (s .constants)) (map cell (constantTerms (s .constants))))
 
-  inner-scope : Sub (inScope (renameInGraphPattern (s .name) (s .inner))) newNames
-  inner-scope v m = map-sub (s .name) (inScope (s .inner)) (names (whole s)) (scope-in (names (whole s)) (s .inner) inner-in) v (subst (λ l. mem v l ≡ true) (scope-renamed (names (whole s)) (s .name) (fit .apart) (fit .variables) (s .inner) inner-in) m)
+  inner-scope : Sub (scopeOf (renameInGraphPattern (s .name) (s .inner))) newNames
+  inner-scope v m = map-sub (s .name) (scopeOf (s .inner)) (names (whole s)) (scope-in (names (whole s)) (s .inner) inner-in) v (subst (λ l. mem v l ≡ true) (scope-renamed (names (whole s)) (s .name) (fit .apart) (fit .variables) (s .inner) inner-in) m)
 
-  bound-scope : Sub (inScope (renameInGraphPattern (s .name) (s .inner)) ++ constantColumns (renamedColumns s) (s .constants)) newNames
-  bound-scope = sub-append (inScope (renameInGraphPattern (s .name) (s .inner))) (constantColumns (renamedColumns s) (s .constants)) newNames inner-scope (λ v m. renamed-columns-in v (new-constant-columns-in v m))
+  bound-scope : Sub (scopeOf (renameInGraphPattern (s .name) (s .inner)) ++ constantColumns (renamedColumns s) (s .constants)) newNames
+  bound-scope = sub-append (scopeOf (renameInGraphPattern (s .name) (s .inner))) (constantColumns (renamedColumns s) (s .constants)) newNames inner-scope (λ v m. renamed-columns-in v (new-constant-columns-in v m))
 
   -- the variables in scope of the renamed pattern are new names
-  pub renamed-scope : Sub (inScope (renamedPattern s)) newNames
+  pub renamed-scope : Sub (scopeOf (renamedPattern s)) newNames
   unfolding renamedPattern
   renamed-scope v m = bound-scope v (bind-scope (renameInGraphPattern (s .name) (s .inner)) (renamedColumns s) (s .constants) v m)
 

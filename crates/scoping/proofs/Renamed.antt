@@ -34,7 +34,7 @@ module _ (f : Bytes → Bytes) where
       ap (λ (l : List Bytes). variables (map f (y .in-scope)) (l ++ map f (y .hidden))) (sym (map-append (x .hidden) (x .in-scope)))
       ∙ ap (variables (map f (y .in-scope))) (sym (map-append (x .hidden ++ x .in-scope) (y .hidden)))
 
-  aggregates-renamed : (rs : Aggregates) → aggregateVariables (renameAggregates f rs) ≡ map f (aggregateVariables rs)
+  pub aggregates-renamed : (rs : Aggregates) → aggregateVariables (renameAggregates f rs) ≡ map f (aggregateVariables rs)
   unfolding aggregateVariables renameAggregates
   aggregates-renamed aend = refl
   aggregates-renamed (agg v n d e rs) = ap (λ (l : List Bytes). f v ∷ l) (aggregates-renamed rs)

@@ -21,6 +21,10 @@ pub last : (s : List Bytes) → Union s [] s
 unfolding mem
 last s = record { at = λ v. refl }
 
+pub nil-end : {s i u : List Bytes} → Union s i u → Union (s ++ []) i u
+unfolding mem
+nil-end {s} a = record { at = λ v. mem-append v s [] ∙ or-false (mem v s) ∙ a .at v }
+
 -- a set all hidden beneath another
 pub beneath : {s i h : List Bytes} (t : List Bytes) → Union s i h → Union (t ++ s) t ((h ++ i) ++ [])
 unfolding mem

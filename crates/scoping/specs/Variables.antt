@@ -46,3 +46,7 @@ variablesInPattern (reduced p) = variablesInPattern p
 variablesInPattern (slice s l p) = variablesInPattern p
 variablesInPattern (service n s p) = variablesInPattern p
 variablesInPattern (filter p e) = variablesInPattern p
+
+-- the variables in scope: those that the pattern's rows can bind
+abbrev pub scopeOf : Pattern → List Bytes
+scopeOf p = variablesInPattern p .in-scope
