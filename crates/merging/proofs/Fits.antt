@@ -14,8 +14,7 @@ use Rattle.algebra.proofs.Lines.{different-head, different-tail, different-both
 use Rattle.scoping.specs.Sets.{any}
 use Rattle.scoping.specs.Label.{isLabel, prefixJ, prefixL, prefixR}
 use Rattle.scoping.specs.Numbering.{numbered}
-use Rattle.scoping.specs.Premises as S
-use Rattle.scoping.specs.Premises.{columnsAt, inside, differentPositions, isPair}
+use Rattle.scoping.specs.Premises.{columnsAt, inside, differentPositions, NamePremises, isPair}
 use Rattle.scoping.proofs.Positions.{not-no, inside-first, inside-rest, different-first, different-rest}
 use Rattle.scoping.proofs.ScopedOrHidden.{numbered-scoped}
 use Rattle.scoping.proofs.NewVariables.{numbered-few}
@@ -75,10 +74,10 @@ one-term (c ∷ cs) (x ∷ xs) d = and-both (fits x (named cs xs c)) (oneTerm cs
 
 module _ (prefix : ℕ) (x : Projection) (is : List ℕ) (ks : List Constant) (k : Known prefix x is ks) (s : Supposed x) where
   -- the premises as crates/scoping wants them for the names
-  pub names-of : differentPositions is ≡ true → S.Premises (x .columns) (x .inner) is
+  pub names-of : differentPositions is ≡ true → NamePremises (x .columns) (x .inner) is
   names-of d = record {
     valid = k .valid;
-    plain = λ w h. not-no (isLabel w) (all-at (λ w. not (isLabel w)) (numbered (tree x)) (s .no-label) w h);
+    plain = s .no-label;
     columns = s .columns-once;
     positions = k .joins-inside;
     different = d;
@@ -111,10 +110,10 @@ columns-map cs f [] = refl
 columns-map cs f (j ∷ js) = ap (λ (l : List Bytes). getD cs (f j) [] ∷ l) (columns-map cs f js)
 
 module _ (m : Request) (a : Known prefixL (m .left) (lefts (m .joins)) (m .left-constants)) (b : Known prefixR (m .right) (rights (m .joins)) (m .right-constants)) (s : Premises m) where
-  pub left-names : S.Premises (m .left .columns) (m .left .inner) (lefts (m .joins))
+  pub left-names : NamePremises (m .left .columns) (m .left .inner) (lefts (m .joins))
   left-names = names-of prefixL (m .left) (lefts (m .joins)) (m .left-constants) a (s .left) (s .left-once)
 
-  pub right-names : S.Premises (m .right .columns) (m .right .inner) (rights (m .joins))
+  pub right-names : NamePremises (m .right .columns) (m .right .inner) (rights (m .joins))
   right-names = names-of prefixR (m .right) (rights (m .joins)) (m .right-constants) b (s .right) (s .right-once)
 
   pub sides-fit : Fit (leftSide m) (rightSide m) (m .joins)

@@ -11,7 +11,7 @@ use Rattle.scoping.specs.Premises.{sideName}
 use Rattle.scoping.specs.Sets.{all, any, keep}
 use Rattle.algebra.specs.Valid.{mem}
 
--- a line of a join list
+-- a line of a join list: two positions (`Pair` of crates/algebra is a line of any list, two fields)
 pub record Pair : Type 0 where
   pub left : ℕ
   pub right : ℕ

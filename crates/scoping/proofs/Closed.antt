@@ -90,7 +90,7 @@ module _ (w : Bytes) (h : isLabel w ≡ false) (p : ℕ) where
           ∙ ap (λ (o : Option Bytes). orElse o (numberedFrom p (suc c) w vs)) (lookup-plain w (aPush v p c) ps h ∙ ap (λ (b : Bool). cond b (some (generated p c)) (lookup w ps)) f)
           ∙ ap (orElse (lookup w ps)) (numbered-on p c w v vs f)
 
-plain-mem : (w : Bytes) (vs : List Bytes) → Plain vs → mem w vs ≡ true → isLabel w ≡ false
+pub plain-mem : (w : Bytes) (vs : List Bytes) → Plain vs → mem w vs ≡ true → isLabel w ≡ false
 unfolding mem
 plain-mem w [] k h = absurd (false≢true h)
 plain-mem w (v ∷ vs) k h = go (plain-mem w vs (k .1)) (same w v) refl h

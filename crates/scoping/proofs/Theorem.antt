@@ -1,7 +1,7 @@
 -- Under document 01's premises: a side's names stay apart, become variables, and a left and a right name meet exactly if they are the two columns of one join pair. Assumes nothing.
 use mathlib.Core.Path.{_≡_, refl, sym, ap, ap₂, _∙_}
 use mathlib.Core.List.{List, [], _∷_}
-use mathlib.Core.Bool.{Bool, true, false, _||_, or-true}
+use mathlib.Core.Bool.{Bool, true, false, not, _||_}
 use Prim.Native.Nat.{ℕ, suc, _≤_, _<_}
 use native.Mathlib.Omega.{arith}
 use lib.ListN.{length, getD}
@@ -9,32 +9,31 @@ use lib.Dec.{eqb}
 use borrow.Author.Tests.{eqb-false}
 use Rattle.text.specs.Text.{Bytes, same}
 use Rattle.text.specs.Field.{most, isVar}
-use Rattle.text.proofs.Basics.{same-refl}
+use Rattle.text.proofs.Basics.{and-left, and-right}
 use Rattle.algebra.specs.Valid.{mem, different}
 use Rattle.algebra.specs.Tree.{Pattern, project}
 use Rattle.algebra.proofs.Lines.{different-both}
-use Rattle.scoping.specs.Sets.{any, Once, indexOf}
+use Rattle.scoping.specs.Sets.{all, any, Once, indexOf}
 use Rattle.scoping.specs.Variables.{variablesInPattern}
 use Rattle.scoping.specs.Label.{isLabel, prefixJ, prefixL, prefixR}
-use Rattle.scoping.specs.Numbering.{byPlace, numbered}
+use Rattle.scoping.specs.Numbering.{numbered}
 use Rattle.scoping.specs.Pushes.{allPushes, newName}
-use Rattle.scoping.specs.Premises.{columnsAt, inside, differentPositions, Premises, Known, sideName, isPair}
+use Rattle.scoping.specs.Premises.{columnsAt, inside, differentPositions, NamePremises, sideName, isPair}
 use Rattle.scoping.proofs.Sets.{not-same}
-use Rattle.scoping.proofs.Positions.{or-neither, inside-first, inside-rest, different-first, different-rest}
+use Rattle.scoping.proofs.Positions.{or-neither, not-no, inside-first, inside-rest, different-first, different-rest}
 use Rattle.scoping.proofs.Numbered.{numbered-mem}
 use Rattle.scoping.proofs.Agree.{renamed-by-pushes}
-use Rattle.scoping.proofs.Closed.{Plain, target, new-name-target}
+use Rattle.scoping.proofs.Closed.{Plain, plain-mem, target, new-name-target}
 use Rattle.scoping.proofs.Index.{mem-at, index-at}
 use Rattle.scoping.proofs.NewVariables.{target-variable}
 use Rattle.scoping.proofs.Meet.{new-names-apart, new-names-meet}
 
 -- ---- from the premises
 
-plain-of : (vs : List Bytes) → ((w : Bytes) → mem w vs ≡ true → isLabel w ≡ false) → Plain vs
-unfolding mem
+plain-of : (vs : List Bytes) → all (λ w. not (isLabel w)) vs ≡ true → Plain vs
+unfolding all
 plain-of [] h = tt
-plain-of (v ∷ vs) h =
-    (h v (ap (λ (b : Bool). b || mem v vs) (same-refl v)), plain-of vs (λ w k. h w (ap (λ (b : Bool). same w v || b) k ∙ or-true (same w v))))
+plain-of (v ∷ vs) h = (not-no (isLabel v) (and-left (not (isLabel v)) _ h), plain-of vs (and-right (not (isLabel v)) _ h))
 
 plain-columns : (cs : List Bytes) (is : List ℕ) → ((w : Bytes) → mem w cs ≡ true → isLabel w ≡ false) → inside cs is ≡ true → Plain (columnsAt cs is)
 unfolding columnsAt
@@ -60,7 +59,7 @@ unfolding columnsAt
 columns-length cs [] = refl
 columns-length cs (i ∷ is) = ap suc (columns-length cs is)
 
-module _ (cs : List Bytes) (p : Pattern) (is : List ℕ) (s : Premises cs p is) where
+module _ (cs : List Bytes) (p : Pattern) (is : List ℕ) (s : NamePremises cs p is) where
   -- a column is numbered
   pub column-numbered : (w : Bytes) → mem w cs ≡ true → mem w (numbered (project cs p)) ≡ true
   unfolding variablesInPattern
@@ -70,7 +69,7 @@ module _ (cs : List Bytes) (p : Pattern) (is : List ℕ) (s : Premises cs p is) 
   names-plain = plain-of (numbered (project cs p)) (s .plain)
 
   joins-plain : Plain (columnsAt cs is)
-  joins-plain = plain-columns cs is (λ w h. s .plain w (column-numbered w h)) (s .positions)
+  joins-plain = plain-columns cs is (λ w h. plain-mem w (numbered (project cs p)) names-plain (column-numbered w h)) (s .positions)
 
   joins-once : Once (columnsAt cs is)
   joins-once = once-columns cs (s .columns) is (s .positions) (s .different)
@@ -89,11 +88,6 @@ module _ (cs : List Bytes) (p : Pattern) (is : List ℕ) (s : Premises cs p is) 
   side-apart prefix d w u h k e =
       new-names-apart prefix d (numbered (project cs p)) (columnsAt cs is) names-plain joins-plain w u h k (sym (by-pushes prefix w) ∙ e ∙ by-pushes prefix u)
 
-  -- and all names of the tree, where expressions name no others
-  pub tree-apart : (prefix : ℕ) → (prefix ≡ prefixJ → ⊥) → Known (project cs p) → (w u : Bytes) → mem w (byPlace (project cs p)) ≡ true → mem u (byPlace (project cs p)) ≡ true
-      → sideName prefix cs p is w ≡ sideName prefix cs p is u → w ≡ u
-  tree-apart prefix d known w u h k = side-apart prefix d w u (known w h) (known u k)
-
   -- and makes variables of them
   pub side-variables : (prefix : ℕ) → length (numbered (project cs p)) ≤ most → length is ≤ most → (w : Bytes) → mem w (numbered (project cs p)) ≡ true
       → isVar (sideName prefix cs p is w) ≡ true
@@ -102,7 +96,7 @@ module _ (cs : List Bytes) (p : Pattern) (is : List ℕ) (s : Premises cs p is) 
       ∙ target-variable prefix (numbered (project cs p)) (columnsAt cs is) w h a (omega (arith, columns-length cs is))
 
 -- a left and a right name become one exactly if they are the two columns of one join pair
-pub sides-meet : (cs : List Bytes) (p : Pattern) (is : List ℕ) (ds : List Bytes) (q : Pattern) (ks : List ℕ) → Premises cs p is → Premises ds q ks
+pub sides-meet : (cs : List Bytes) (p : Pattern) (is : List ℕ) (ds : List Bytes) (q : Pattern) (ks : List ℕ) → NamePremises cs p is → NamePremises ds q ks
     → (w u : Bytes) → mem w (numbered (project cs p)) ≡ true → mem u (numbered (project ds q)) ≡ true
     → same (sideName prefixL cs p is w) (sideName prefixR ds q ks u) ≡ isPair (columnsAt cs is) (columnsAt ds ks) w u
 sides-meet cs p is ds q ks s t w u h k =

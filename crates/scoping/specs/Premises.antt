@@ -1,4 +1,4 @@
--- What document 01 supposes of the two sides of a merge for their names, and the pairs of a join list. Assumes nothing.
+-- The names of a merge's two sides: what document 01 supposes for them, what standardize_variables makes of them, and the pairs of a join list. Assumes nothing.
 use mathlib.Core.Path.{_≡_}
 use mathlib.Core.Bool.{Bool, true, false, not, _||_, _&&_}
 use mathlib.Core.List.{List, [], _∷_}
@@ -6,11 +6,11 @@ use Prim.Native.Nat.{ℕ}
 use lib.ListN.{length, getD}
 use lib.Dec.{eqb, ltb}
 use Rattle.text.specs.Text.{Bytes, same}
-use Rattle.algebra.specs.Valid.{mem, Valid}
+use Rattle.algebra.specs.Valid.{different, Valid}
 use Rattle.algebra.specs.Tree.{Pattern, project}
-use Rattle.scoping.specs.Sets.{all, any, Once}
-use Rattle.scoping.specs.Label.{isLabel, prefixL, prefixR}
-use Rattle.scoping.specs.Numbering.{byPlace, numbered}
+use Rattle.scoping.specs.Sets.{all, any}
+use Rattle.scoping.specs.Label.{isLabel}
+use Rattle.scoping.specs.Numbering.{numbered}
 use Rattle.scoping.specs.Standardize.{standardizeVariables, renamed}
 
 -- left_join_variables, right_join_variables: the columns at positions
@@ -30,16 +30,12 @@ differentPositions [] = true
 differentPositions (i ∷ is) = not (any (eqb i) is) && differentPositions is
 
 -- of a tree `project cs p` and its side's positions in the join list
-pub record Premises (cs : List Bytes) (p : Pattern) (is : List ℕ) : Type 0 where
+pub record NamePremises (cs : List Bytes) (p : Pattern) (is : List ℕ) : Type 0 where
   pub valid : Valid (project cs p)
-  pub plain : (w : Bytes) → mem w (numbered (project cs p)) ≡ true → isLabel w ≡ false  -- no name ends in "Label"
-  pub columns : Once cs  -- no column twice
+  pub plain : all (λ w. not (isLabel w)) (numbered (project cs p)) ≡ true  -- no name ends in "Label"
+  pub columns : different cs ≡ true  -- no column twice
   pub positions : inside cs is ≡ true
   pub different : differentPositions is ≡ true  -- no position twice on its side
-
--- "every variable in an expression is in scope or hidden in that tree"; here a name of a service too
-abbrev pub Known : Pattern → Type 0
-Known p = (w : Bytes) → mem w (byPlace p) ≡ true → mem w (numbered p) ≡ true
 
 -- a name of a tree in the merge: mapping.get(variable).unwrap_or(variable), with the map for the side's prefix and join variables
 unfoldable pub sideName : ℕ → List Bytes → Pattern → List ℕ → Bytes → Bytes
