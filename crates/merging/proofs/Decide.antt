@@ -4,6 +4,7 @@ use mathlib.Core.Bool.{Bool, true, false, not, _&&_, _||_, false≢true, Bool·b
 use mathlib.Core.List.{List, [], _∷_, map}
 use Rattle.text.specs.Text.{Bytes, same}
 use Rattle.text.specs.Field.{isVar}
+use Rattle.algebra.specs.Valid.{mem}
 use Rattle.scoping.specs.Sets.{all}
 use Rattle.counting.specs.Row.{cell, oneTerm}
 use Rattle.scoping.specs.ScopedOrHidden.{namesWith}
@@ -12,6 +13,7 @@ use Rattle.merging.specs.Sides.{Pair, Side, whole, constantColumns, cons
 use Rattle.scoping.specs.Premises.{isPair, inside}
 use Rattle.merging.proofs.Fit.{SideFit, Fit}
 use Rattle.text.proofs.Basics.{and-left, and-right, same-eq}
+use Rattle.scoping.proofs.Positions.{not-no}
 use Rattle.counting.proofs.Basics.{eq-same, all-at}
 
 -- no two names of the list become one
@@ -19,28 +21,26 @@ unfoldable pub keepsApart : List Bytes → (Bytes → Bytes) → Bool
 unfolding all same
 keepsApart vs f = all (λ u. all (λ v. not (same (f u) (f v)) || same u v) vs) vs
 
--- the parts of SideFit: apart, variables, constant-inside, constant-once
+-- the parts of SideFit: apart, variables, no-empty, constant-inside, constant-once
 unfoldable pub sideParts : Side → List Bool
-unfolding keepsApart isVar namesWith expressionVars inside oneTerm cell
+unfolding keepsApart isVar namesWith expressionVars mem same inside oneTerm cell
 sideParts s =
     keepsApart (names (whole s)) (s .name)
     ∷ all (λ v. isVar (s .name v)) (names (whole s))
+    ∷ not (mem [] (names (whole s)))
     ∷ inside (s .columns) (map (λ k. k .position) (s .constants))
     ∷ oneTerm (constantColumns (s .columns) (s .constants)) (map cell (constantTerms (s .constants)))
     ∷ []
 
--- the other parts of Fit: left-inside, right-inside, joined
-unfoldable pub joinParts : Side → Side → List Pair → List Bool
-unfolding all same namesWith expressionVars inside isPair
-joinParts l r js =
-    inside (l .columns) (map (λ j. j .left) js)
-    ∷ inside (r .columns) (map (λ j. j .right) js)
-    ∷ all (λ a. all (λ b. Bool·beq (same (l .name a) (r .name b)) (isPair (leftJoinVariables l js) (rightJoinVariables r js) a b)) (names (whole r))) (names (whole l))
-    ∷ []
+-- the other part of Fit
+unfoldable pub joinedAsPairs : Side → Side → List Pair → Bool
+unfolding all same namesWith expressionVars isPair
+joinedAsPairs l r js =
+    all (λ a. all (λ b. Bool·beq (same (l .name a) (r .name b)) (isPair (leftJoinVariables l js) (rightJoinVariables r js) a b)) (names (whole r))) (names (whole l))
 
 unfoldable pub bothFit : Side → Side → List Pair → Bool
-unfolding sideParts joinParts
-bothFit l r js = all (λ b. b) (sideParts l) && (all (λ b. b) (sideParts r) && all (λ b. b) (joinParts l r js))
+unfolding sideParts joinedAsPairs
+bothFit l r js = all (λ b. b) (sideParts l) && (all (λ b. b) (sideParts r) && joinedAsPairs l r js)
 
 implied : (a b : Bool) → (not a || b) ≡ true → a ≡ true → b ≡ true
 implied true b h e = h
@@ -56,25 +56,23 @@ side-fits-sound : (s : Side) → all (λ b. b) (sideParts s) ≡ true → SideFi
 unfolding sideParts keepsApart
 side-fits-sound s h =
     let rest = and-right (keepsApart (names (whole s)) (s .name)) _ h in
-    let constants = and-right (all (λ v. isVar (s .name v)) (names (whole s))) _ rest in
+    let other = and-right (all (λ v. isVar (s .name v)) (names (whole s))) _ rest in
+    let constants = and-right (not (mem [] (names (whole s)))) _ other in
     record {
       apart = λ u v mu mv e. same-eq u v (implied (same (s .name u) (s .name v)) (same u v) (all-at _ (names (whole s)) (all-at _ (names (whole s)) (and-left (keepsApart (names (whole s)) (s .name)) _ h) u mu) v mv) (eq-same (s .name u) (s .name v) e));
       variables = all-at _ (names (whole s)) (and-left (all (λ v. isVar (s .name v)) (names (whole s))) _ rest);
+      no-empty = not-no (mem [] (names (whole s))) (and-left (not (mem [] (names (whole s)))) _ other);
       constant-inside = and-left (inside (s .columns) (map (λ k. k .position) (s .constants))) _ constants;
       constant-once = and-left (oneTerm (constantColumns (s .columns) (s .constants)) (map cell (constantTerms (s .constants)))) true (and-right (inside (s .columns) (map (λ k. k .position) (s .constants))) _ constants);
     }
 
 -- where the test holds, the two sides fit
 pub both-fit-sound : (l r : Side) (js : List Pair) → bothFit l r js ≡ true → Fit l r js
-unfolding bothFit joinParts
+unfolding bothFit joinedAsPairs
 both-fit-sound l r js h =
     let rest = and-right (all (λ b. b) (sideParts l)) _ h in
-    let joins = and-right (all (λ b. b) (sideParts r)) _ rest in
-    let last = and-right (inside (l .columns) (map (λ j. j .left) js)) _ joins in
     record {
       left = side-fits-sound l (and-left (all (λ b. b) (sideParts l)) _ h);
       right = side-fits-sound r (and-left (all (λ b. b) (sideParts r)) _ rest);
-      left-inside = and-left (inside (l .columns) (map (λ j. j .left) js)) _ joins;
-      right-inside = and-left (inside (r .columns) (map (λ j. j .right) js)) _ last;
-      joined = λ a b ma mb. beq-eq (same (l .name a) (r .name b)) (isPair (leftJoinVariables l js) (rightJoinVariables r js) a b) (all-at _ (names (whole r)) (all-at _ (names (whole l)) (and-left (all (λ a. all (λ b. Bool·beq (same (l .name a) (r .name b)) (isPair (leftJoinVariables l js) (rightJoinVariables r js) a b)) (names (whole r))) (names (whole l))) true (and-right (inside (r .columns) (map (λ j. j .right) js)) _ last)) a ma) b mb);
+      joined = λ a b ma mb. beq-eq (same (l .name a) (r .name b)) (isPair (leftJoinVariables l js) (rightJoinVariables r js) a b) (all-at _ (names (whole r)) (all-at _ (names (whole l)) (and-right (all (λ b. b) (sideParts r)) (joinedAsPairs l r js) rest) a ma) b mb);
     }

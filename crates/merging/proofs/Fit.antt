@@ -1,7 +1,7 @@
 -- What the count of a merge asks of the two renamings and of the constants, whatever the names; proofs/Fits.antt has it of nemo's. Assumes nothing.
 use mathlib.Core.Path.{_≡_}
-use mathlib.Core.Bool.{true}
-use mathlib.Core.List.{List, map}
+use mathlib.Core.Bool.{true, false}
+use mathlib.Core.List.{List, [], map}
 use Rattle.text.specs.Text.{Bytes, same}
 use Rattle.text.specs.Field.{isVar}
 use Rattle.algebra.specs.Valid.{mem}
@@ -15,6 +15,7 @@ use Rattle.merging.specs.Sides.{Pair, Side, whole, constantColumns, cons
 pub record SideFit (s : Side) : Type 0 where
   pub apart : Inj (names (whole s)) (s .name)  -- no two names become one
   pub variables : (v : Bytes) → mem v (names (whole s)) ≡ true → isVar (s .name v) ≡ true  -- a new name is a variable
+  pub no-empty : mem [] (names (whole s)) ≡ false  -- no name is empty
   pub constant-inside : inside (s .columns) (map (λ k. k .position) (s .constants)) ≡ true  -- a constant stands on a column
   pub constant-once : oneTerm (constantColumns (s .columns) (s .constants)) (map cell (constantTerms (s .constants))) ≡ true  -- no column is given two terms
 
@@ -22,6 +23,4 @@ pub record SideFit (s : Side) : Type 0 where
 pub record Fit (l r : Side) (js : List Pair) : Type 0 where
   pub left : SideFit l
   pub right : SideFit r
-  pub left-inside : inside (l .columns) (map (λ j. j .left) js) ≡ true
-  pub right-inside : inside (r .columns) (map (λ j. j .right) js) ≡ true
   pub joined : (a b : Bytes) → mem a (names (whole l)) ≡ true → mem b (names (whole r)) ≡ true → same (l .name a) (r .name b) ≡ isPair (leftJoinVariables l js) (rightJoinVariables r js) a b

@@ -23,7 +23,7 @@ use Rattle.counting.proofs.Sums.{total-cong, total-map, total-cond, sum-pairs}
 use Rattle.counting.proofs.Only.{Only, only-left, only-sub, fits-none, none-fits, Cover, cover-left, cover-right}
 use Rattle.counting.proofs.Push.{push, Hit, hit, miss, view}
 use Rattle.counting.proofs.Columns.{cells-in, cells-cut, count-rows}
-use Rattle.merging.proofs.Side.{constantRow, rows, asSingle, or-none, positions-in, free-sub, join-sum, rows-eq, renamed, newNames, columns-in, renamed-columns-in, constant-only, renamed-scope, side-sum, read-at, only-columns}
+use Rattle.merging.proofs.Side.{constantRow, rows, asSingle, or-none, positions-named, not-empty, free-sub, join-sum, rows-eq, renamed, newNames, columns-in, renamed-columns-in, constant-only, renamed-scope, side-sum, read-at, only-columns}
 use Rattle.merging.proofs.Four.{agree-four, four-wider, four-cong}
 
 -- ---- join pairs
@@ -92,7 +92,7 @@ module _ (l r : Side) (js : List Pair) (fit : Fit l r js) (g : List Triple) wher
   meet : (v u : Bytes) → mem v (names (whole l)) ≡ true → mem u (names (whole r)) ≡ true → l .name v ≡ r .name u → (mem v (l .columns) ≡ true) × (mem u (r .columns) ≡ true)
   meet v u mv mu e =
       let t = pair-in (leftJoinVariables l js) (rightJoinVariables r js) v u (sym (fit .joined v u mv mu) ∙ eq-same (l .name v) (r .name u) e) in
-      (positions-in (l .columns) (λ j. j .left) js (fit .left-inside) v (t .0), positions-in (r .columns) (λ j. j .right) js (fit .right-inside) u (t .1))
+      (positions-named (l .columns) (λ j. j .left) js v (not-empty l (fit .left) v mv) (t .0), positions-named (r .columns) (λ j. j .right) js u (not-empty r (fit .right) u mu) (t .1))
 
   in-left : (w : Bytes) → mem w columns ≡ true → (v : Bytes) → mem v (names (whole l)) ≡ true → l .name v ≡ w → mem v (l .columns) ≡ true
   in-left w m v mv q = either

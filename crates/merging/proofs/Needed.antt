@@ -14,7 +14,7 @@ use Rattle.counting.specs.Answer.{answer}
 use Rattle.counting.specs.Countable.{expressionsKnown}
 use Rattle.merging.specs.Sides.{Pair, Constant, Side, whole, merged}
 use Rattle.merging.specs.Expected.{sum}
-use Rattle.merging.proofs.Decide.{keepsApart, sideParts, joinParts}
+use Rattle.merging.proofs.Decide.{keepsApart, sideParts, joinedAsPairs}
 use Rattle.counting.proofs.Standard.{t, fields, one}
 use Rattle.merging.proofs.Side.{asSingle}
 
@@ -26,34 +26,27 @@ abbrev nothing : Side
 nothing = side [] (bgp []) (λ v. v) []
 
 -- which parts of Fit hold: of the left side, of the right side, of both; the row without columns stands `there` times in the merged answer, and is expected `due` times
-abbrev Counts : List Triple → Side → Side → List Pair → List Bool → List Bool → List Bool → ℕ → ℕ → Type 0
-Counts g l r js ls rs both there due = (sideParts l ≡ ls) × (sideParts r ≡ rs) × (joinParts l r js ≡ both) × (count sameRow [] (answer [] g (merged l r js)) ≡ there) × (sum (asSingle g l) (asSingle g r) [] [] ≡ due)
+abbrev Counts : List Triple → Side → Side → List Pair → List Bool → List Bool → Bool → ℕ → ℕ → Type 0
+Counts g l r js ls rs both there due = (sideParts l ≡ ls) × (sideParts r ≡ rs) × (joinedAsPairs l r js ≡ both) × (count sameRow [] (answer [] g (merged l r js)) ≡ there) × (sum (asSingle g l) (asSingle g r) [] [] ≡ due)
 
 -- every part of a side holds, or all but one
 abbrev side-holds : List Bool
-side-holds = true ∷ true ∷ true ∷ true ∷ []
+side-holds = true ∷ true ∷ true ∷ true ∷ true ∷ []
 
 abbrev but-apart : List Bool
-but-apart = false ∷ true ∷ true ∷ true ∷ []
+but-apart = false ∷ true ∷ true ∷ true ∷ true ∷ []
 
 abbrev but-variables : List Bool
-but-variables = true ∷ false ∷ true ∷ true ∷ []
+but-variables = true ∷ false ∷ true ∷ true ∷ true ∷ []
+
+abbrev but-no-empty : List Bool
+but-no-empty = true ∷ true ∷ false ∷ true ∷ true ∷ []
 
 abbrev but-inside : List Bool
-but-inside = true ∷ true ∷ false ∷ true ∷ []
+but-inside = true ∷ true ∷ true ∷ false ∷ true ∷ []
 
 abbrev but-once : List Bool
-but-once = true ∷ true ∷ true ∷ false ∷ []
-
--- the same of both: left-inside, right-inside, joined
-abbrev both-hold : List Bool
-both-hold = true ∷ true ∷ true ∷ []
-
-abbrev but-left : List Bool
-but-left = false ∷ true ∷ true ∷ []
-
-abbrev but-joined : List Bool
-but-joined = true ∷ true ∷ false ∷ []
+but-once = true ∷ true ∷ true ∷ true ∷ false ∷ []
 
 abbrev value : String → String → Pattern
 value v x = values (fields (v ∷ [])) (fields (x ∷ []) ∷ [])
@@ -62,39 +55,44 @@ abbrev constant : ℕ → String → Constant
 constant i x = record { position = i; term = bytes x }
 
 -- hidden names of both sides that meet: they contradict one another
-hidden-names-meet : Counts [] (side [] (value "?h" "<1>") (λ v. v) []) (side [] (value "?h" "<2>") (λ v. v) []) [] side-holds side-holds but-joined 0 1
-unfolding sideParts joinParts count answer merged sum
+hidden-names-meet : Counts [] (side [] (value "?h" "<1>") (λ v. v) []) (side [] (value "?h" "<2>") (λ v. v) []) [] side-holds side-holds false 0 1
+unfolding sideParts joinedAsPairs count answer merged sum
 hidden-names-meet = (refl, refl, refl, refl, refl)
 
 -- two names of one side that become one
-names-become-one : Counts [] (side [] (values (fields ("?a" ∷ "?b" ∷ [])) (fields ("<1>" ∷ "<2>" ∷ []) ∷ [])) (λ v. bytes "?n") []) nothing [] but-apart side-holds both-hold 0 1
-unfolding sideParts joinParts count answer merged sum
+names-become-one : Counts [] (side [] (values (fields ("?a" ∷ "?b" ∷ [])) (fields ("<1>" ∷ "<2>" ∷ []) ∷ [])) (λ v. bytes "?n") []) nothing [] but-apart side-holds true 0 1
+unfolding sideParts joinedAsPairs count answer merged sum
 names-become-one = (refl, refl, refl, refl, refl)
 
 -- a name that only an expression has, and that is another's new name: on the names in scope or hidden the renaming keeps names apart, and yet the filter starts to hold
 abbrev unknown : Side
 unknown = side [] (filter (value "?a" "<1>") (bound (bytes "?l0"))) (λ v. cond (same v (bytes "?a")) (bytes "?l0") v) []
 
-expression-name-unknown : (expressionsKnown (whole unknown) ≡ false) × (keepsApart (scopedOrHidden (whole unknown)) (unknown .name) ≡ true) × Counts [] unknown nothing [] but-apart side-holds both-hold 1 0
-unfolding expressionsKnown keepsApart sideParts joinParts count answer merged sum
+expression-name-unknown : (expressionsKnown (whole unknown) ≡ false) × (keepsApart (scopedOrHidden (whole unknown)) (unknown .name) ≡ true) × Counts [] unknown nothing [] but-apart side-holds true 1 0
+unfolding expressionsKnown keepsApart sideParts joinedAsPairs count answer merged sum
 expression-name-unknown = (refl, refl, (refl, refl, refl, refl, refl))
 
 -- a new name that is no variable: the triple pattern asks for the term
-new-name-no-variable : Counts (t "<s>" "<p>" "<o>" ∷ []) (side [] (one "?a" "<p>" "<o>") (λ v. bytes "<n>") []) nothing [] but-variables side-holds both-hold 0 1
-unfolding sideParts joinParts count answer merged sum
+new-name-no-variable : Counts (t "<s>" "<p>" "<o>" ∷ []) (side [] (one "?a" "<p>" "<o>") (λ v. bytes "<n>") []) nothing [] but-variables side-holds true 0 1
+unfolding sideParts joinedAsPairs count answer merged sum
 new-name-no-variable = (refl, refl, refl, refl, refl)
 
 -- constants at positions past the columns, on both sides, meet under a name that is no column
-constants-outside : Counts [] (side [] (bgp []) (λ v. v) (constant 0 "<1>" ∷ [])) (side [] (bgp []) (λ v. v) (constant 0 "<2>" ∷ [])) [] but-inside but-inside both-hold 0 1
-unfolding sideParts joinParts count answer merged sum
+constants-outside : Counts [] (side [] (bgp []) (λ v. v) (constant 0 "<1>" ∷ [])) (side [] (bgp []) (λ v. v) (constant 0 "<2>" ∷ [])) [] but-inside but-inside true 0 1
+unfolding sideParts joinedAsPairs count answer merged sum
 constants-outside = (refl, refl, refl, refl, refl)
 
 -- one column with two constants
-constants-twice : Counts [] (side ("?a" ∷ []) (bgp []) (λ v. v) (constant 0 "<1>" ∷ constant 0 "<2>" ∷ [])) nothing [] but-once side-holds both-hold 0 1
-unfolding sideParts joinParts count answer merged sum
+constants-twice : Counts [] (side ("?a" ∷ []) (bgp []) (λ v. v) (constant 0 "<1>" ∷ constant 0 "<2>" ∷ [])) nothing [] but-once side-holds true 0 1
+unfolding sideParts joinedAsPairs count answer merged sum
 constants-twice = (refl, refl, refl, refl, refl)
 
--- a join position past the left columns makes a pair of what is no column
-joins-outside : Counts [] (side [] (value "" "<1>") (λ v. bytes "?n") []) (side ("?b" ∷ []) (value "?b" "<2>") (λ v. bytes "?n") []) (record { left = 0; right = 0 } ∷ []) side-holds side-holds but-left 0 1
-unfolding sideParts joinParts count answer merged sum
+-- an empty name, which is what stands at a join position past the columns
+empty-name : Counts [] (side [] (value "" "<1>") (λ v. bytes "?n") []) (side ("?b" ∷ []) (value "?b" "<2>") (λ v. bytes "?n") []) (record { left = 0; right = 0 } ∷ []) but-no-empty side-holds true 0 1
+unfolding sideParts joinedAsPairs count answer merged sum
+empty-name = (refl, refl, refl, refl, refl)
+
+-- without it a join position past the columns makes no pair, and does no harm
+joins-outside : Counts [] (side ("?a" ∷ []) (value "?a" "<1>") (λ v. cond (same v (bytes "?a")) (bytes "?l0") (bytes "?j0")) []) (side ("?b" ∷ []) (value "?b" "<2>") (λ v. bytes "?j0") []) (record { left = 1; right = 0 } ∷ []) side-holds side-holds true 1 1
+unfolding sideParts joinedAsPairs count answer merged sum
 joins-outside = (refl, refl, refl, refl, refl)

@@ -7,9 +7,9 @@ use Rattle.text.specs.Text.{Bytes, same}
 use Rattle.scoping.specs.Sets.{all}
 use Rattle.algebra.specs.Valid.{mem}
 use Rattle.counting.specs.Row.{fits, Row, agree, cells, named}
-use Rattle.merging.specs.Sides.{Pair, Side, whole, columnAt, renamedColumns, leftJoinVariables, rightJoinVariables}
+use Rattle.merging.specs.Sides.{Pair, Side, whole, columnAt, renamedColumns, leftJoinVariables, rightJoinVariables, lefts, rights}
 use Rattle.counting.specs.Scope.{names}
-use Rattle.scoping.specs.Premises.{isPair}
+use Rattle.scoping.specs.Premises.{inside, isPair}
 use Rattle.merging.proofs.Fit.{SideFit, Fit}
 use Rattle.text.proofs.Basics.{and-left, and-right, and-both, same-refl, same-eq}
 use Rattle.counting.proofs.Basics.{split, either, both-ways, or-cases, or-inl, or-inr, eq-same, mem-left, mem-map, mem-unmap, all-at, all-of}
@@ -42,10 +42,10 @@ column-cell s fit a v m =
     ∙ push-at (names (whole s)) (s .name) (fit .apart) a v (columns-in s fit v m)
 
 -- rows agree under the new names exactly if the cells of every join pair fit
-pub agree-on-pairs : (l r : Side) (js : List Pair) → Fit l r js → (a b : Row)
+pub agree-on-pairs : (l r : Side) (js : List Pair) → Fit l r js → inside (l .columns) (lefts js) ≡ true → inside (r .columns) (rights js) ≡ true → (a b : Row)
     → agree (renamedColumns l ++ renamedColumns r) (named (renamedColumns l) (cells (l .columns) a)) (named (renamedColumns r) (cells (r .columns) b)) ≡ all (λ j. fits (a (columnAt (l .columns) (j .left))) (b (columnAt (r .columns) (j .right)))) js
 unfolding agree
-agree-on-pairs l r js fit a b = both-ways (all test columns) (all (λ j. fits (a (columnAt (l .columns) (j .left))) (b (columnAt (r .columns) (j .right)))) js)
+agree-on-pairs l r js fit left-inside right-inside a b = both-ways (all test columns) (all (λ j. fits (a (columnAt (l .columns) (j .left))) (b (columnAt (r .columns) (j .right)))) js)
     (λ h. pairs-pass (λ u v. fits (a u) (b v)) (λ j. columnAt (l .columns) (j .left)) (λ j. columnAt (r .columns) (j .right)) js (λ u v p. from-names h u v p))
     (λ h. all-of test columns (λ w m. from-pairs h w (split (mem w (renamedColumns l))) (split (mem w (renamedColumns r)))))
   where
@@ -58,8 +58,8 @@ agree-on-pairs l r js fit a b = both-ways (all test columns) (all (λ j. fits (a
     from-names : all test columns ≡ true → (u v : Bytes) → isPair (leftJoinVariables l js) (rightJoinVariables r js) u v ≡ true → fits (a u) (b v) ≡ true
     from-names h u v p =
         let t = pair-in (leftJoinVariables l js) (rightJoinVariables r js) u v p in
-        let mu : mem u (l .columns) ≡ true = positions-in (l .columns) (λ j. j .left) js (fit .left-inside) u (t .0) in
-        let mv : mem v (r .columns) ≡ true = positions-in (r .columns) (λ j. j .right) js (fit .right-inside) v (t .1) in
+        let mu : mem u (l .columns) ≡ true = positions-in (l .columns) (λ j. j .left) js left-inside u (t .0) in
+        let mv : mem v (r .columns) ≡ true = positions-in (r .columns) (λ j. j .right) js right-inside v (t .1) in
         let e : l .name u ≡ r .name v = same-eq (l .name u) (r .name v) (fit .joined u v (columns-in l (fit .left) u mu) (columns-in r (fit .right) v mv) ∙ p) in
         sym (ap₂ fits (column-cell l (fit .left) a u mu) (ap (named (renamedColumns r) (cells (r .columns) b)) e ∙ column-cell r (fit .right) b v mv))
         ∙ all-at test columns h (l .name u) (mem-left (l .name u) (renamedColumns l) (renamedColumns r) (mem-map (l .name) u (l .columns) mu))

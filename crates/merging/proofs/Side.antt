@@ -1,5 +1,6 @@
 -- One side of a merge: its columns and constants under the new names, and the rows of its renamed pattern. Assumes nothing.
 use mathlib.Core.Path.{_≡_, refl, sym, _∙_, ap, ap₂, subst, fun-ext}
+use mathlib.Core.Logic.{_⊎_, inl, inr}
 use mathlib.Core.Bool.{Bool, true, false, cond, and-true}
 use mathlib.Core.List.{List, [], _∷_, _++_, map}
 use mathlib.Core.Option.{none, some}
@@ -25,7 +26,7 @@ use Rattle.merging.specs.Expected.{Single}
 use Rattle.scoping.specs.Premises.{inside}
 use Rattle.merging.proofs.Fit.{SideFit}
 use Rattle.scoping.proofs.Positions.{inside-first, inside-rest}
-use Rattle.counting.proofs.Basics.{either, mem-nil, mem-here, mem-there, mem-eq, mem-cases, mem-left, mem-right, sub-append, mem-map, mem-unmap, map-map}
+use Rattle.counting.proofs.Basics.{clash, either, mem-nil, mem-here, mem-there, mem-eq, mem-cases, mem-left, mem-right, sub-append, mem-map, mem-unmap, map-map}
 use Rattle.counting.proofs.Every.{every-imp}
 use Rattle.counting.proofs.Sums.{total-cong, total-every, total-map, total-each, total-when}
 use Rattle.counting.proofs.Only.{Only, only-sub, only-named, eval-only, fits-none, agree-of}
@@ -65,6 +66,20 @@ positions-in cs pos [] h v m = mem-nil v m
 positions-in cs pos (j ∷ js) h v m = either
     (λ e. ap (λ x. mem x cs) e ∙ at-in cs (pos j) (inside-first cs (pos j) (map pos js) h))
     (positions-in cs pos js (inside-rest cs (pos j) (map pos js) h) v)
+    (mem-cases v (columnAt cs (pos j)) _ m)
+
+-- a column, or no name at all, stands at a position
+at-or : (cs : List Bytes) (i : ℕ) → (mem (columnAt cs i) cs ≡ true) ⊎ (columnAt cs i ≡ [])
+at-or [] i = inr refl
+at-or (c ∷ cs) zero = inl (mem-here c cs)
+at-or (c ∷ cs) (suc i) = either (λ m. inl (mem-there (columnAt cs i) c cs m)) (λ e. inr e) (at-or cs i)
+
+-- so a name among the columns at positions is a column, wherever the positions are
+pub positions-named : {A : Type 0} (cs : List Bytes) (pos : A → ℕ) (js : List A) (v : Bytes) → (v ≡ [] → ⊥) → mem v (map (λ j. columnAt cs (pos j)) js) ≡ true → mem v cs ≡ true
+positions-named cs pos [] v n m = mem-nil v m
+positions-named cs pos (j ∷ js) v n m = either
+    (λ e. either (λ k. ap (λ x. mem x cs) e ∙ k) (λ k. absurd (n (e ∙ k))) (at-or cs (pos j)))
+    (positions-named cs pos js v n)
     (mem-cases v (columnAt cs (pos j)) _ m)
 
 positions-map : {A : Type 0} (f : Bytes → Bytes) (cs : List Bytes) (pos : A → ℕ) (js : List A) → inside cs (map pos js) ≡ true → map (λ j. columnAt (map f cs) (pos j)) js ≡ map f (map (λ j. columnAt cs (pos j)) js)
@@ -147,6 +162,10 @@ module _ (s : Side) (fit : SideFit s) where
   inner-in : Sub (names (s .inner)) (names (whole s))
   unfolding namesWith
   inner-in v m = mem-right v (s .columns) (names (s .inner)) m
+
+  -- a name of the side is not empty
+  pub not-empty : (v : Bytes) → mem v (names (whole s)) ≡ true → v ≡ [] → ⊥
+  not-empty v m e = clash (ap (λ x. mem x (names (whole s))) (sym e) ∙ m) (fit .no-empty)
 
   pub renamed-columns-in : Sub (renamedColumns s) newNames
   renamed-columns-in = map-sub (s .name) (s .columns) (names (whole s)) columns-in
