@@ -66,7 +66,7 @@ same-not a b e = go (same b a) refl
     go true q = let i : b ≡ a = same-eq b a q in absurd (true≢false (sym (same-refl a) ∙ (ap (same a) (sym i) ∙ e)))
     go false q = refl
 
-or-neither : (a b : Bool) → (a || b) ≡ false → (a ≡ false) × (b ≡ false)
+pub or-neither : (a b : Bool) → (a || b) ≡ false → (a ≡ false) × (b ≡ false)
 or-neither true b e = absurd (true≢false e)
 or-neither false b e = (refl, e)
 
@@ -75,7 +75,7 @@ unfolding mem
 mem-last v f [] h e = rw e
 mem-last v f (x ∷ xs) h e = let a = or-neither (same v x) (mem v xs) h in rw (a .0, mem-last v f xs (a .1) e)
 
-not-no : (b : Bool) → not b ≡ true → b ≡ false
+pub not-no : (b : Bool) → not b ≡ true → b ≡ false
 not-no true h = absurd (false≢true h)
 not-no false h = refl
 

@@ -45,14 +45,6 @@ pub either {ℓ} : {A B : Type 0} {C : Type ℓ} → (A → C) → (B → C) →
 either f g (inl a) = f a
 either f g (inr b) = g b
 
--- ---- byte strings
-
-pub eq-same : (a b : Bytes) → a ≡ b → same a b ≡ true
-eq-same a b e = subst (λ x. same a x ≡ true) e (same-refl a)
-
-pub same-sym : (a b : Bytes) → same a b ≡ same b a
-same-sym a b = both-ways (same a b) (same b a) (λ e. eq-same b a (sym (same-eq a b e))) (λ e. eq-same a b (sym (same-eq b a e)))
-
 -- ---- membership
 
 pub mem-nil {ℓ} : {A : Type ℓ} (v : Bytes) → mem v [] ≡ true → A

@@ -10,7 +10,8 @@ use Rattle.counting.specs.Bag.{Sub, Inj}
 use Rattle.counting.specs.Row.{Cell, sameCell, fits, isBound, orCell, Row, empty, bind, merge, cut, agree, shares, sameOn, named, oneTerm}
 use Rattle.counting.specs.Answer.{extendBy}
 use Rattle.text.proofs.Basics.{same-eq}
-use Rattle.counting.proofs.Basics.{split, clash, not-true, both-ways, either, eq-same, same-sym, mem-nil, mem-here, mem-there, mem-cases, mem-map, all-cong, any-cong, all-map, any-map}
+use Rattle.scoping.proofs.Sets.{eq-same, same-sym}
+use Rattle.counting.proofs.Basics.{split, clash, not-true, both-ways, either, mem-nil, mem-here, mem-there, mem-cases, mem-map, all-cong, any-cong, all-map, any-map}
 
 -- the row that binds f u as r binds u, for each u of U
 unfoldable pub push : List Bytes → (Bytes → Bytes) → Row → Row

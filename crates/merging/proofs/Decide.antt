@@ -13,8 +13,9 @@ use Rattle.merging.specs.Sides.{Pair, Side, whole, constantColumns, cons
 use Rattle.scoping.specs.Premises.{isPair, inside}
 use Rattle.merging.proofs.Fit.{SideFit, Fit}
 use Rattle.text.proofs.Basics.{and-left, and-right, same-eq}
-use Rattle.scoping.proofs.Positions.{not-no}
-use Rattle.counting.proofs.Basics.{eq-same, all-at}
+use Rattle.algebra.proofs.Lines.{not-no}
+use Rattle.scoping.proofs.Sets.{eq-same}
+use Rattle.counting.proofs.Basics.{all-at}
 
 -- no two names of the list become one
 unfoldable pub keepsApart : List Bytes → (Bytes → Bytes) → Bool

@@ -12,12 +12,12 @@ use Rattle.text.proofs.Basics.{T→so, and-left, and-right, and-both}
 use Rattle.algebra.specs.Tree.{Pattern}
 use Rattle.algebra.specs.Bounded.{Variables}
 use Rattle.algebra.specs.Valid.{mem, different}
-use Rattle.algebra.proofs.Lines.{different-head, different-tail, different-both, names-different}
+use Rattle.algebra.proofs.Lines.{different-head, different-tail, different-both, names-different, not-no}
 use Rattle.scoping.specs.Sets.{any}
 use Rattle.scoping.specs.Label.{isLabel, prefixJ, prefixL, prefixR}
 use Rattle.scoping.specs.Numbering.{byPlace, inScopeByPlace, hiddenByPlace, numbered}
 use Rattle.scoping.specs.Premises.{columnsAt, inside, differentPositions, NamePremises, isPair}
-use Rattle.scoping.proofs.Positions.{not-no, inside-first, inside-rest, different-first, different-rest}
+use Rattle.scoping.proofs.Positions.{inside-first, inside-rest, different-first, different-rest}
 use Rattle.scoping.proofs.ScopedOrHidden.{numbered-scoped}
 use Rattle.scoping.proofs.NewVariables.{numbered-few}
 use Rattle.scoping.proofs.Theorem.{side-apart, side-variables, sides-meet}

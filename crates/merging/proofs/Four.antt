@@ -9,7 +9,8 @@ use Rattle.algebra.specs.Valid.{mem}
 use Rattle.counting.specs.Bag.{Sub}
 use Rattle.counting.specs.Row.{Cell, fits, orCell, Row, merge, agree, agreeAll}
 use Rattle.text.proofs.Basics.{and-left, and-right, same-eq}
-use Rattle.counting.proofs.Basics.{both-ways, eq-same, same-sym, all-cong, all-at, all-of}
+use Rattle.scoping.proofs.Sets.{eq-same, same-sym}
+use Rattle.counting.proofs.Basics.{both-ways, all-cong, all-at, all-of}
 use Rattle.counting.proofs.Only.{Cover, agree-wider}
 
 -- ---- cells

@@ -18,7 +18,8 @@ use Rattle.merging.specs.Expected.{fourRows, makes, sum}
 use Rattle.scoping.specs.Premises.{isPair}
 use Rattle.merging.proofs.Fit.{Fit}
 use Rattle.text.proofs.Basics.{and-left, and-right, same-eq}
-use Rattle.counting.proofs.Basics.{clash, either, or-cases, eq-same, mem-nil, mem-eq, mem-there, mem-cases, mem-left, mem-right, mem-append-cases, sub-append, mem-map, mem-unmap, keep-sub}
+use Rattle.scoping.proofs.Sets.{eq-same}
+use Rattle.counting.proofs.Basics.{clash, either, or-cases, mem-nil, mem-eq, mem-there, mem-cases, mem-left, mem-right, mem-append-cases, sub-append, mem-map, mem-unmap, keep-sub}
 use Rattle.counting.proofs.Sums.{total-cong, total-map, total-cond, sum-pairs}
 use Rattle.counting.proofs.Only.{Only, only-left, only-sub, fits-none, none-fits, Cover, cover-left, cover-right}
 use Rattle.counting.proofs.Push.{push, Hit, hit, miss, view}

@@ -12,7 +12,8 @@ use Rattle.counting.specs.Scope.{names}
 use Rattle.scoping.specs.Premises.{inside, isPair}
 use Rattle.merging.proofs.Fit.{SideFit, Fit}
 use Rattle.text.proofs.Basics.{and-left, and-right, and-both, same-refl, same-eq}
-use Rattle.counting.proofs.Basics.{split, either, both-ways, or-cases, or-inl, or-inr, eq-same, mem-left, mem-map, mem-unmap, all-at, all-of}
+use Rattle.scoping.proofs.Sets.{eq-same}
+use Rattle.counting.proofs.Basics.{split, either, both-ways, or-cases, or-inl, or-inr, mem-left, mem-map, mem-unmap, all-at, all-of}
 use Rattle.counting.proofs.Only.{only-named, fits-none, none-fits}
 use Rattle.counting.proofs.Push.{push-at}
 use Rattle.merging.proofs.Side.{positions-in, columns-in, read-at, only-columns}

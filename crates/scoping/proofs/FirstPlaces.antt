@@ -19,7 +19,7 @@ use Rattle.scoping.proofs.Sets.{mem-append, same-sym}
 
 -- ---- names that are noted
 
-notes-append : (xs ys ns : List Bytes) → notes (xs ++ ys) ns ≡ notes ys (notes xs ns)
+pub notes-append : (xs ys ns : List Bytes) → notes (xs ++ ys) ns ≡ notes ys (notes xs ns)
 unfolding notes
 notes-append [] ys ns = refl
 notes-append (x ∷ xs) ys ns = notes-append xs ys (cond (isVar x) (cond (mem x ns) ns (ns ++ (x ∷ []))) ns)

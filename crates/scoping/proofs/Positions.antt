@@ -1,23 +1,16 @@
 -- Positions of columns: each inside, none twice. Assumes nothing.
-use mathlib.Core.Path.{_≡_, refl}
-use mathlib.Core.Bool.{Bool, true, false, not, _||_, _&&_, false≢true, true≢false}
-use mathlib.Core.List.{List, [], _∷_}
+use mathlib.Core.Path.{_≡_}
+use mathlib.Core.Bool.{true, false, not, _&&_}
+use mathlib.Core.List.{List, _∷_}
 use Prim.Native.Nat.{ℕ, _<_}
 use lib.ListN.{length}
 use lib.Dec.{eqb, ltb}
 use borrow.Author.Tests.{ltb-true}
 use Rattle.text.specs.Text.{Bytes}
 use Rattle.text.proofs.Basics.{and-left, and-right}
+use Rattle.algebra.proofs.Lines.{not-no}
 use Rattle.scoping.specs.Sets.{all, any}
 use Rattle.scoping.specs.Premises.{inside, differentPositions}
-
-pub or-neither : (a b : Bool) → (a || b) ≡ false → (a ≡ false) × (b ≡ false)
-or-neither true b h = absurd (true≢false h)
-or-neither false b h = (refl, h)
-
-pub not-no : (b : Bool) → not b ≡ true → b ≡ false
-not-no true h = absurd (false≢true h)
-not-no false h = refl
 
 module _ (cs : List Bytes) (i : ℕ) (is : List ℕ) (h : inside cs (i ∷ is) ≡ true) where
   pub inside-first : i < length cs

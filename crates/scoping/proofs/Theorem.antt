@@ -12,7 +12,7 @@ use Rattle.text.specs.Field.{most, isVar}
 use Rattle.text.proofs.Basics.{and-left, and-right}
 use Rattle.algebra.specs.Valid.{mem, different}
 use Rattle.algebra.specs.Tree.{Pattern, project}
-use Rattle.algebra.proofs.Lines.{different-both}
+use Rattle.algebra.proofs.Lines.{different-both, or-neither, not-no}
 use Rattle.scoping.specs.Sets.{all, any, Once, indexOf}
 use Rattle.scoping.specs.Variables.{variablesInPattern}
 use Rattle.scoping.specs.Label.{isLabel, prefixJ, prefixL, prefixR}
@@ -20,7 +20,7 @@ use Rattle.scoping.specs.Numbering.{numbered}
 use Rattle.scoping.specs.Pushes.{allPushes, newName}
 use Rattle.scoping.specs.Premises.{columnsAt, inside, differentPositions, NamePremises, sideName, isPair}
 use Rattle.scoping.proofs.Sets.{not-same}
-use Rattle.scoping.proofs.Positions.{or-neither, not-no, inside-first, inside-rest, different-first, different-rest}
+use Rattle.scoping.proofs.Positions.{inside-first, inside-rest, different-first, different-rest}
 use Rattle.scoping.proofs.Numbered.{numbered-mem}
 use Rattle.scoping.proofs.Agree.{renamed-by-pushes}
 use Rattle.scoping.proofs.Closed.{Plain, plain-mem, target, new-name-target}
@@ -54,7 +54,7 @@ once-columns cs o [] k d = refl
 once-columns cs o (i ∷ is) k d =
     different-both (getD cs i []) (columnsAt cs is) (column-other cs o i (inside-first cs i is k) is (inside-rest cs i is k) (different-first i is d)) (once-columns cs o is (inside-rest cs i is k) (different-rest i is d))
 
-columns-length : (cs : List Bytes) (is : List ℕ) → length (columnsAt cs is) ≡ length is
+pub columns-length : (cs : List Bytes) (is : List ℕ) → length (columnsAt cs is) ≡ length is
 unfolding columnsAt
 columns-length cs [] = refl
 columns-length cs (i ∷ is) = ap suc (columns-length cs is)
