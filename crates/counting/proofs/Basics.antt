@@ -3,12 +3,11 @@ use mathlib.Core.Path.{_≡_, refl, sym, _∙_, ap, ap₂, subst, fun-ext}
 use mathlib.Core.Logic.{_⊎_, inl, inr}
 use mathlib.Core.Bool.{Bool, true, false, cond, not, _&&_, _||_, false≢true, true≢false}
 use mathlib.Core.List.{List, [], _∷_, _++_, map}
-use lib.Dec.{T, eqb, eqb→eq, eqb-refl}
 use Rattle.text.specs.Text.{Bytes, same}
 use Rattle.text.specs.Field.{isVar}
 use Rattle.text.proofs.Basics.{and-left, and-right, and-both, same-refl, same-eq}
-use Rattle.scoping.specs.Sets.{all, any, keep, variablesOf}
 use Rattle.algebra.specs.Valid.{mem}
+use Rattle.scoping.specs.Sets.{all, any, keep, variablesOf}
 use Rattle.scoping.proofs.Sets.{mem-keep}
 use Rattle.counting.specs.Bag.{Sub, each, when, once}
 

@@ -7,15 +7,15 @@ use Prim.Native.Nat.{ℕ, _*_}
 use native.Mathlib.Nat.{mul-comm, one-mul, zero-mul}
 use Rattle.text.specs.Text.{Bytes, same}
 use Rattle.text.specs.Field.{isVar}
+use Rattle.text.proofs.Basics.{and-left, and-right, and-both, same-refl, same-eq}
 use Rattle.algebra.specs.Tree.{Triple, bgp}
-use Rattle.scoping.specs.Sets.{all, any, variablesOf, tripleVariables}
 use Rattle.algebra.specs.Valid.{mem}
-use Rattle.counting.specs.Bag.{Sub, each, when, once, total, tick, count}
+use Rattle.scoping.specs.Sets.{all, any, variablesOf, tripleVariables}
+use Rattle.scoping.specs.Variables.{variablesInPattern, scopeOf}
+use Rattle.counting.specs.Bag.{Sub, each, once, total, tick, count}
 use Rattle.counting.specs.Row.{Cell, sameCell, Row, bind, cells, sameOn, sameRow}
 use Rattle.counting.specs.Condition.{value}
-use Rattle.scoping.specs.Variables.{variablesInPattern, scopeOf}
 use Rattle.counting.specs.Answer.{ways, isIn, terms, bgpRows, eval, answer}
-use Rattle.text.proofs.Basics.{and-left, and-right, and-both, same-refl, same-eq}
 use Rattle.counting.proofs.Basics.{clash, not-true, both-ways, or-cases, either, mem-nil, mem-here, mem-there, mem-cases, mem-left, mem-right, mem-append-cases, mem-variables, variables-mem, all-cong, all-at, all-of}
 use Rattle.counting.proofs.Sums.{cond-zero, total-cong, total-zero, total-map, total-each, total-keep, total-cond, total-mul, cond-tick, count-any, sameCell-eq}
 use Rattle.counting.proofs.Columns.{count-rows}

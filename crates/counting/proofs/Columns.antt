@@ -5,15 +5,15 @@ use mathlib.Core.List.{List, [], _∷_, _++_, map}
 use mathlib.Core.Option.{none, some}
 use Rattle.text.specs.Text.{Bytes, same}
 use Rattle.text.specs.Field.{isVar}
+use Rattle.text.proofs.Basics.{same-eq}
 use Rattle.algebra.specs.Tree.{Triple, Pattern}
 use Rattle.algebra.specs.Valid.{mem}
+use Rattle.scoping.specs.Variables.{scopeOf}
+use Rattle.scoping.specs.Rename.{renameInGraphPattern}
 use Rattle.counting.specs.Bag.{Sub, Inj, total, tick, count}
 use Rattle.counting.specs.Row.{Cell, Row, bind, named, cells, cut, sameRow}
-use Rattle.scoping.specs.Variables.{variablesInPattern, scopeOf}
 use Rattle.counting.specs.Scope.{names}
 use Rattle.counting.specs.Answer.{eval, answer}
-use Rattle.scoping.specs.Rename.{renameInGraphPattern}
-use Rattle.text.proofs.Basics.{same-eq}
 use Rattle.counting.proofs.Basics.{split, either, mem-here, mem-there, mem-left, mem-right, map-map}
 use Rattle.counting.proofs.Every.{map-every}
 use Rattle.counting.proofs.Sums.{total-map}

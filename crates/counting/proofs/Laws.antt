@@ -8,10 +8,10 @@ use native.Mathlib.Nat.{add-zero, add-comm, mul-one, mul-zero}
 use Rattle.text.specs.Text.{Bytes}
 use Rattle.algebra.specs.Tree.{Triple, Pattern, join, union, minus, leftjoin, filter, extend, values, project, distinct, Expression, Condition, always, provided}
 use Rattle.scoping.specs.Sets.{any, keep}
+use Rattle.scoping.specs.Variables.{scopeOf}
 use Rattle.counting.specs.Bag.{Sub, each, when, once, total, tick, count}
 use Rattle.counting.specs.Row.{Cell, Row, merge, cut, agree, sameOn, cells, named, oneTerm, cell, sameRow}
 use Rattle.counting.specs.Condition.{termOf, passes}
-use Rattle.scoping.specs.Variables.{variablesInPattern, scopeOf}
 use Rattle.counting.specs.Answer.{pairs, orElse, extendBy, lineRows, removed, eval, answer}
 use Rattle.counting.proofs.Basics.{sub-left, sub-right, keep-map}
 use Rattle.counting.proofs.Every.{Every, done, more, every-imp, every-once, every-two, keep-every}

@@ -4,16 +4,16 @@ use mathlib.Core.Bool.{true, false, cond, not, _&&_}
 use mathlib.Core.List.{List, [], _∷_, _++_, map}
 use mathlib.Core.Option.{none, some}
 use Rattle.text.specs.Text.{Bytes, same}
+use Rattle.text.proofs.Basics.{same-eq}
 use Rattle.algebra.specs.Tree.{Triple, Pattern, bgp, path, join, union, minus, leftjoin, filter, graph, extend, values, orderby, project, distinct, reduced, slice, group, service}
 use Rattle.algebra.specs.Tree.{Condition, always, provided}
-use Rattle.scoping.specs.Sets.{all, tripleVariables}
 use Rattle.algebra.specs.Valid.{mem}
+use Rattle.scoping.specs.Sets.{all, tripleVariables}
+use Rattle.scoping.specs.Variables.{variablesInPattern, scopeOf}
 use Rattle.counting.specs.Bag.{Sub, each, when, once}
 use Rattle.counting.specs.Row.{Cell, fits, orCell, Row, bind, merge, cut, agree, sameOn, named, oneTerm, cell}
 use Rattle.counting.specs.Condition.{termOf, passes}
-use Rattle.scoping.specs.Variables.{variablesInPattern, scopeOf}
 use Rattle.counting.specs.Answer.{ways, isIn, terms, bgpRows, pairs, orElse, extendBy, lineRows, removed, eval}
-use Rattle.text.proofs.Basics.{same-eq}
 use Rattle.counting.proofs.Basics.{split, clash, not-true, both-ways, either, mem-there, mem-eq, mem-left, mem-right, all-at, all-of}
 use Rattle.counting.proofs.Every.{Every, done, more, every-imp, every-append, every-map, every-each, every-when, every-keep, every-once, every-all, every-cond}
 

@@ -5,13 +5,13 @@ use mathlib.Core.Bool.{Bool, true, false, cond, _&&_, _||_}
 use mathlib.Core.List.{List, [], _∷_, map}
 use mathlib.Core.Option.{none, some}
 use Rattle.text.specs.Text.{Bytes, same}
+use Rattle.text.proofs.Basics.{same-eq}
 use Rattle.algebra.specs.Valid.{mem}
+use Rattle.scoping.proofs.Sets.{eq-same, same-sym}
 use Rattle.counting.specs.Bag.{Sub, Inj}
 use Rattle.counting.specs.Row.{Cell, sameCell, fits, isBound, orCell, Row, empty, bind, merge, cut, agree, shares, sameOn, named, oneTerm}
 use Rattle.counting.specs.Answer.{extendBy}
-use Rattle.text.proofs.Basics.{same-eq}
-use Rattle.scoping.proofs.Sets.{eq-same, same-sym}
-use Rattle.counting.proofs.Basics.{split, clash, not-true, both-ways, either, mem-nil, mem-here, mem-there, mem-cases, mem-map, all-cong, any-cong, all-map, any-map}
+use Rattle.counting.proofs.Basics.{split, clash, both-ways, either, mem-nil, mem-here, mem-there, mem-cases, all-cong, any-cong, all-map, any-map}
 
 -- the row that binds f u as r binds u, for each u of U
 unfoldable pub push : List Bytes → (Bytes → Bytes) → Row → Row

@@ -7,17 +7,17 @@ use Rattle.text.specs.Text.{Bytes, same}
 use Rattle.text.specs.Field.{isVar}
 use Rattle.algebra.specs.Tree.{Triple, Pattern, bgp, path, join, union, minus, leftjoin, filter, graph, extend, values, orderby, project, distinct, reduced, slice, group, service}
 use Rattle.algebra.specs.Tree.{Expression, term, bound, exists, apply, call, Condition, always, provided, Expressions, eend, econs}
-use Rattle.scoping.specs.Sets.{all, any, keep, variablesOf, tripleVariables, aggregateVariables}
 use Rattle.algebra.specs.Valid.{mem}
+use Rattle.scoping.specs.Sets.{all, any, keep, variablesOf, tripleVariables, aggregateVariables}
+use Rattle.scoping.specs.Variables.{variablesInPattern, scopeOf}
+use Rattle.scoping.specs.ScopedOrHidden.{conditionVars, namesWith}
+use Rattle.scoping.specs.Rename.{renameInTerm, renameInTriple, renameInGraphPattern, renameInExpression, renameInCondition, renameInExpressions}
+use Rattle.scoping.proofs.Renamed.{aggregates-renamed}
 use Rattle.counting.specs.Bag.{Sub, Inj, each, when, once}
 use Rattle.counting.specs.Row.{sameCell, isBound, Row, bind, merge, cut, agree, sameOn, named, oneTerm, cell}
 use Rattle.counting.specs.Condition.{truth, connective, wordTruth, value, termOf, termsOf, truthOf, truthsOf, isTrue, passes}
-use Rattle.scoping.specs.Variables.{variablesInPattern, scopeOf}
-use Rattle.scoping.specs.ScopedOrHidden.{conditionVars, namesWith}
 use Rattle.counting.specs.Scope.{expressionVars, expressionsVars, names}
 use Rattle.counting.specs.Answer.{ways, isIn, terms, bgpRows, pairs, orElse, extendBy, lineRows, removed, eval}
-use Rattle.scoping.specs.Rename.{renameInTerm, renameInTriple, renameInGraphPattern, renameInExpression, renameInCondition, renameInExpressions}
-use Rattle.scoping.proofs.Renamed.{aggregates-renamed}
 use Rattle.counting.proofs.Basics.{either, mem-nil, mem-here, mem-there, mem-cases, mem-variables, variables-mem, sub-left, sub-right, sub-append, sub-rest, any-map, map-append, map-map, map-cong, each-cong, each-map, map-each, map-when, keep-map, once-map}
 use Rattle.counting.proofs.Push.{push, push-at, mem-inj, push-empty, push-bind, push-merge, push-cut, push-named, oneTerm-push, push-extend, agree-push, shares-push, sameOn-push}
 

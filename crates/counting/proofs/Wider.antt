@@ -6,13 +6,13 @@ use mathlib.Core.Option.{none}
 use Rattle.text.specs.Text.{Bytes}
 use Rattle.algebra.specs.Tree.{Triple, Pattern, bgp, path, join, union, minus, leftjoin, filter, graph, extend, values, orderby, project, distinct, reduced, slice, group, service}
 use Rattle.algebra.specs.Tree.{Condition, always, provided}
-use Rattle.scoping.specs.Sets.{all, any, keep}
 use Rattle.algebra.specs.Valid.{mem}
+use Rattle.scoping.specs.Sets.{all, any, keep}
+use Rattle.scoping.specs.Variables.{scopeOf}
+use Rattle.scoping.specs.ScopedOrHidden.{conditionVars, namesWith}
 use Rattle.counting.specs.Bag.{Sub, each, when, once}
 use Rattle.counting.specs.Row.{sameCell, isBound, Row, merge, cut, agree, shares, sameOn}
 use Rattle.counting.specs.Condition.{termOf, passes}
-use Rattle.scoping.specs.Variables.{variablesInPattern, scopeOf}
-use Rattle.scoping.specs.ScopedOrHidden.{conditionVars, namesWith}
 use Rattle.counting.specs.Scope.{expressionVars, names}
 use Rattle.counting.specs.Answer.{bgpRows, pairs, orElse, extendBy, lineRows, removed, eval}
 use Rattle.counting.proofs.Basics.{split, both-ways, either, or-cases, or-inl, or-inr, mem-nil, mem-here, mem-there, mem-cases, sub-left, sub-right, sub-rest, all-at, all-of, each-cong}

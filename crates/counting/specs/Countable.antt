@@ -8,11 +8,11 @@ use Rattle.text.specs.Field.{isBlank}
 use Rattle.algebra.specs.Tree.{Triple, Pattern, bgp, path, join, union, minus, leftjoin, filter, graph, extend, values, orderby, project, distinct, reduced, slice, group, service}
 use Rattle.algebra.specs.Tree.{Expression, term, bound, exists, apply, call, Condition, always, provided, Expressions, eend, econs}
 use Rattle.algebra.specs.Tree as Tree
-use Rattle.scoping.specs.Sets.{all}
 use Rattle.algebra.specs.Valid.{mem, different}
-use Rattle.counting.specs.Condition.{Connective, sameTerm, conjunction, disjunction, negation, outside, connective}
+use Rattle.scoping.specs.Sets.{all}
 use Rattle.scoping.specs.Variables.{variablesInPattern, scopeOf}
 use Rattle.scoping.specs.ScopedOrHidden.{namesWith, scopedOrHidden}
+use Rattle.counting.specs.Condition.{Connective, sameTerm, conjunction, disjunction, negation, outside, connective}
 use Rattle.counting.specs.Scope.{expressionVars, names}
 
 -- ---- one walk over a tree, with a test for each kind that has something to test

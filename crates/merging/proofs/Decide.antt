@@ -4,18 +4,18 @@ use mathlib.Core.Bool.{Bool, true, false, not, _&&_, _||_, false≢true, Bool·b
 use mathlib.Core.List.{List, [], _∷_, map}
 use Rattle.text.specs.Text.{Bytes, same}
 use Rattle.text.specs.Field.{isVar}
-use Rattle.algebra.specs.Valid.{mem}
-use Rattle.scoping.specs.Sets.{all}
-use Rattle.counting.specs.Row.{cell, oneTerm}
-use Rattle.scoping.specs.ScopedOrHidden.{namesWith}
-use Rattle.counting.specs.Scope.{names, expressionVars}
-use Rattle.merging.specs.Sides.{Pair, Side, whole, constantColumns, constantTerms, leftJoinVariables, rightJoinVariables}
-use Rattle.scoping.specs.Premises.{isPair, inside}
-use Rattle.merging.proofs.Fit.{SideFit, Fit}
 use Rattle.text.proofs.Basics.{and-left, and-right, same-eq}
+use Rattle.algebra.specs.Valid.{mem}
 use Rattle.algebra.proofs.Lines.{not-no}
+use Rattle.scoping.specs.Sets.{all}
+use Rattle.scoping.specs.ScopedOrHidden.{namesWith}
+use Rattle.scoping.specs.Premises.{isPair, inside}
 use Rattle.scoping.proofs.Sets.{eq-same}
+use Rattle.counting.specs.Row.{cell, oneTerm}
+use Rattle.counting.specs.Scope.{names, expressionVars}
 use Rattle.counting.proofs.Basics.{all-at}
+use Rattle.merging.specs.Sides.{Pair, Side, whole, constantColumns, constantTerms, leftJoinVariables, rightJoinVariables}
+use Rattle.merging.proofs.Fit.{SideFit, Fit}
 
 -- no two names of the list become one
 unfoldable pub keepsApart : List Bytes → (Bytes → Bytes) → Bool

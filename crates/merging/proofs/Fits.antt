@@ -6,28 +6,28 @@ use Prim.Native.Nat.{ℕ, zero, suc, _≤_, _<_}
 use native.Mathlib.Omega.{arith}
 use lib.ListN.{length, getD}
 use lib.Dec.{eqb, eqb-refl}
-use Rattle.text.specs.Text.{Bytes, same}
+use Rattle.text.specs.Text.{Bytes}
 use Rattle.text.specs.Field.{most, isVar}
-use Rattle.text.proofs.Basics.{T→so, and-left, and-right, and-both}
+use Rattle.text.proofs.Basics.{T→so, and-both}
 use Rattle.algebra.specs.Tree.{Pattern}
 use Rattle.algebra.specs.Bounded.{Variables}
 use Rattle.algebra.specs.Valid.{mem, different}
-use Rattle.algebra.proofs.Lines.{different-head, different-tail, different-both, names-different, not-no}
+use Rattle.algebra.proofs.Lines.{different-head, different-tail, names-different}
 use Rattle.scoping.specs.Sets.{any}
-use Rattle.scoping.specs.Label.{isLabel, prefixJ, prefixL, prefixR}
+use Rattle.scoping.specs.Label.{prefixJ, prefixL, prefixR}
 use Rattle.scoping.specs.Numbering.{byPlace, inScopeByPlace, hiddenByPlace, numbered}
 use Rattle.scoping.specs.Premises.{columnsAt, inside, differentPositions, NamePremises, isPair}
+use Rattle.scoping.specs.ScopedOrHidden.{scopedOrHidden}
 use Rattle.scoping.proofs.Positions.{inside-first, inside-rest, different-first, different-rest}
 use Rattle.scoping.proofs.ScopedOrHidden.{numbered-scoped}
 use Rattle.scoping.proofs.NewVariables.{numbered-few}
 use Rattle.scoping.proofs.Theorem.{side-apart, side-variables, sides-meet}
 use Rattle.counting.specs.Row.{Cell, fits, named, oneTerm, cell}
-use Rattle.scoping.specs.ScopedOrHidden.{scopedOrHidden}
 use Rattle.counting.specs.Scope.{names}
 use Rattle.counting.specs.Countable.{expressionsKnown}
 use Rattle.counting.proofs.Basics.{clash, not-true, or-inl, or-inr, either, mem-nil, mem-cases, mem-append-cases, keep-sub, all-at}
 use Rattle.counting.proofs.Only.{only-named, fits-none}
-use Rattle.merging.specs.Sides.{Pair, Constant, Side, columnAt, constantColumns, constantTerms, lefts, rights, standardized}
+use Rattle.merging.specs.Sides.{Pair, Constant, columnAt, constantColumns, constantTerms, lefts, rights, standardized}
 use Rattle.merging.specs.Request.{Projection, tree, Request, leftSide, rightSide}
 use Rattle.merging.specs.Demand3.{Supposed, Premises}
 use Rattle.merging.proofs.Fit.{SideFit, Fit}

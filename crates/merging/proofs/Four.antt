@@ -4,12 +4,12 @@ use mathlib.Core.Bool.{Bool, true, false, _&&_, false≢true}
 use mathlib.Core.List.{List, [], _∷_}
 use mathlib.Core.Option.{none, some}
 use Rattle.text.specs.Text.{Bytes}
-use Rattle.scoping.specs.Sets.{all}
+use Rattle.text.proofs.Basics.{and-left, and-right, same-eq}
 use Rattle.algebra.specs.Valid.{mem}
+use Rattle.scoping.specs.Sets.{all}
+use Rattle.scoping.proofs.Sets.{eq-same, same-sym}
 use Rattle.counting.specs.Bag.{Sub}
 use Rattle.counting.specs.Row.{Cell, fits, orCell, Row, merge, agree, agreeAll}
-use Rattle.text.proofs.Basics.{and-left, and-right, same-eq}
-use Rattle.scoping.proofs.Sets.{eq-same, same-sym}
 use Rattle.counting.proofs.Basics.{both-ways, all-cong, all-at, all-of}
 use Rattle.counting.proofs.Only.{Cover, agree-wider}
 

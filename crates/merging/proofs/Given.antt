@@ -1,5 +1,5 @@
 -- What is known where bytes are written: every text was read, both roots are project, every position is inside. Assumes nothing.
-use mathlib.Core.Path.{_≡_, refl, sym, ap, _∙_}
+use mathlib.Core.Path.{_≡_, refl, ap, _∙_}
 use mathlib.Core.Bool.{Bool, true, false}
 use mathlib.Core.List.{List}
 use mathlib.Core.Option.{Option, none, some}
@@ -8,9 +8,9 @@ use native.Mathlib.Omega.{arith}
 use Rattle.text.specs.Text.{Bytes}
 use Rattle.algebra.specs.Tree.{Pattern, bgp, path, join, union, minus, leftjoin, filter, graph, extend, values, orderby, project, distinct, reduced, slice, group, service}
 use Rattle.algebra.specs.Reader.{Outcome as Reading, reads, refuses}
+use Rattle.answers.specs.Outcome.{Outcome, written, then, orRefused, refusedUnless}
 use Rattle.merging.specs.Sides.{Pair, Constant}
-use Rattle.answers.specs.Outcome.{Outcome, refused, written, then, orRefused, refusedUnless}
-use Rattle.merging.specs.Request.{Projection, tree, asProject, made, readJoins, readConstants, Request, request, allInside}
+use Rattle.merging.specs.Request.{Projection, tree, asProject, made, readJoins, readConstants, request, allInside}
 use Rattle.merging.specs.Merge.{mergeProjectPatterns, lists, mergeTrees}
 use Rattle.merging.specs.Demand3.{Lists}
 

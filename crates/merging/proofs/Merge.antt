@@ -5,25 +5,24 @@ use mathlib.Core.List.{List, [], _∷_, _++_, map}
 use mathlib.Core.Option.{none, some}
 use Prim.Native.Nat.{ℕ}
 use Rattle.text.specs.Text.{Bytes, same}
+use Rattle.text.proofs.Basics.{and-left, and-right, same-eq}
 use Rattle.algebra.specs.Tree.{Triple, join, project}
 use Rattle.algebra.specs.Valid.{mem}
-use Rattle.scoping.specs.Sets.{keep}
+use Rattle.scoping.specs.Variables.{scopeOf}
+use Rattle.scoping.specs.Premises.{isPair}
+use Rattle.scoping.proofs.Sets.{eq-same}
 use Rattle.counting.specs.Bag.{Sub, total, tick, count}
 use Rattle.counting.specs.Row.{Cell, fits, orCell, Row, merge, cut, agree, agreeAll, mergeAll, cells, named, sameRow}
-use Rattle.scoping.specs.Variables.{variablesInPattern, scopeOf}
 use Rattle.counting.specs.Scope.{names}
 use Rattle.counting.specs.Answer.{eval, answer}
-use Rattle.merging.specs.Sides.{Pair, Side, whole, renamedColumns, renamedPattern, freeColumns, leftJoinVariables, rightJoinVariables, mergedColumns, merged}
-use Rattle.merging.specs.Expected.{fourRows, makes, sum}
-use Rattle.scoping.specs.Premises.{isPair}
-use Rattle.merging.proofs.Fit.{Fit}
-use Rattle.text.proofs.Basics.{and-left, and-right, same-eq}
-use Rattle.scoping.proofs.Sets.{eq-same}
-use Rattle.counting.proofs.Basics.{clash, either, or-cases, mem-nil, mem-eq, mem-there, mem-cases, mem-left, mem-right, mem-append-cases, sub-append, mem-map, mem-unmap, keep-sub}
+use Rattle.counting.proofs.Basics.{clash, either, or-cases, mem-eq, mem-there, mem-left, mem-right, mem-append-cases, sub-append, mem-map, mem-unmap, keep-sub}
 use Rattle.counting.proofs.Sums.{total-cong, total-map, total-cond, sum-pairs}
 use Rattle.counting.proofs.Only.{Only, only-left, only-sub, fits-none, none-fits, Cover, cover-left, cover-right}
 use Rattle.counting.proofs.Push.{push, Hit, hit, miss, view}
 use Rattle.counting.proofs.Columns.{cells-in, cells-cut, count-rows}
+use Rattle.merging.specs.Sides.{Pair, Side, whole, renamedColumns, renamedPattern, freeColumns, leftJoinVariables, rightJoinVariables, mergedColumns, merged}
+use Rattle.merging.specs.Expected.{fourRows, makes, sum}
+use Rattle.merging.proofs.Fit.{Fit}
 use Rattle.merging.proofs.Side.{constantRow, rows, asSingle, or-none, positions-named, not-empty, free-sub, join-sum, rows-eq, renamed, newNames, columns-in, renamed-columns-in, constant-only, renamed-scope, side-sum, read-at, only-columns}
 use Rattle.merging.proofs.Four.{agree-four, four-wider, four-cong}
 

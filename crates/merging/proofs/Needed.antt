@@ -1,4 +1,4 @@
--- Each part of `Fit` is needed: a small merge for which the other parts hold and whose answer has not the expected count, computed. Assumes nothing.
+-- Each part of `Fit` is needed: a small merge for which the other parts hold and whose answer has not the expected count, computed. And one premise that isn't. Assumes nothing.
 use mathlib.Core.Path.{_≡_, refl}
 use mathlib.Core.Bool.{Bool, true, false, cond}
 use mathlib.Core.List.{List, [], _∷_}
@@ -7,15 +7,15 @@ use Prim.Native.String.{String}
 use Rattle.text.specs.Text.{Bytes, same}
 use Rattle.text.specs.Word.{bytes}
 use Rattle.algebra.specs.Tree.{Triple, Pattern, bgp, values, filter, bound}
+use Rattle.scoping.specs.ScopedOrHidden.{scopedOrHidden}
 use Rattle.counting.specs.Bag.{count}
 use Rattle.counting.specs.Row.{sameRow}
-use Rattle.scoping.specs.ScopedOrHidden.{scopedOrHidden}
 use Rattle.counting.specs.Answer.{answer}
 use Rattle.counting.specs.Countable.{expressionsKnown}
+use Rattle.counting.proofs.Standard.{t, fields, one}
 use Rattle.merging.specs.Sides.{Pair, Constant, Side, whole, merged}
 use Rattle.merging.specs.Expected.{sum}
 use Rattle.merging.proofs.Decide.{keepsApart, sideParts, joinedAsPairs}
-use Rattle.counting.proofs.Standard.{t, fields, one}
 use Rattle.merging.proofs.Side.{asSingle}
 
 -- a side without columns, and one with these columns

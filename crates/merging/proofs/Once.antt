@@ -1,7 +1,6 @@
 -- Texts say one request only, so what is promised of some request is promised of each. Assumes nothing.
-use mathlib.Core.Path.{_≡_, refl, sym, ap, subst, _∙_}
+use mathlib.Core.Path.{_≡_, ap, subst, _∙_}
 use Rattle.text.specs.Text.{Bytes}
-use Rattle.algebra.specs.Tree.{Pattern}
 use Rattle.algebra.specs.Reader.{Outcome as Reading, reads}
 use Rattle.algebra.specs.Texts.{readTree, readQuery}
 use Rattle.answers.specs.Outcome.{written}

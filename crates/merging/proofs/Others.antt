@@ -1,5 +1,5 @@
 -- What push constants and negate write is a query's too: a head line, and the text of one tree. Assumes nothing.
-use mathlib.Core.Path.{_≡_, refl, sym, ap, subst, _∙_}
+use mathlib.Core.Path.{_≡_, refl, sym, subst, _∙_}
 use mathlib.Core.Bool.{Bool, true, false, cond}
 use mathlib.Core.List.{List, []}
 use mathlib.Core.Option.{Option, none, some}
@@ -17,13 +17,13 @@ use Rattle.algebra.specs.Texts.{readQuery, readAnyTree}
 use Rattle.algebra.specs.Valid.{Triples, Takes, Valid, ValidQuery}
 use Rattle.algebra.proofs.Theorem.{query-exactly}
 use Rattle.algebra.proofs.Roomy.{read-any-exactly}
+use Rattle.answers.specs.Outcome.{written}
 use Rattle.scoping.specs.Label.{prefixV}
 use Rattle.scoping.specs.Numbering.{byPlace}
-use Rattle.scoping.proofs.FirstPlaces.{by-place-query}
 use Rattle.scoping.specs.Sets.{all}
 use Rattle.scoping.specs.Premises.{inside}
+use Rattle.scoping.proofs.FirstPlaces.{by-place-query}
 use Rattle.merging.specs.Sides.{Constant, freeColumns}
-use Rattle.answers.specs.Outcome.{Outcome, written}
 use Rattle.merging.specs.Request.{Projection, tree, asProject, readConstants, positions}
 use Rattle.merging.specs.Merge.{isSelectOrAsk, over}
 use Rattle.merging.specs.Push.{onlySide, pushConstantsInProjectPattern, pushed, pushConstants, pushConstantsOutcome}

@@ -4,18 +4,18 @@ use mathlib.Core.Logic.{_⊎_, inl, inr}
 use mathlib.Core.Bool.{Bool, true, false, _&&_, false≢true}
 use mathlib.Core.List.{List, [], _∷_, _++_, map}
 use Rattle.text.specs.Text.{Bytes, same}
-use Rattle.scoping.specs.Sets.{all}
-use Rattle.algebra.specs.Valid.{mem}
-use Rattle.counting.specs.Row.{fits, Row, agree, cells, named}
-use Rattle.merging.specs.Sides.{Pair, Side, whole, columnAt, renamedColumns, leftJoinVariables, rightJoinVariables, lefts, rights}
-use Rattle.counting.specs.Scope.{names}
-use Rattle.scoping.specs.Premises.{inside, isPair}
-use Rattle.merging.proofs.Fit.{SideFit, Fit}
 use Rattle.text.proofs.Basics.{and-left, and-right, and-both, same-refl, same-eq}
+use Rattle.algebra.specs.Valid.{mem}
+use Rattle.scoping.specs.Sets.{all}
+use Rattle.scoping.specs.Premises.{inside, isPair}
 use Rattle.scoping.proofs.Sets.{eq-same}
+use Rattle.counting.specs.Row.{fits, Row, agree, cells, named}
+use Rattle.counting.specs.Scope.{names}
 use Rattle.counting.proofs.Basics.{split, either, both-ways, or-cases, or-inl, or-inr, mem-left, mem-map, mem-unmap, all-at, all-of}
 use Rattle.counting.proofs.Only.{only-named, fits-none, none-fits}
 use Rattle.counting.proofs.Push.{push-at}
+use Rattle.merging.specs.Sides.{Pair, Side, whole, columnAt, renamedColumns, leftJoinVariables, rightJoinVariables, lefts, rights}
+use Rattle.merging.proofs.Fit.{SideFit, Fit}
 use Rattle.merging.proofs.Side.{positions-in, columns-in, read-at, only-columns}
 use Rattle.merging.proofs.Merge.{pair-in}
 

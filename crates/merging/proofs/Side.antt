@@ -11,21 +11,18 @@ use lib.ListN.{length}
 use lib.Dec.{eqb}
 use Rattle.text.specs.Text.{Bytes}
 use Rattle.algebra.specs.Tree.{Triple, Pattern, join, values, always}
-use Rattle.scoping.specs.Sets.{any}
 use Rattle.algebra.specs.Valid.{mem}
+use Rattle.scoping.specs.Sets.{any}
+use Rattle.scoping.specs.Variables.{variablesInPattern, scopeOf}
+use Rattle.scoping.specs.ScopedOrHidden.{namesWith}
+use Rattle.scoping.specs.Rename.{renameInGraphPattern}
+use Rattle.scoping.specs.Premises.{inside}
+use Rattle.scoping.proofs.Positions.{inside-first, inside-rest}
 use Rattle.counting.specs.Bag.{Sub, total}
 use Rattle.counting.specs.Row.{Cell, orCell, Row, empty, merge, cut, agree, cells, named, oneTerm, cell}
 use Rattle.counting.specs.Condition.{passes}
-use Rattle.scoping.specs.Variables.{variablesInPattern, scopeOf}
-use Rattle.scoping.specs.ScopedOrHidden.{namesWith}
 use Rattle.counting.specs.Scope.{names}
 use Rattle.counting.specs.Answer.{pairs, lineRows, eval, answer}
-use Rattle.scoping.specs.Rename.{renameInGraphPattern}
-use Rattle.merging.specs.Sides.{Constant, Side, whole, columnAt, constantColumns, constantTerms, bindConstants, withoutConstants, renamedColumns, renamedPattern, freeColumns}
-use Rattle.merging.specs.Expected.{Single}
-use Rattle.scoping.specs.Premises.{inside}
-use Rattle.merging.proofs.Fit.{SideFit}
-use Rattle.scoping.proofs.Positions.{inside-first, inside-rest}
 use Rattle.counting.proofs.Basics.{clash, either, mem-nil, mem-here, mem-there, mem-eq, mem-cases, mem-left, mem-right, sub-append, mem-map, mem-unmap, map-map}
 use Rattle.counting.proofs.Every.{every-imp}
 use Rattle.counting.proofs.Sums.{total-cong, total-every, total-map, total-each, total-when}
@@ -35,6 +32,9 @@ use Rattle.counting.proofs.Rename.{scope-in, scope-renamed, eval-renamed}
 use Rattle.counting.proofs.Columns.{cells-cut, named-cells}
 use Rattle.counting.proofs.Wider.{agree-both}
 use Rattle.counting.proofs.Laws.{pairs-sum}
+use Rattle.merging.specs.Sides.{Constant, Side, whole, columnAt, constantColumns, constantTerms, bindConstants, withoutConstants, renamedColumns, renamedPattern, freeColumns}
+use Rattle.merging.specs.Expected.{Single}
+use Rattle.merging.proofs.Fit.{SideFit}
 
 -- ---- a side's answer under its own new names
 

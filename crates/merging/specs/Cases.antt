@@ -1,8 +1,7 @@
--- Document 01, "Cases to be proved": a table of calls and their outcomes. Assumes nothing.
+-- Document 01, "Cases to be proved": its ten, and some more, as one table of calls and their outcomes. Assumes nothing.
 use mathlib.Core.List.{List, [], _∷_}
 use Prim.Native.Nat.{ℕ}
 use Prim.Native.String.{String}
-use Rattle.text.specs.Text.{Bytes}
 use Rattle.text.specs.Word.{bytes}
 use Rattle.answers.specs.Outcome.{Outcome, refused, written}
 use Rattle.merging.specs.Merge.{mergePatternsOutcome, mergeQueriesOutcome}
@@ -34,28 +33,28 @@ refuses c n = record { call = c; gives = refused n }
 
 abbrev pub cases : List Case
 cases =
-    -- "that merge"
+    -- 1: "that merge"
     gives (mergePatterns "project\t?event\t?relay\nbgp\t1\nt\t?event\t<by>\t?relay\n" "project\t?r\t?bay\nbgp\t1\nt\t?r\t<in>\t?bay\n" "1\t0\n" "" "")
     "project\t?l0\t?j0\t?r1\njoin\nbgp\t1\nt\t?l0\t<by>\t?j0\nbgp\t1\nt\t?j0\t<in>\t?r1\n"
-    -- "left `?s ?sLabel`, right `?t ?tLabel`, join `0 0`, columns `?j0 ?j0Label ?j0Label`"
+    -- 2: Label partners are linked too
     ∷ gives (mergePatterns "project\t?s\t?sLabel\nbgp\t0\n" "project\t?t\t?tLabel\nbgp\t0\n" "0\t0\n" "" "") "project\t?j0\t?j0Label\t?j0Label\njoin\nbgp\t0\nbgp\t0\n"
-    -- "left `?a`, right `?b ?c`, join `0 0` and `0 1`, columns `?j0 ?j1`"
+    -- 3: a left position twice equates the first pair only
     ∷ gives (mergePatterns "project\t?a\nbgp\t0\n" "project\t?b\t?c\nbgp\t0\n" "0\t0\n0\t1\n" "" "") "project\t?j0\t?j1\njoin\nbgp\t0\nbgp\t0\n"
-    -- "position 2 of two columns, 3": in the join list, among the constants
+    -- 4: "position 2 of two columns, 3", in the join list and among the constants
     ∷ refuses (mergePatterns "project\t?a\t?b\nbgp\t0\n" "project\t?c\nbgp\t0\n" "2\t0\n" "" "") 3
     ∷ refuses (mergePatterns "project\t?a\nbgp\t0\n" "project\t?b\t?c\nbgp\t0\n" "" "" "2\t<k>\n") 3
-    -- "distinct over project, 4", before 3
+    -- 5: "distinct over project, 4", before 3
     ∷ refuses (mergePatterns "distinct\nproject\t?a\nbgp\t0\n" "project\t?b\nbgp\t0\n" "7\t7\n" "" "") 4
     ∷ refuses (mergePatterns "project\t?a\nbgp\t0\n" "bgp\t0\n" "7\t7\n" "" "") 4
-    -- "select with ask, 5", before 4
+    -- 6: "select with ask, 5", before 4
     ∷ refuses (mergeQueries "query\tselect\t-\t-\ndistinct\nproject\t?a\nbgp\t0\n" "query\task\t-\t-\nproject\t?b\nbgp\t0\n" "" "" "") 5
-    -- "push `0 <k>` on `?a ?b`, column `?v1`"
+    -- 7: push "on `?a ?b`"
     ∷ gives (pushConstants "query\tselect\t-\t-\nproject\t?a\t?b\nbgp\t0\n" "0\t<k>\n") "query\tselect\t-\t-\nproject\t?v1\njoin\nbgp\t0\nvalues\t1\t1\ncols\t?v0\nrow\t<k>\n"
-    -- "v-mapping of `?xLabelLabel` then `?x`: `?v0Label`, `?v1`"
+    -- 8: the v-mapping of `?xLabelLabel`, then `?x`
     ∷ gives (pushConstants "query\tselect\t-\t-\nproject\t?xLabelLabel\t?x\nbgp\t0\n" "") "query\tselect\t-\t-\nproject\t?v0Label\t?v1\nbgp\t0\n"
-    -- "`?Label` alone: `?v0Label`"
+    -- 9: "`?Label` alone"
     ∷ gives (pushConstants "query\task\t-\t-\nproject\t?Label\nbgp\t0\n" "") "query\task\t-\t-\nproject\t?v0Label\nbgp\t0\n"
-    -- "no text for the left tree, 1"
+    -- 10: "no text for the left tree, 1"
     ∷ refuses (mergePatterns "" "project\t?b\nbgp\t0\n" "" "" "") 1
     -- beyond 01's: constants on both sides by rising position, and a head line
     ∷ gives (mergeQueries "query\task\t-\t<b>\nproject\t?a\t?b\t?c\nbgp\t0\n" "query\task\t-\t<b>\nproject\t?d\nbgp\t0\n" "1\t0\n" "2\t\"x\"\n0\t<k>\n" "")

@@ -8,8 +8,8 @@ use Rattle.algebra.specs.Query.{Query}
 use Rattle.algebra.specs.Texts.{readTree, readQuery}
 use Rattle.algebra.specs.Layout.{layout}
 use Rattle.algebra.specs.Bounded.{layoutQuery}
+use Rattle.answers.specs.Outcome.{Outcome, written, then, orRefused, refusedUnless}
 use Rattle.merging.specs.Sides.{Pair, Constant, merged}
-use Rattle.answers.specs.Outcome.{Outcome, refused, written, then, orRefused, refusedUnless}
 use Rattle.merging.specs.Request.{asProject, readJoins, readConstants, Request, request, leftSide, rightSide, allInside}
 
 -- merge_project_patterns, for two projects

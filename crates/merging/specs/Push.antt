@@ -7,10 +7,10 @@ use Rattle.algebra.specs.Tree.{Pattern, project}
 use Rattle.algebra.specs.Query.{Query}
 use Rattle.algebra.specs.Texts.{readQuery}
 use Rattle.algebra.specs.Bounded.{layoutQuery}
+use Rattle.answers.specs.Outcome.{Outcome, written, then, refusedUnless}
 use Rattle.scoping.specs.Label.{prefixV}
 use Rattle.scoping.specs.Premises.{inside}
 use Rattle.merging.specs.Sides.{Constant, Side, renamedPattern, freeColumns, standardized}
-use Rattle.answers.specs.Outcome.{Outcome, refused, written, then, refusedUnless}
 use Rattle.merging.specs.Request.{Projection, asProject, readConstants, positions}
 use Rattle.merging.specs.Merge.{isSelectOrAsk, over}
 

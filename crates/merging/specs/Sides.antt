@@ -6,10 +6,10 @@ use lib.ListN.{length, getD}
 use lib.Dec.{eqb, ltb}
 use Rattle.text.specs.Text.{Bytes, same}
 use Rattle.algebra.specs.Tree.{Pattern, join, values, project}
+use Rattle.algebra.specs.Valid.{mem}
 use Rattle.scoping.specs.Rename.{renameInGraphPattern}
 use Rattle.scoping.specs.Premises.{sideName}
 use Rattle.scoping.specs.Sets.{all, any, keep}
-use Rattle.algebra.specs.Valid.{mem}
 
 -- a line of a join list: two positions (`Pair` of crates/algebra is a line of any list, two fields)
 pub record Pair : Type 0 where

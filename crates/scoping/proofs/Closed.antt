@@ -3,14 +3,14 @@ use mathlib.Core.Path.{_≡_, refl, sym, ap, ap₂, _∙_}
 use mathlib.Core.List.{List, [], _∷_, _++_}
 use mathlib.Core.Bool.{Bool, true, false, cond, _||_, true≢false, false≢true}
 use mathlib.Core.Option.{Option, none, some}
-use Prim.Native.Nat.{ℕ, zero, suc, _+_}
+use Prim.Native.Nat.{ℕ, suc, _+_}
 use native.Mathlib.Omega.{arith}
 use Rattle.text.specs.Text.{Bytes, same}
 use Rattle.text.specs.Field.{given}
 use Rattle.text.proofs.Basics.{same-eq}
 use Rattle.algebra.specs.Valid.{mem}
 use Rattle.scoping.specs.Sets.{indexOf}
-use Rattle.scoping.specs.Label.{label, isLabel, base, generated, prefixJ}
+use Rattle.scoping.specs.Label.{isLabel, generated, prefixJ}
 use Rattle.scoping.specs.Standardize.{orSelf}
 use Rattle.scoping.specs.Pushes.{Push, aPush, lookup, contains, pushed, pushes, allPushes, newName}
 use Rattle.scoping.proofs.Agree.{contains-given}

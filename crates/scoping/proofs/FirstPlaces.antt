@@ -1,7 +1,7 @@
 -- A tree's names by first place are those that one walk over its places meets. Assumes nothing.
-use mathlib.Core.Path.{_≡_, refl, sym, ap, _∙_, subst}
+use mathlib.Core.Path.{_≡_, refl, sym, ap, _∙_}
 use mathlib.Core.List.{List, [], _∷_, _++_}
-use mathlib.Core.Bool.{Bool, true, false, cond, _||_, _&&_, or-false, or-assoc, true≢false}
+use mathlib.Core.Bool.{Bool, true, false, cond, _||_, _&&_, or-false, or-assoc}
 use Rattle.text.specs.Text.{Bytes, same}
 use Rattle.text.specs.Field.{isVar}
 use Rattle.text.proofs.Basics.{same-eq}
@@ -15,7 +15,7 @@ use Rattle.algebra.proofs.Lines.{names-different}
 use Rattle.scoping.specs.Sets.{Once, keep, variablesOf, tripleVariables}
 use Rattle.scoping.specs.Places.{Mark, visible, silent, Place, under, marked, places, placesE, placesC, placesEs, placesOs, placesAs, namesOf}
 use Rattle.scoping.specs.Numbering.{byPlace}
-use Rattle.scoping.proofs.Sets.{mem-append, same-sym}
+use Rattle.scoping.proofs.Sets.{mem-append}
 
 -- ---- names that are noted
 

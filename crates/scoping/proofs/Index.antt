@@ -1,5 +1,5 @@
 -- Places of names in lists, and the pairs of two lists. Assumes nothing.
-use mathlib.Core.Path.{_≡_, refl, sym, ap, ap₂, _∙_}
+use mathlib.Core.Path.{_≡_, refl, sym, ap, _∙_}
 use mathlib.Core.List.{List, [], _∷_}
 use mathlib.Core.Bool.{Bool, true, false, cond, _||_, _&&_, or-true, true≢false, false≢true}
 use Prim.Native.Nat.{ℕ, zero, suc, _<_}

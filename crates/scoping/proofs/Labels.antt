@@ -1,13 +1,12 @@
 -- Laws of "Label": a name with "Label" behind it, and a name without it. Assumes nothing.
-use mathlib.Core.Path.{_≡_, refl, sym, ap, _∙_}
+use mathlib.Core.Path.{_≡_, sym, ap, _∙_}
 use mathlib.Core.List.{List, [], _∷_, _++_}
 use mathlib.Core.Bool.{Bool, true, false, cond, _&&_, true≢false}
-use mathlib.Core.Option.{Option, some}
+use mathlib.Core.Option.{some}
 use Prim.Native.Nat.{ℕ, _-_, _≤_}
 use native.Mathlib.Omega.{arith}
 use lib.ListN.{length, drop, length-append}
 use lib.Seq.{drop-append-seam}
-use lib.Dec.{leb}
 use borrow.Author.Tests.{le-leb}
 use Rattle.text.specs.Text.{Bytes, same}
 use Rattle.scoping.specs.Label.{label, isLabel, base, generated}

@@ -6,7 +6,6 @@ use Prim.Native.Nat.{ℕ, _<_}
 use native.Mathlib.Omega.{arith}
 use lib.ListN.{length, getD}
 use Rattle.text.specs.Text.{Bytes, same}
-use Rattle.text.proofs.Basics.{same-eq}
 use Rattle.algebra.specs.Valid.{mem}
 use Rattle.scoping.specs.Sets.{Once, indexOf}
 use Rattle.scoping.specs.Label.{generated, prefixJ, prefixL, prefixR}
@@ -15,7 +14,7 @@ use Rattle.scoping.specs.Premises.{isPair}
 use Rattle.scoping.proofs.Sets.{eq-same, not-same}
 use Rattle.scoping.proofs.Decimal.{generated-number, generated-prefix}
 use Rattle.scoping.proofs.Closed.{Plain, target, new-name-target}
-use Rattle.scoping.proofs.Index.{at-index, index-below, same-place, mem-at, index-at, Paired, pair-at, pair-index}
+use Rattle.scoping.proofs.Index.{at-index, index-below, same-place, mem-at, index-at, pair-at, pair-index}
 
 -- ---- one side: the new names are different where the names are
 

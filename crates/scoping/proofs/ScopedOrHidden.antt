@@ -1,6 +1,6 @@
 -- The names in scope or hidden are those that are numbered. Assumes nothing.
 use mathlib.Core.Path.{_≡_, sym, _∙_}
-use mathlib.Core.List.{List, [], _∷_, _++_}
+use mathlib.Core.List.{[], _∷_, _++_}
 use mathlib.Core.Bool.{_||_}
 use Rattle.text.specs.Text.{Bytes}
 use Rattle.algebra.specs.Valid.{mem, Valid}

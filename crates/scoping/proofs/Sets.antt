@@ -1,7 +1,7 @@
 -- Laws of names and of lists of names read as sets. Assumes nothing.
 use mathlib.Core.Path.{_≡_, refl, sym, ap, _∙_}
 use mathlib.Core.List.{List, [], _∷_, _++_}
-use mathlib.Core.Bool.{Bool, true, false, cond, not, _||_, _&&_, or-assoc, or-comm, or-false, true≢false}
+use mathlib.Core.Bool.{Bool, true, false, cond, _||_, _&&_, or-assoc, or-comm, or-false, true≢false}
 use Prim.Native.Nat.{ℕ}
 use Rattle.text.specs.Text.{Bytes, same}
 use Rattle.text.proofs.Basics.{same-eq, same-refl}

@@ -1,7 +1,7 @@
 -- nemo's set in scope against SPARQL 1.1, section 18.2.1: they are the same, save variables that stand only as a service's name. Assumes nothing.
-use mathlib.Core.Path.{_≡_, refl, sym, ap, _∙_}
-use mathlib.Core.List.{List, [], _∷_, _++_}
-use mathlib.Core.Bool.{Bool, true, false, _||_, or-false}
+use mathlib.Core.Path.{_≡_, sym, ap, _∙_}
+use mathlib.Core.List.{[], _∷_, _++_}
+use mathlib.Core.Bool.{Bool, false, _||_, or-false}
 use Rattle.text.specs.Text.{Bytes}
 use Rattle.algebra.specs.Valid.{mem}
 use Rattle.algebra.specs.Tree.{Pattern, bgp, path, join, union, minus, leftjoin, filter, graph, extend, values, orderby, project, distinct, reduced, slice, group, service}

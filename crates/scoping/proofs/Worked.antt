@@ -1,11 +1,10 @@
 -- The worked cases of specs/Cases.antt, under one theorem over their table. Assumes nothing.
 use mathlib.Core.Path.{_≡_, refl}
-use mathlib.Core.List.{List, map}
-use Rattle.text.specs.Text.{Bytes, same}
+use mathlib.Core.List.{map}
+use Rattle.text.specs.Text.{same}
 use Rattle.text.specs.Field.{isVar, digits, decimal}
 use Rattle.algebra.specs.Valid.{mem}
 use Rattle.algebra.specs.Tally.{notes, noted, headed, tallyTriples, tally}
-use Rattle.algebra.specs.Tree.{Pattern}
 use Rattle.scoping.specs.Sets.{keep, variablesOf, tripleVariables}
 use Rattle.scoping.specs.Variables.{variablesInPattern}
 use Rattle.scoping.specs.Numbering.{byPlace, inScopeByPlace, hiddenByPlace, numbered}

@@ -2,7 +2,7 @@
 use mathlib.Core.List.{List, [], _∷_}
 use Prim.Native.String.{String}
 use Rattle.text.specs.Word.{bytes}
-use Rattle.algebra.specs.Tree.{Triple, Pattern, bgp, minus, filter, project, service, bound}
+use Rattle.algebra.specs.Tree.{Pattern, bgp, minus, filter, project, service, bound}
 use Rattle.scoping.specs.Label.{prefixV}
 use Rattle.scoping.specs.Numbering.{numbered}
 use Rattle.scoping.specs.Standardize.{standardizeVariables, renamed}

@@ -1,6 +1,6 @@
 -- A name's "Label" and generated names: the strings of nemo's standardize_variables (queries.rs). Assumes nothing.
 use mathlib.Core.Bool.{Bool, cond, _&&_}
-use mathlib.Core.List.{List, [], _∷_}
+use mathlib.Core.List.{[], _∷_}
 use Prim.Native.Nat.{ℕ, _-_}
 use lib.ListN.{length, take, drop}
 use lib.Dec.{leb}
