@@ -9,23 +9,22 @@ use lib.Dec.{eqb, eqb-refl}
 use Rattle.text.specs.Text.{Bytes}
 use Rattle.text.specs.Field.{most, isVar}
 use Rattle.text.proofs.Basics.{T→so, and-both}
-use Rattle.algebra.specs.Tree.{Pattern}
-use Rattle.algebra.specs.Bounded.{Variables}
 use Rattle.algebra.specs.Valid.{mem, different}
-use Rattle.algebra.proofs.Lines.{different-head, different-tail, names-different}
+use Rattle.algebra.proofs.Lines.{different-head, different-tail}
 use Rattle.scoping.specs.Sets.{any}
 use Rattle.scoping.specs.Label.{prefixJ, prefixL, prefixR}
-use Rattle.scoping.specs.Numbering.{byPlace, inScopeByPlace, hiddenByPlace, numbered}
+use Rattle.scoping.specs.Numbering.{numbered}
 use Rattle.scoping.specs.Premises.{columnsAt, inside, differentPositions, NamePremises, isPair}
 use Rattle.scoping.specs.ScopedOrHidden.{scopedOrHidden}
 use Rattle.scoping.proofs.Positions.{inside-first, inside-rest, different-first, different-rest}
+use Rattle.scoping.proofs.Numbered.{numbered-variable}
 use Rattle.scoping.proofs.ScopedOrHidden.{numbered-scoped}
 use Rattle.scoping.proofs.NewVariables.{numbered-few}
 use Rattle.scoping.proofs.Theorem.{side-apart, side-variables, sides-meet}
 use Rattle.counting.specs.Row.{Cell, fits, named, oneTerm, cell}
 use Rattle.counting.specs.Scope.{names}
 use Rattle.counting.specs.Countable.{expressionsKnown}
-use Rattle.counting.proofs.Basics.{clash, not-true, or-inl, or-inr, either, mem-nil, mem-cases, mem-append-cases, keep-sub, all-at}
+use Rattle.counting.proofs.Basics.{clash, not-true, or-inl, or-inr, either, mem-nil, mem-cases, all-at}
 use Rattle.counting.proofs.Only.{only-named, fits-none}
 use Rattle.merging.specs.Sides.{Pair, Constant, columnAt, constantColumns, constantTerms, lefts, rights, standardized}
 use Rattle.merging.specs.Request.{Projection, tree, Request, leftSide, rightSide}
@@ -74,18 +73,6 @@ one-term (c ∷ cs) (x ∷ xs) d = and-both (fits x (named cs xs c)) (oneTerm cs
 
 -- ---- one side
 
--- a numbered name is a variable, so it is not empty
-variables-at : (ns : List Bytes) → Variables ns → (v : Bytes) → mem v ns ≡ true → isVar v ≡ true
-unfolding Variables
-variables-at [] h v m = mem-nil v m
-variables-at (n ∷ ns) h v m = either (λ e. ap isVar e ∙ h .0) (variables-at ns (h .1) v) (mem-cases v n ns m)
-
-no-empty-name : (p : Pattern) → mem [] (numbered p) ≡ true → ⊥
-unfolding numbered inScopeByPlace hiddenByPlace byPlace isVar
-no-empty-name p m =
-    let there : mem [] (byPlace p) ≡ true = either (keep-sub _ (byPlace p) []) (keep-sub _ (byPlace p) []) (mem-append-cases [] (inScopeByPlace p) (hiddenByPlace p) m) in
-    false≢true (variables-at (byPlace p) (names-different p .1) [] there)
-
 module _ (prefix : ℕ) (x : Projection) (is : List ℕ) (ks : List Constant) (k : Known prefix x is ks) (s : Supposed x) where
   -- the premises as crates/scoping wants them for the names
   pub names-of : differentPositions is ≡ true → NamePremises (x .columns) (x .inner) is
@@ -109,10 +96,11 @@ module _ (prefix : ℕ) (x : Projection) (is : List ℕ) (ks : List Constant) (k
   few-pairs = let a = k .pairs in omega arith
 
   side-fit : (prefix ≡ prefixJ → ⊥) → differentPositions is ≡ true → SideFit (standardized prefix (x .columns) (x .inner) is ks)
+  unfolding isVar
   side-fit n d = record {
     apart = λ u v h j. side-apart (x .columns) (x .inner) is (names-of d) prefix n u v (numbered-if u h) (numbered-if v j);
     variables = λ v h. side-variables (x .columns) (x .inner) is (names-of d) prefix few-names few-pairs v (numbered-if v h);
-    no-empty = not-true (mem [] (names (tree x))) (λ m. no-empty-name (tree x) (numbered-if [] m));
+    no-empty = not-true (mem [] (names (tree x))) (λ m. false≢true (numbered-variable (tree x) (k .valid) [] (numbered-if [] m)));
     constant-inside = k .constants-inside;
     constant-once = one-term (constantColumns (x .columns) ks) (map cell (constantTerms ks)) (columns-at-different (x .columns) (s .columns-once) (λ c. c .position) ks (k .constants-inside) (k .constants-good .different));
   }
