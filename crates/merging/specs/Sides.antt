@@ -1,15 +1,15 @@
 -- The two sides of a merge, and the tree that they are merged into: nemo's merge_project_patterns (queries.rs) on trees. Assumes nothing.
-use mathlib.Core.Bool.{Bool, cond, not}
+use mathlib.Core.Bool.{cond, not}
 use mathlib.Core.List.{List, [], _∷_, _++_, map}
 use Prim.Native.Nat.{ℕ, suc}
-use lib.ListN.{length, getD}
-use lib.Dec.{eqb, ltb}
+use lib.ListN.{getD}
+use lib.Dec.{eqb}
 use Rattle.text.specs.Text.{Bytes, same}
 use Rattle.algebra.specs.Tree.{Pattern, join, values, project}
 use Rattle.algebra.specs.Valid.{mem}
 use Rattle.scoping.specs.Rename.{renameInGraphPattern}
 use Rattle.scoping.specs.Premises.{sideName}
-use Rattle.scoping.specs.Sets.{all, any, keep}
+use Rattle.scoping.specs.Sets.{any, keep}
 
 -- a line of a join list: two positions (`Pair` of crates/algebra is a line of any list, two fields)
 pub record Pair : Type 0 where
@@ -27,11 +27,6 @@ lefts js = map (λ j. j .left) js
 
 abbrev pub rights : List Pair → List ℕ
 rights js = map (λ j. j .right) js
-
--- each position is one of the columns'
-unfoldable pub inside : List Bytes → List ℕ → Bool
-unfolding all
-inside cs is = all (λ i. ltb i (length cs)) is
 
 -- one of the two: a project's columns and inner pattern, the new name of each name, the constants
 pub record Side : Type 0 where
