@@ -8,7 +8,6 @@ use lib.ListN.{length}
 use Rattle.text.specs.Text.{Bytes, linesOf, linesFrom}
 use Rattle.text.proofs.Texts.{lines-back}
 use Rattle.text.proofs.Places.{lines-start}
-use Rattle.algebra.specs.Tree.{Pattern}
 use Rattle.algebra.specs.Valid.{Valid}
 use Rattle.algebra.specs.Depth.{depth}
 use Rattle.algebra.specs.Layout.{put, layout}

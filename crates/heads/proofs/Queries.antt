@@ -1,9 +1,9 @@
 -- A query that was read: its tree, and its text as a head line and the tree's text. Assumes nothing.
-use Prim.Native.Nat.{ℕ, _≤_}
-use mathlib.Core.Path.{_≡_, refl, sym, ap, _∙_}
-use mathlib.Core.List.{List, [], _∷_, _++_}
+use Prim.Native.Nat.{_≤_}
+use mathlib.Core.Path.{_≡_, sym, ap, _∙_}
+use mathlib.Core.List.{[], _∷_, _++_}
 use lib.ListN.{length}
-use Rattle.text.specs.Text.{Bytes, Line, ended, textOf, linesOf, linesFrom}
+use Rattle.text.specs.Text.{Bytes, ended, textOf, linesOf, linesFrom}
 use Rattle.text.proofs.Texts.{lines-back, Ended, neat-ended}
 use Rattle.text.proofs.Places.{lines-start}
 use Rattle.algebra.specs.Tree.{Pattern}

@@ -1,7 +1,7 @@
 -- Where a query's tree stands in its text: behind the head line. Assumes nothing.
 use Prim.Native.Nat.{ℕ}
 use mathlib.Core.Path.{_≡_}
-use mathlib.Core.List.{List, [], _∷_}
+use mathlib.Core.List.{[], _∷_}
 use lib.ListN.{take}
 use Rattle.text.specs.Text.{Bytes, Line, ended, linesFrom}
 use Rattle.text.specs.Word.{bytes}

@@ -2,8 +2,8 @@
 use Prim.Native.Nat.{ℕ, _-_, _≤_, _<_}
 use mathlib.Core.Path.{_≡_, refl, sym, ap, _∙_}
 use mathlib.Core.Bool.{Bool, true, false, cond, not}
-use mathlib.Core.List.{List, [], _∷_, _++_}
-use mathlib.Core.Option.{none, some}
+use mathlib.Core.List.{List, [], _++_}
+use mathlib.Core.Option.{none}
 use native.Mathlib.Omega.{arith}
 use lib.ListN.{length, take, drop, length-drop}
 use lib.Seq.{take-all}
@@ -19,19 +19,18 @@ use Rattle.algebra.specs.Reader.{reads, refuses, malformed, overBound}
 use Rattle.algebra.specs.Texts.{readQuery}
 use Rattle.emit.specs.Emit.{em, last, puts}
 use Rattle.emit.proofs.Laws.{puts-append}
-use Rattle.answers.specs.declared.Answer.{Answer}
 use Rattle.answers.specs.declared.Answer.the-variants.{Written, Malformed, OverBound, TooShort}
-use Rattle.answers.specs.Outcome.{Outcome, written, Reported, Answered}
+use Rattle.answers.specs.Outcome.{written, Reported, Answered}
 use Rattle.answers.proofs.Answers.{too-short, all-written, answered}
 use Rattle.merging.specs.Merge.{isSelectOrAsk, over}
-use Rattle.merging.specs.Negate.{modifyOutermostProjection, negateProjectPattern, negateQuery, negateOutcome}
-use Rattle.heads.specs.TreeAt.{TreeAt, headLine}
+use Rattle.merging.specs.Negate.{negateProjectPattern, negateQuery, negateOutcome}
+use Rattle.heads.specs.TreeAt.{TreeAt}
 use Rattle.heads.proofs.Queries.{query-layout, over-layout, tree-ended}
 use Rattle.negating.specs.Lines.{fromProject, Projects}
 use Rattle.negating.specs.Negated.{notExists, negatedAt}
 use Rattle.negating.proofs.Found.{not-found}
 use Rattle.negating.proofs.TreeLines.{behind}
-use Rattle.negating.proofs.Placed.{Placed, placed, not-placed, inner-text, modified-text}
+use Rattle.negating.proofs.Placed.{placed, not-placed, inner-text, modified-text}
 
 -- the new inner pattern's text
 not-exists-text : (q : Pattern) (t : List Line) → textOf (put (filter (bgp []) (apply NOT (econs (exists q) eend))) t) ≡ notExists ++ textOf (put q t)
