@@ -54,7 +54,7 @@ module _ (s : Bytes) (end : ℕ) (l : LineEnd s 0 end) (q : Query) (e : readQuer
       let d : drop (end + 1) s ≡ layout (q .tree) = text-from s (end + 1) (put (q .tree) []) t (tree-ended s q e) in
       record { lines = t; head = text-before s (ended (headLine q) []) (end + 1) (omega arith) (query-text s q e ∙ ap (λ (x : Bytes). ended (headLine q) [] ++ x) (sym d)) }
 
-  -- so none is the text's last
+  -- where the first line isn't ended, no query is read
   pub tree-never : (r : ℕ) → end ≡ length s → TreeAt s q r
   tree-never r k = let h = head-ends in absurd (omega arith)
 
