@@ -39,6 +39,10 @@ uint8_t gandeuch_rename(const uint8_t *tree, size_t tree_size,
                         const uint8_t *mapping, size_t mapping_size,
                         uint8_t *out, size_t out_size, size_t *size);
 
+/* negate: the query that asks for what its pattern doesn't match; a construct or describe query as it is. */
+uint8_t gandeuch_negate(const uint8_t *query, size_t query_size,
+                        uint8_t *out, size_t out_size, size_t *size);
+
 #ifdef __cplusplus
 }
 #endif

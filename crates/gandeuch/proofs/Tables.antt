@@ -1,27 +1,26 @@
 -- What the check of a tree leaves: a table whose names are told apart, and a text that is the tree's lines. Assumes nothing.
 use Prim.Native.Nat.{ℕ, _≤_, _<_}
-use mathlib.Core.Path.{_≡_, refl, sym, ap, subst, _∙_}
-use mathlib.Core.List.{List, [], _∷_}
+use mathlib.Core.Path.{_≡_, sym, ap, subst, _∙_}
+use mathlib.Core.List.{List, []}
 use native.Mathlib.Omega.{arith}
 use native.Mathlib.Decide.{decLt}
 use lib.ListN.{length}
 use Rattle.text.specs.Text.{Bytes, linesOf, linesFrom}
 use Rattle.text.proofs.Texts.{lines-back}
 use Rattle.text.proofs.Places.{lines-start}
-use Rattle.algebra.specs.Tree.{Pattern}
 use Rattle.algebra.specs.Valid.{Valid}
 use Rattle.algebra.specs.Depth.{depth}
 use Rattle.algebra.specs.Layout.{put, layout}
 use Rattle.algebra.specs.Bounded.{IsTree}
 use Rattle.algebra.specs.Tally.{bounds}
-use Rattle.algebra.specs.Reader.{Outcome as Reading, reads, refuses, malformed, overBound}
 use Rattle.algebra.specs.Texts.{readTree}
 use Rattle.algebra.specs.declared.Answer.{Answer}
-use Rattle.algebra.specs.declared.Answer.the-variants.{Good, Malformed, OverBound}
+use Rattle.algebra.specs.declared.Answer.the-variants.{Good}
 use Rattle.algebra.proofs.Neat.{neat}
 use Rattle.algebra.proofs.Theorem.{tree-exactly}
 use Rattle.reading.specs.Variables.{treeNames}
-use Rattle.names.specs.Names.{listing, Hinted, Holds}
+use Rattle.reading.proofs.Said.{said-good}
+use Rattle.names.specs.Names.{listing, Hinted}
 use Rattle.names.specs.Checked.{Checked}
 use Rattle.scoping.specs.Sets.{Once}
 use Rattle.scoping.specs.Numbering.{byPlace}
@@ -66,33 +65,6 @@ module _ (s : Bytes) (a l h : List ℕ) (n : ℕ) (k : Known s a l h n) where
       sym (lines-start s)
       ∙ ap linesOf (sym (is-tree .0))
       ∙ lines-back (put (k .pattern) []) (neat (k .pattern) [] known-valid tt)
-
--- ---- what a check's answer says of the text
-
-module _ {A : Type 0} (f : A → List Bytes) (s : Bytes) (a l h : List ℕ) (r : Answer) where
-  -- a good text, with the table of its names
-  pub record Good-text (o : Reading A) (n : ℕ) : Type 0 where
-    pub value : A
-    pub read : o ≡ reads value
-    pub table : Holds s a l h n (f value)
-
-  pub said-good : (o : Reading A) (n : ℕ) → Checked f s a l h o r → r ≡ Good n → Good-text o n
-  unfolding Checked
-  said-good (reads x) n c q = let e : c .0 ≡ n = cc in record { value = x; read = refl; table = subst (λ (m : ℕ). Holds s a l h m (f x)) e (c .2) }
-  said-good (refuses malformed) n c q = let z : _≡_ {A = ℕ} 0 1 = cc in absurd (omega arith)
-  said-good (refuses overBound) n c q = let z : _≡_ {A = ℕ} 0 1 = cc in absurd (omega arith)
-
-  pub said-malformed : (o : Reading A) → Checked f s a l h o r → r ≡ Malformed → o ≡ refuses malformed
-  unfolding Checked
-  said-malformed (reads x) c q = let z : _≡_ {A = ℕ} 0 1 = cc in absurd (omega arith)
-  said-malformed (refuses malformed) c q = refl
-  said-malformed (refuses overBound) c q = let z : _≡_ {A = ℕ} 0 1 = cc in absurd (omega arith)
-
-  pub said-over : (o : Reading A) → Checked f s a l h o r → r ≡ OverBound → o ≡ refuses overBound
-  unfolding Checked
-  said-over (reads x) c q = let z : _≡_ {A = ℕ} 0 1 = cc in absurd (omega arith)
-  said-over (refuses malformed) c q = let z : _≡_ {A = ℕ} 0 1 = cc in absurd (omega arith)
-  said-over (refuses overBound) c q = refl
 
 pub good-known : (s : Bytes) (a l h : List ℕ) (r : Answer) (n : ℕ) → Checked treeNames s a l h (readTree s) r → r ≡ Good n → Known s a l h n
 unfolding byPlace

@@ -46,11 +46,11 @@ asks : (q : Query) (p : Pattern) (b : Bytes) → Valid p → written (layoutQuer
 asks q p b v e = record { tree = p; text = layout p; head = sym (bytes-of (layoutQuery (over q p)) b e) ∙ query-over q p; read = read-any-exactly (layout p) p .1 (refl, v) }
 
 -- a query that was read
-tree-valid : (s : Bytes) (q : Query) → readQuery s ≡ reads q → Valid (q .tree)
+pub tree-valid : (s : Bytes) (q : Query) → readQuery s ≡ reads q → Valid (q .tree)
 unfolding ValidQuery
 tree-valid s q e = query-exactly s q .0 e .1 .3
 
-tree-names : (s : Bytes) (q : Query) → readQuery s ≡ reads q → length (byPlace (q .tree)) ≤ 1024
+pub tree-names : (s : Bytes) (q : Query) → readQuery s ≡ reads q → length (byPlace (q .tree)) ≤ 1024
 tree-names s q e = subst (λ (l : List Bytes). length l ≤ 1024) (by-place-query q) (query-exactly s q .0 e .2 .names)
 
 -- ---- push constants

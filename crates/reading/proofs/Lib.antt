@@ -1,1 +1,2 @@
 pub mod ToldLaw
+pub mod Said

@@ -43,7 +43,7 @@ pub struct Count {
     pub next: usize,
 }
 
-fn count_at(text: &[u8], at: usize, end: usize) -> Count
+pub fn count_at(text: &[u8], at: usize, end: usize) -> Count
     requires { ⌜ end < length (now text) ⌝ }
     ensures { λ r. ⌜ (r .number ≡ numberIn (getD (left (now (text .entry)) at end) 0 [])) × (left (now (text .entry)) (r .next) end ≡ drop 1 (left (now (text .entry)) at end)) × (r .number < 4294967296) ⌝ }
 {

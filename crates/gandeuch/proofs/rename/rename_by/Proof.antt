@@ -2,7 +2,7 @@
 use borrow.Author.Needs.{needs}
 use Rattle.algebra.specs.Query.{mapping}
 use Rattle.lists.specs.Pairs.{keysOf}
-use Rattle.gandeuch.proofs.Tables as T
+use Rattle.reading.proofs.Said as Said
 use Rattle.gandeuch.proofs.Renamed as R
 use Rattle.gandeuch.proofs.rename.rename_by.Statement.{statement}
 use Rattle.gandeuch.proofs.rename.rename_by.Tie as tie
@@ -18,5 +18,5 @@ rename-by-spec =
     (λ c. search needs)
     (λ c. search needs)
     (λ c. search needs)
-    (λ c. R.mapping-malformed _ _ _ _ _ (c .before .before .before .before .before .before .before .before .before .pre) _ _ (T.said-malformed (keysOf mapping) _ _ _ _ _ _ (c .before .before .check-mapping .ensures) (c .enum-told2 .given .1)))
-    (λ c. R.mapping-over _ _ _ _ _ (c .before .before .before .before .before .before .before .before .before .pre) _ _ (T.said-over (keysOf mapping) _ _ _ _ _ _ (c .before .before .check-mapping .ensures) (c .enum-told3 .given .1))))
+    (λ c. R.mapping-malformed _ _ _ _ _ (c .before .before .before .before .before .before .before .before .before .pre) _ _ (Said.said-malformed (keysOf mapping) _ _ _ _ _ _ (c .before .before .check-mapping .ensures) (c .enum-told2 .given .1)))
+    (λ c. R.mapping-over _ _ _ _ _ (c .before .before .before .before .before .before .before .before .before .pre) _ _ (Said.said-over (keysOf mapping) _ _ _ _ _ _ (c .before .before .check-mapping .ensures) (c .enum-told3 .given .1))))

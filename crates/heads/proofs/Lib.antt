@@ -1,0 +1,4 @@
+pub mod Cut
+pub mod Queries
+pub mod Heads
+pub mod Copied

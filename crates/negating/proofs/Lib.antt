@@ -1,0 +1,5 @@
+pub mod Found
+pub mod TreeLines
+pub mod Placed
+pub mod Search
+pub mod Negated

@@ -1,0 +1,30 @@
+-- `negating::negate_of` meets its contract. Assumes nothing.
+use borrow.Author.Needs.{needs}
+use native.Mathlib.Omega.{arith}
+use Rattle.answers.proofs.Answers as A
+use Rattle.negating.proofs.Search as S
+use Rattle.negating.proofs.Negated as Neg
+use Rattle.negating.proofs.negate_of.Statement.{statement}
+use Rattle.negating.proofs.negate_of.Tie as tie
+
+pub negate-of-spec : {M : Type 1} → statement M
+negate-of-spec =
+    tie.close
+    (tie.spec
+    (λ c κs. search needs)
+    (λ c κs. search needs)
+    (λ c. search needs)
+    (λ c. let p = c .before .before .before .before .before .before .before .before .pre in A.answered _ _ _ _ (c .before .before .copy .result) (Neg.other-kind _ (p .0) (p .1) _ (c .before .before .before .before .before .is-select-or-ask .ensures (p .0) (p .1)) (c .before .before .before .before .if1 .taken)) (c .before .before .copy .ensures))
+    (λ c κs. search needs)
+    (λ c κs. search needs)
+    (λ c. search needs)
+    (λ c. search needs)
+    (λ c κs. search needs)
+    (λ c. search needs)
+    (λ c. let p = c .before .before .before .before .before .before .before .before .before .before .before .before .pre in A.answered _ _ _ _ (c .before .before .copy2 .result) (Neg.no-projection _ (p .0) (p .1) _ (c .before .before .before .before .before .before .before .tree-start .ensures .1 (p .0) (p .1)) (S.says-none _ _ _ (c .before .before .before .before .before .before .outermost-projection .ensures) (c .before .before .before .before .enum-told .given .1))) (c .before .before .copy2 .ensures))
+    (λ c. search needs)
+    (λ c κs. S.says-at _ _ _ _ _ (c .before .before .before .before .outermost-projection .ensures) (c .before .before .inner .given .1) .high)
+    (λ c. let p = c .before .before .before .before .before .before .before .before .before .before .before .before .before .pre in Neg.negate-short _ (p .0) (p .1) _ (c .before .before .before .before .before .before .before .before .tree-start .ensures .1 (p .0) (p .1)) _ _ (S.says-at _ _ _ _ _ (c .before .before .before .before .before .before .before .outermost-projection .ensures) (c .before .before .before .before .before .inner .given .1)) _ (c .before .before .before .before .before .before .before .before .before .before .is-select-or-ask .ensures (p .0) (p .1)) (c .before .before .before .before .before .before .before .before .before .if1 .left) _ _ _ _ (c .before .before .put-negated .ensures) (c .if2 .taken))
+    (λ c κs. S.says-at _ _ _ _ _ (c .before .before .before .before .before .before .before .before .outermost-projection .ensures) (c .before .before .before .before .before .before .inner .given .1) .high)
+    (λ c. search needs)
+    (λ c. let p = c .before .before .before .before .before .before .before .before .before .before .before .before .before .before .before .before .before .pre in let g = c .before .before .before .before .before .before .before .before .before .before .before .before .before .before .before .before .before .good in Neg.negate-written _ (p .0) (p .1) _ (c .before .before .before .before .before .before .before .before .before .before .before .before .tree-start .ensures .1 (p .0) (p .1)) _ _ (S.says-at _ _ _ _ _ (c .before .before .before .before .before .before .before .before .before .before .before .outermost-projection .ensures) (c .before .before .before .before .before .before .before .before .before .inner .given .1)) _ (c .before .before .before .before .before .before .before .before .before .before .before .before .before .before .is-select-or-ask .ensures (p .0) (p .1)) (c .before .before .before .before .before .before .before .before .before .before .before .before .before .if1 .left) _ _ _ _ (c .before .before .before .before .before .before .put-negated .ensures) _ _ (c .before .before .before .before .if2 .left) (omega (arith, g)) (c .before .before .put-negated2 .ensures)))

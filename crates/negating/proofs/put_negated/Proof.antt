@@ -1,0 +1,22 @@
+-- `negating::put_negated` meets its contract. Assumes nothing.
+use borrow.Author.Needs.{needs}
+use mathlib.Core.Path.{sym}
+use lib.Seq.{length-take-le}
+use Rattle.negating.proofs.Negated as Neg
+use Rattle.negating.proofs.put_negated.Statement.{statement}
+use Rattle.negating.proofs.put_negated.Tie as tie
+
+pub put-negated-spec : {M : Type 1} → statement M
+put-negated-spec =
+    tie.close
+    (tie.spec
+    (λ c. sym (length-take-le _ _ (c .before .before .before .before .pre)))
+    (λ c κs. search needs)
+    (λ c. search needs)
+    (λ c κs. search needs)
+    (λ c. search needs)
+    (λ c. search needs)
+    (λ c. search needs)
+    (λ c κs. search needs)
+    (λ c. search needs)
+    (λ c. Neg.negated-put _ _ _ _ _ _ _ _ _ (c .before .before .before .before .before .before .before .before .before .before .before .before .put-all .ensures) (c .before .before .before .before .before .before .before .put-all2 .ensures) (c .before .before .put-all3 .ensures)))

@@ -1,0 +1,132 @@
+// The call negate: a query that asks for what its pattern doesn't match.
+use algebra::Answer as Check;
+use answers::Answer;
+use emit::put_all;
+use heads::copy;
+use heads::is_select_or_ask;
+use heads::tree_start;
+use reading::check_query;
+use text::equal;
+use text::find;
+use walking::line::line_end;
+ghost use mathlib.Core.Path.{_≡_};
+ghost use Prim.Native.Nat.{_≤_};
+ghost use lib.ListN.{length};
+ghost use Rattle.algebra.specs.Query.{Query};
+ghost use Rattle.algebra.specs.Reader.{reads};
+ghost use Rattle.algebra.specs.Texts.{readQuery};
+ghost use Rattle.emit.specs.Emit.{em, puts};
+ghost use Rattle.answers.specs.Outcome.{Answered};
+ghost use Rattle.merging.specs.Negate.{negateOutcome};
+ghost use Rattle.negating.specs.Lines.{isPassed, Finds};
+ghost use Rattle.negating.specs.Negated.{negatedAt};
+
+const PROJECT: [u8; 7] = *b"project";
+
+const DISTINCT: [u8; 8] = *b"distinct";
+
+const REDUCED: [u8; 7] = *b"reduced";
+
+const SLICE: [u8; 5] = *b"slice";
+
+const ORDERBY: [u8; 7] = *b"orderby";
+
+const GROUP: [u8; 5] = *b"group";
+
+const COLS: [u8; 4] = *b"cols";
+
+// modify_outermost_projection goes down through a line with this word; a group's second line is `cols`.
+fn is_passed(word: &[u8]) -> bool
+    ensures { λ r. ⌜ r ≡ isPassed (now (word .entry)) ⌝ }
+{
+    if equal(word, &DISTINCT) {
+        return true;
+    }
+    if equal(word, &REDUCED) {
+        return true;
+    }
+    if equal(word, &SLICE) {
+        return true;
+    }
+    if equal(word, &ORDERBY) {
+        return true;
+    }
+    if equal(word, &GROUP) {
+        return true;
+    }
+    equal(word, &COLS)
+}
+
+// Where the outermost projection's line and its inner pattern start, or that there is none.
+pub enum Outermost {
+    At(usize, usize),
+    None,
+}
+
+// The outermost projection of the tree that starts here.
+pub fn outermost_projection(text: &[u8], from: usize) -> Outermost
+    ensures { λ r. ⌜ Finds (now (text .entry)) from r ⌝ }
+{
+    let mut at = from;
+    while at < text.len() {
+        let end = line_end(text, at);
+        if end == text.len() {
+            return Outermost::None;
+        }
+        let word = find(text, at, end, 9);
+        if equal(&text[at..word], &PROJECT) {
+            return Outermost::At(at, end + 1);
+        }
+        if !is_passed(&text[at..word]) {
+            return Outermost::None;
+        }
+        at = end + 1;
+    }
+    Outermost::None
+}
+
+const NOT_EXISTS: [u8; 24] = *b"filter\nbgp\t0\nnot\nexists\n";
+
+// The query with its projection's inner pattern asked not to exist.
+fn put_negated(query: &[u8], inner: usize, out: &mut [u8]) -> usize
+    requires { ⌜ inner ≤ length (now query) ⌝ }
+    ensures { λ r. ⌜ em r (now (out .exit)) ≡ puts (negatedAt inner (now (query .entry))) (em 0 (now (out .entry))) ⌝ }
+{
+    let a = put_all(out, 0, &query[..inner]);
+    let b = put_all(out, a, &NOT_EXISTS);
+    put_all(out, b, &query[inner..])
+}
+
+// negate_query, for a query that was checked.
+fn negate_of(query: &[u8], out: &mut [u8]) -> Answer
+    requires { ⌜ ((q : Query) × (readQuery (now query) ≡ reads q)) ⌝ }
+    ensures { λ r. ⌜ Answered (negateOutcome (now (query .entry))) (now (out .entry)) (now (out .exit)) r ⌝ }
+{
+    if !is_select_or_ask(query) {
+        return copy(query, out);
+    }
+    let Outermost::At(_, inner) = outermost_projection(query, tree_start(query)) else {
+        return copy(query, out);
+    };
+    let mut none = [0u8; 0];
+    let size = put_negated(query, inner, &mut none);
+    if out.len() < size {
+        return Answer::TooShort;
+    }
+    let put = put_negated(query, inner, out);
+    Answer::Written(put)
+}
+
+// negate: query to query.
+pub fn negate(query: &[u8], out: &mut [u8]) -> Answer
+    ensures { λ r. ⌜ Answered (negateOutcome (now (query .entry))) (now (out .entry)) (now (out .exit)) r ⌝ }
+{
+    let mut starts = [0u16; 1024];
+    let mut sizes = [0u16; 1024];
+    let mut hints = [0u16; 4096];
+    match check_query(query, &mut starts, &mut sizes, &mut hints) {
+        Check::Good(_) => negate_of(query, out),
+        Check::Malformed => Answer::Malformed,
+        Check::OverBound => Answer::OverBound,
+    }
+}
