@@ -1,6 +1,4 @@
 pub mod Lists
-pub mod Alike
-pub mod Chosen
 pub mod Mapping
 pub mod Tables
 pub mod Scoped

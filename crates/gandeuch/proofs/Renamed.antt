@@ -42,7 +42,7 @@ use Rattle.gandeuch.specs.Rename.{becomes, renameOutcome}
 use Rattle.gandeuch.specs.Code.{Known, KnownPairs, Targets, lookLast}
 use Rattle.gandeuch.proofs.Tables.{known-valid, known-depth, known-names, known-lines}
 use Rattle.reading.proofs.Said.{said-good}
-use Rattle.gandeuch.proofs.Alike.{rename-alike}
+use Rattle.scoping.proofs.Alike.{rename-alike}
 use Rattle.gandeuch.proofs.Mapping.{look-becomes}
 use Rattle.answers.proofs.Answers.{too-short, all-written, spared, answered}
 

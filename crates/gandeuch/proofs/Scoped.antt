@@ -26,7 +26,7 @@ use Rattle.answers.specs.Outcome.{Outcome, refused, written, Reported, Answered
 use Rattle.gandeuch.specs.Scope.{scopeText, scopeOutcome}
 use Rattle.gandeuch.specs.Code.{Known, chosenText}
 use Rattle.gandeuch.proofs.Tables.{known-valid, known-depth, known-few, known-names, known-lines}
-use Rattle.gandeuch.proofs.Chosen.{chosen-in-scope, chosen-hidden}
+use Rattle.walking.proofs.Chosen.{chosen-in-scope, chosen-hidden}
 use Rattle.answers.proofs.Answers.{too-short, all-written, answered}
 
 -- a table of nothing but zeros leaves every name

@@ -18,3 +18,4 @@ pub mod Theorem
 pub mod Renamed
 pub mod Services
 pub mod Worked
+pub mod Alike

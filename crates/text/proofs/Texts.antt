@@ -90,7 +90,7 @@ Neat [] = Unit {0}
 Neat ([] ∷ ls) = ⊥
 Neat ((f ∷ fs) ∷ ls) = AllClean (f ∷ fs) × Neat ls
 
-ended-glue : (l : Line) (r : Bytes) → ended l r ≡ glue 9 l ++ (10 ∷ r)
+pub ended-glue : (l : Line) (r : Bytes) → ended l r ≡ glue 9 l ++ (10 ∷ r)
 unfolding ended
 ended-glue [] r = refl
 ended-glue (f ∷ []) r = refl
@@ -102,7 +102,7 @@ glue-lacks [] c = refl
 glue-lacks (f ∷ []) c = clean-lacks f (c .0) .1
 glue-lacks (f ∷ g ∷ fs) c = lacks-append 10 f (9 ∷ glue 9 (g ∷ fs)) (clean-lacks f (c .0) .1) (glue-lacks (g ∷ fs) (c .1))
 
-fields-back : (f : Bytes) (fs : List Bytes) → AllClean (f ∷ fs) → split 9 (glue 9 (f ∷ fs)) ≡ f ∷ fs
+pub fields-back : (f : Bytes) (fs : List Bytes) → AllClean (f ∷ fs) → split 9 (glue 9 (f ∷ fs)) ≡ f ∷ fs
 fields-back f [] c = split-lacks 9 f (clean-lacks f (c .0) .0)
 fields-back f (g ∷ fs) c = split-run 9 f (glue 9 (g ∷ fs)) (clean-lacks f (c .0) .0) ∙ ap (λ l. f ∷ l) (fields-back g fs (c .1))
 

@@ -5,3 +5,4 @@ pub mod After
 pub mod Parts
 pub mod Trees
 pub mod Cycle
+pub mod Chosen

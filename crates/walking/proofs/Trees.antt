@@ -184,3 +184,7 @@ module _ (ns : List Bytes) (new : Bytes → Bytes) (keeps : (f : Bytes) → mem 
   walk-tree p m d o v h =
       let a = walk p m [] o d v h in
       λ i. state (a .left i) (record { em = a .written [] i; flags = a .noted i })
+
+  -- the same, before whatever lines are written next
+  pub walk-before : (p : Pattern) (m : Mark) (d : ℕ) (o : Output) → Valid p → depth p ≤ d → After ns o (put (renameInGraphPattern new p)) (places p m) [] (tree ns new d patterns m (state (put p []) o))
+  walk-before p m d o v h = walk p m [] o d v h

@@ -20,15 +20,10 @@ use Rattle.scoping.specs.Sets.{indexOf}
 use Rattle.scoping.proofs.Sets.{and-none}
 use Rattle.scoping.specs.Places.{Mark, Place, marked}
 use Rattle.scoping.specs.Rename.{renameInTerm}
-use Rattle.walking.specs.Walk.{Output, writes, flagged, opened, putField, putFields}
+use Rattle.walking.specs.Walk.{tabbed, Output, writes, flagged, opened, putField, putFields}
 use Rattle.walking.specs.Flags.{flagAll}
 
 -- ---- a line's bytes
-
--- each field after a tab
-unfoldable pub tabbed : List Bytes → Bytes
-tabbed [] = []
-tabbed (f ∷ fs) = 9 ∷ (f ++ tabbed fs)
 
 -- a word, its fields and a line end, one after the other
 pub puts-ended : (w : Bytes) (fs : List Bytes) (rest : Bytes) (e : Em) → puts rest (puts (10 ∷ []) (puts (tabbed fs) (puts w e))) ≡ puts (ended (w ∷ fs) rest) e

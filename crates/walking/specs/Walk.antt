@@ -1,7 +1,7 @@
 -- One walk over the lines of a tree, pattern and expression by turns: each line is written under new names, and each of its variables is noted as visible or covered. It is how the code goes; proofs/Trees says what it makes of a tree. Assumes nothing.
 use Prim.Native.Nat.{ℕ, zero, suc, _+_, _≤_, _<_}
 use mathlib.Core.Path.{_≡_}
-use mathlib.Core.List.{List, [], _∷_}
+use mathlib.Core.List.{List, [], _∷_, _++_}
 use mathlib.Core.Bool.{Bool, true, false, cond, _&&_, _||_}
 use mathlib.Core.Option.{Option, none, some}
 use lib.ListN.{length, getD, set}
@@ -15,6 +15,11 @@ use Rattle.algebra.specs.Machine.{amountOf}
 use Rattle.emit.specs.Emit.{Em, em, puts}
 use Rattle.scoping.specs.Sets.{indexOf}
 use Rattle.scoping.specs.Places.{Mark, visible, covered, silent, under}
+
+-- each field after a tab
+unfoldable pub tabbed : List Bytes → Bytes
+tabbed [] = []
+tabbed (f ∷ fs) = 9 ∷ (f ++ tabbed fs)
 
 -- what has been written, and which names have been noted
 pub record Output : Type 0 where
