@@ -128,12 +128,16 @@ module _ (s : Bytes) (f l h g n : List ℕ) (m : ℕ) (stored : Stored s f l h g
           go true q = let few = stored .few in let size = holds-count s f′ l′ h′ r (listing s f l m) q (omega (arith, long, few)) in absurd (more (size ∙ long))
           go false q = refl
 
-      pub push-room : m ≤ i → (contains (base v) ps ≡ false → m < 1024) → m < 1024
-      push-room high room = room (ap (λ (u : Bytes). contains u ps) (sym is) ∙ contains-none s f l g n b m (found .none high) was-new)
+      not-there : m ≤ i → contains (base v) ps ≡ false
+      not-there high = ap (λ (u : Bytes). contains u ps) (sym is) ∙ contains-none s f l g n b m (found .none high) was-new
 
-      pub push-new : m ≤ i → m < 1024 → (g′ n′ : List ℕ) → (g′ ≡ set g m p) × (n′ ≡ set n m c) → (book s f′ l′ g′ n′ r ≡ pushed p c v ps) × Stored s f′ l′ h′ g′ n′ r
+      pub push-room : m ≤ i → (contains (base v) ps ≡ false → m < 1024) → m < 1024
+      push-room high room = room (not-there high)
+
+      pub push-new : m ≤ i → (contains (base v) ps ≡ false → m < 1024) → (g′ n′ : List ℕ) → (g′ ≡ set g m p) × (n′ ≡ set n m c) → (book s f′ l′ g′ n′ r ≡ pushed p c v ps) × Stored s f′ l′ h′ g′ n′ r
       unfolding pushed book
-      push-new high small g′ n′ put =
+      push-new high room g′ n′ put =
+          let small = room (not-there high) in
           let ns = listing s f l m in
           let now : kept b ns ≡ ns ++ (b ∷ []) = ap (λ (t : Bool). cond t ns (ns ++ (b ∷ []))) was-new in
           let size : length (kept b ns) ≡ m + 1 = omega (arith, ap length now, length-append ns (b ∷ []), long) in
@@ -148,11 +152,10 @@ module _ (s : Bytes) (f l h g n : List ℕ) (m : ℕ) (stored : Stored s f l h g
           let tag : getD g′ m 0 ≡ p = ap (λ (y : List ℕ). getD y m 0) (put .0) ∙ getD-set-same g m p 0 (omega arith) in
           let number : getD n′ m 0 ≡ c = ap (λ (y : List ℕ). getD y m 0) (put .1) ∙ getD-set-same n m c 0 (omega arith) in
           let before : book s f′ l′ g′ n′ m ≡ ps =
-          book-agree s f′ l′ g′ n′ f l g n m (stays (omega arith) (omega arith)) (λ d w. ap (λ (y : List ℕ). getD y d 0) (put .0) ∙ other g m p d w) (λ d w. ap (λ (y : List ℕ). getD y d 0) (put .1) ∙ other n m c d w) in
-          let none : contains (base v) ps ≡ false = ap (λ (u : Bytes). contains u ps) (sym is) ∙ contains-none s f l g n b m (found .none high) was-new in (
+          book-agree s f′ l′ g′ n′ f l g n m (stays (omega arith) (omega arith)) (λ d w. ap (λ (y : List ℕ). getD y d 0) (put .0) ∙ other g m p d w) (λ d w. ap (λ (y : List ℕ). getD y d 0) (put .1) ∙ other n m c d w) in (
             ap (book s f′ l′ g′ n′) (q ∙ add-one m)
                 ∙ (λ j. aPush (last j) (tag j) (number j) ∷ before j)
                 ∙ ap (λ (u : Bytes). aPush u p c ∷ ps) is
-                ∙ sym (ap (λ (t : Bool). cond t ps (aPush (base v) p c ∷ ps)) none),
+                ∙ sym (ap (λ (t : Bool). cond t ps (aPush (base v) p c ∷ ps)) (not-there high)),
             own (omega arith) g′ n′ (ap length (put .0) ∙ length-set g m p) (ap length (put .1) ∙ length-set n m c),
           )

@@ -5,6 +5,7 @@ use mathlib.Core.List.{List, [], _∷_, _++_}
 use mathlib.Core.Bool.{true, false, cond}
 use mathlib.Core.Option.{Option, none, some}
 use lib.ListN.{length, getD, take}
+use lib.Seq.{sets}
 use lib.Dec.{eqb}
 use Rattle.text.specs.Text.{Bytes, same, piece}
 use Rattle.algebra.specs.Valid.{mem}
@@ -76,6 +77,12 @@ abbrev pub written : Hit → Bytes
 written Missing = []
 written (Plain p n) = generated p n
 written (Labelled p n) = generated p n ++ label
+
+-- its bytes, at most 12, were laid over the pool at `at`, and r is behind them
+pub record Laid (b : Bytes) (at r : ℕ) (pool pool′ : Bytes) : Type 0 where
+  pub size : length b ≤ 12
+  pub end : r ≡ at + length b
+  pub over : pool′ ≡ sets pool at b
 
 -- what the name w at entry j becomes: a size of 0 leaves it
 abbrev pub becomesAt : Bytes → List ℕ → List ℕ → ℕ → Bytes → Bytes

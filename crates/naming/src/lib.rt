@@ -18,7 +18,7 @@ ghost use Rattle.emit.specs.Emit.{em, puts};
 ghost use Rattle.scoping.specs.Label.{isLabel, base as baseOf, generated};
 ghost use Rattle.scoping.specs.Pushes.{lookup, contains, pushed, pushes, allPushes};
 ghost use Rattle.walking.specs.Flags.{chosen};
-ghost use Rattle.naming.specs.Code.{book, Stored, Apart, LabelAt, Room, numberedBy, namesAt, said, written, Settled, Standard};
+ghost use Rattle.naming.specs.Code.{book, Stored, Apart, LabelAt, Room, numberedBy, namesAt, said, written, Laid, Settled, Standard};
 
 fn wide(x: u16) -> usize
     ensures { λ r. ⌜ (r ≡ x) × (r < 65536) ⌝ }
@@ -301,7 +301,8 @@ fn put_generated(out: &mut [u8], at: usize, prefix: u8, n: usize) -> usize
 
 // What was found for a name, written: nothing, or a generated name without or with Label.
 fn put_hit(out: &mut [u8], at: usize, h: Hit) -> usize
-    ensures { λ r. ⌜ (em r (now (out .exit)) ≡ puts (written h) (em at (now (out .entry)))) × (length (written h) ≤ 12) ⌝ }
+    requires { ⌜ (at + 12 ≤ 16384) × (16384 ≤ length (now out)) ⌝ }
+    ensures { λ r. ⌜ Laid (written h) at r (now (out .entry)) (now (out .exit)) ⌝ }
 {
     match h {
         Hit::Missing => at,
