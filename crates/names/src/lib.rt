@@ -154,7 +154,7 @@ pub fn add_name(
     hints: &mut [u16; 4096],
     n: usize,
 ) -> usize
-    requires { ⌜ (from ≤ 16384) × (size ≤ 16384) ⌝ }
+    requires { ⌜ (from < 65536) × (size < 65536) ⌝ }
     ensures { λ r. ⌜ ((want : List (List ℕ)) → Holds (now (s .entry)) (now (starts .entry)) (now (sizes .entry)) (now (hints .entry)) n want → Holds (now (s .entry)) (now (starts .exit)) (now (sizes .exit)) (now (hints .exit)) r (kept (pieceOf from size (now (s .entry))) want)) ⌝ }
 {
     if 1024 < n {

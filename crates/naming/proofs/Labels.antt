@@ -50,7 +50,7 @@ base-labelled f h = simp h
 pub base-other : (f : Bytes) → isLabel f ≡ false → take (length f) f ≡ base f
 base-other f h = take-all (length f) f (omega arith) ∙ sym (base-plain f h)
 
-base-label : (b : Bytes) → base (b ++ label) ≡ b
+pub base-label : (b : Bytes) → base (b ++ label) ≡ b
 base-label b = sym (base-labelled (b ++ label) (label-ends b)) ∙ take-at b label (length (b ++ label) - 5) (omega (arith, length-append b label))
 
 -- ---- a name against a base with "Label" behind it

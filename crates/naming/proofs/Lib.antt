@@ -1,6 +1,7 @@
 pub mod Labels
 pub mod Decimals
-pub mod Book
 pub mod Room
+pub mod Lookup
+pub mod Book
 pub mod Numbered
 pub mod Written

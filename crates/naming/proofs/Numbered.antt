@@ -3,6 +3,7 @@ use mathlib.Core.Path.{_≡_, refl, sym, ap, _∙_}
 use mathlib.Core.List.{List, [], _∷_, _++_}
 use mathlib.Core.Bool.{Bool, true, false, cond, _||_, false≢true}
 use Prim.Native.Nat.{ℕ, zero, suc, _+_, _-_, _≤_, _<_}
+use native.Mathlib.Nat.{add-zero}
 use native.Mathlib.Numerals.{add-one}
 use native.Mathlib.Omega.{arith}
 use lib.ListN.{length, drop, getD, length-append, drop-of-length-le}
@@ -32,7 +33,7 @@ pub pushes-one : (p c : ℕ) (v : Bytes) (us : List Bytes) (ps : List Push) → 
 unfolding pushes
 pushes-one p c v us ps e = sym (ap (λ (l : List Bytes). pushes p c l ps) e)
 
-pub pushes-append : (p c d : ℕ) (vs us : List Bytes) (ps : List Push) → d ≡ c + length vs → pushes p c (vs ++ us) ps ≡ pushes p d us (pushes p c vs ps)
+pushes-append : (p c d : ℕ) (vs us : List Bytes) (ps : List Push) → d ≡ c + length vs → pushes p c (vs ++ us) ps ≡ pushes p d us (pushes p c vs ps)
 unfolding pushes
 pushes-append p c d [] us ps e = ap (λ (k : ℕ). pushes p k us ps) (omega arith)
 pushes-append p c d (v ∷ vs) us ps e = pushes-append p (suc c) d vs us (pushed p c v ps) (omega arith)
@@ -48,6 +49,10 @@ all-three p c flags vs ns ps qs rs x y e z =
     ∙ ap (pushes p 0 (chosen 0 flags ns ++ chosen 1024 flags ns)) x
 
 -- ---- the join variables
+
+pub joins-start : (s : Bytes) (a l js : List ℕ) (m : ℕ) (f e g z : List ℕ) → pushes 106 0 (namesAt s a l js (m - 0) 0) (book s f e g z 0) ≡ pushes 106 0 (namesAt s a l js m 0) []
+unfolding book
+joins-start s a l js m f e g z = ap (λ (c : ℕ). pushes 106 0 (namesAt s a l js c 0) []) (omega arith)
 
 module _ (s : Bytes) (a l js : List ℕ) (m i : ℕ) (ps : List Push) where
   pub joins-next : (k : ℕ) (qs : List Push) → i < m → k ≡ getD js i 0 → qs ≡ pushed 106 i (nameAt s a l k) ps
@@ -122,51 +127,60 @@ module _ (s : Bytes) (a l flags : List ℕ) (at n k : ℕ) (h : k < n) where
       ∙ chosen-cons (at + k) flags (getD (listing s a l n) k []) (drop (suc k) (listing s a l n))
       ∙ ap (λ (f : Bytes). cond (eqb (getD flags (at + k) 0) 0) [] (f ∷ []) ++ chosen (suc (at + k)) flags (drop (suc k) (listing s a l n))) (listing-at s a l k n h))
 
-  named : mem (nameAt s a l k) (listing s a l n) ≡ true
-  named = listed (nameAt s a l k) s a l k n h (same-refl (nameAt s a l k))
+-- the names before entry k are pushed, from the pushes ps₀ and the number c₀ on: what is left does what the whole does
+pub record PushedTo (s : Bytes) (a l flags : List ℕ) (at n p c₀ : ℕ) (ps₀ ps : List Push) (c k : ℕ) : Type 0 where
+  pub low : k ≤ n
+  pub few : c ≤ c₀ + k
+  pub room : Room ps (listing s a l n)
+  pub does : pushes p c (chosen (at + k) flags (drop k (listing s a l n))) ps ≡ pushes p c₀ (chosen at flags (listing s a l n)) ps₀
+  pub counts : c + length (chosen (at + k) flags (drop k (listing s a l n))) ≡ c₀ + length (chosen at flags (listing s a l n))
 
-  -- a push that is new has room
-  pub flag-room : (f e g z : List ℕ) (m : ℕ) → n ≤ 1024 → Room (book s f e g z m) (listing s a l n) → contains (base (nameAt s a l k)) (book s f e g z m) ≡ false → m < 1024
-  flag-room f e g z m few r c =
-      omega (arith, few, room-new (nameAt s a l k) (book s f e g z m) (listing s a l n) named r c, book-long s f e g z m, listing-long s a l n)
+module _ (s : Bytes) (a l flags : List ℕ) (at n p c₀ : ℕ) (ps₀ : List Push) where
+  pub flags-start : Room ps₀ (listing s a l n) → PushedTo s a l flags at n p c₀ ps₀ ps₀ c₀ 0
+  flags-start r =
+      let z : chosen (at + 0) flags (listing s a l n) ≡ chosen at flags (listing s a l n) = ap (λ (k : ℕ). chosen k flags (listing s a l n)) (add-zero at) in
+      record { low = omega arith; few = omega arith; room = r; does = ap (λ (x : List Bytes). pushes p c₀ x ps₀) z; counts = ap (λ (x : List Bytes). c₀ + length x) z }
 
-  -- a turn: what is left does what was left before it, and counts as much
-  module _ (p c d : ℕ) (ps qs : List Push) (does : qs ≡ pushes p c one ps) (counts : d ≡ c + length one) where
-    pub flag-next : pushes p d rest qs ≡ pushes p c (chosen (at + k) flags (drop k (listing s a l n))) ps
-    flag-next =
-        ap (pushes p d rest) does
-        ∙ sym (pushes-append p c d one rest ps counts)
-        ∙ ap (λ (x : List Bytes). pushes p c x ps) (sym chosen-next)
-
-    pub flag-count : d + length rest ≡ c + length (chosen (at + k) flags (drop k (listing s a l n)))
-    flag-count = omega (arith, counts, ap length chosen-next, length-append one rest)
-
-    pub flag-grows : d ≤ c + 1
-    flag-grows = go (eqb (getD flags (at + k) 0) 0) counts
-      where
-        go : (t : Bool) → d ≡ c + length (cond t [] (nameAt s a l k ∷ [])) → d ≤ c + 1
-        go true e = omega arith
-        go false e = omega arith
-
-    pub flag-keeps : Room ps (listing s a l n) → Room qs (listing s a l n)
+  module _ (ps : List Push) (c k : ℕ) (to : PushedTo s a l flags at n p c₀ ps₀ ps c k) where
+    pub flags-next : (qs : List Push) (d : ℕ) (h : k < n) → qs ≡ pushes p c (one s a l flags at n k h) ps → d ≡ c + length (one s a l flags at n k h) → PushedTo s a l flags at n p c₀ ps₀ qs d (k + 1)
     unfolding mem
-    flag-keeps r = rw does (room-pushes p c one ps (listing s a l n) (go (eqb (getD flags (at + k) 0) 0)) r)
+    flags-next qs d h does counts =
+        let step = chosen-next s a l flags at n k h in
+        record {
+          low = omega arith;
+          few = grows (eqb (getD flags (at + k) 0) 0) counts;
+          room = rw does (room-pushes p c (one s a l flags at n k h) ps (listing s a l n) (among (eqb (getD flags (at + k) 0) 0)) (to .room));
+          does = ap (pushes p d (rest s a l flags at n k h)) does
+              ∙ sym (pushes-append p c d (one s a l flags at n k h) (rest s a l flags at n k h) ps counts)
+              ∙ ap (λ (x : List Bytes). pushes p c x ps) (sym step)
+              ∙ to .does;
+          counts = let t = to .counts in omega (arith, counts, t, ap length step, length-append (one s a l flags at n k h) (rest s a l flags at n k h));
+        }
       where
+        grows : (t : Bool) → d ≡ c + length (cond t [] (nameAt s a l k ∷ [])) → d ≤ c₀ + (k + 1)
+        grows true e = let f = to .few in omega arith
+        grows false e = let f = to .few in omega arith
+
         only : (v : Bytes) (t : Bool) → same v (nameAt s a l k) ≡ t → (t || false) ≡ true → mem v (listing s a l n) ≡ true
         only v true e m = listed v s a l k n h e
         only v false e m = absurd (false≢true m)
 
-        go : (t : Bool) → Among (cond t [] (nameAt s a l k ∷ [])) (listing s a l n)
-        go true v m = absurd (false≢true m)
-        go false v m = only v (same v (nameAt s a l k)) refl m
+        among : (t : Bool) → Among (cond t [] (nameAt s a l k ∷ [])) (listing s a l n)
+        among true v m = absurd (false≢true m)
+        among false v m = only v (same v (nameAt s a l k)) refl m
 
-pub chosen-done : (s : Bytes) (a l flags : List ℕ) (at n k : ℕ) → n ≤ k → chosen (at + k) flags (drop k (listing s a l n)) ≡ []
-unfolding chosen
-chosen-done s a l flags at n k h =
-    let long = listing-long s a l n in
-    let less : length (listing s a l n) ≤ k = omega arith in
-    ap (chosen (at + k) flags) (drop-of-length-le (listing s a l n) less)
+    pub flags-done : n ≤ k → (ps ≡ pushes p c₀ (chosen at flags (listing s a l n)) ps₀) × (c ≡ c₀ + length (chosen at flags (listing s a l n))) × (c ≤ c₀ + n) × Room ps (listing s a l n)
+    unfolding chosen
+    flags-done h =
+        let less : length (listing s a l n) ≤ k = omega (arith, listing-long s a l n, h) in
+        let end : chosen (at + k) flags (drop k (listing s a l n)) ≡ [] = ap (chosen (at + k) flags) (drop-of-length-le (listing s a l n) less) in
+        let f = to .few in
+        let b = to .low in
+        let t = to .counts in
+        (pushes-none p c (chosen (at + k) flags (drop k (listing s a l n))) ps end ∙ to .does, omega (arith, ap length end, t), omega arith, to .room)
 
--- the pushes are at most 1,024
-pub room-few : (s : Bytes) (f e g z : List ℕ) (m : ℕ) (a l : List ℕ) (n : ℕ) → n ≤ 1024 → Room (book s f e g z m) (listing s a l n) → m ≤ 1024
-room-few s f e g z m a l n few r = omega (arith, few, r, book-long s f e g z m, listing-long s a l n)
+-- a push that is new has room
+pub flag-room : (s : Bytes) (a l : List ℕ) (n k : ℕ) (f e g z : List ℕ) (m : ℕ) → k < n → n ≤ 1024 → Room (book s f e g z m) (listing s a l n) → contains (base (nameAt s a l k)) (book s f e g z m) ≡ false → m < 1024
+flag-room s a l n k f e g z m h few r c =
+    let named = listed (nameAt s a l k) s a l k n h (same-refl (nameAt s a l k)) in
+    omega (arith, few, room-new (nameAt s a l k) (book s f e g z m) (listing s a l n) named r c, book-long s f e g z m, listing-long s a l n)

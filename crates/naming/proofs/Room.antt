@@ -13,7 +13,7 @@ use Rattle.scoping.specs.Pushes.{Push, aPush, contains, pushed, pushes}
 use Rattle.naming.specs.Code.{fresh, Room}
 
 -- a base that is there stays there
-contains-more : (b : Bytes) (p : Push) (ps : List Push) → contains b ps ≡ true → contains b (p ∷ ps) ≡ true
+pub contains-more : (b : Bytes) (p : Push) (ps : List Push) → contains b ps ≡ true → contains b (p ∷ ps) ≡ true
 unfolding contains
 contains-more b p ps h =
     ap (λ (t : Bool). same b (p .base ++ label) || (same b (p .base) || t)) h

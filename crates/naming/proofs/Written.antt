@@ -26,7 +26,7 @@ use Rattle.walking.specs.Code.{replacement}
 use Rattle.walking.proofs.Laws.{listing-at}
 use Rattle.naming.specs.declared.Hit.{Hit}
 use Rattle.naming.specs.declared.Hit.the-variants.{Missing, Plain, Labelled}
-use Rattle.naming.specs.Code.{said, written, becomesAt, Settled, SettledTo, Standard}
+use Rattle.naming.specs.Code.{said, written, Laid, becomesAt, Settled, SettledTo, Standard}
 use Rattle.naming.proofs.Decimals.{digits-five}
 
 -- ---- what is written for a hit
@@ -35,19 +35,28 @@ generated-long : (p n : ℕ) → n < 65536 → length (generated p n) ≤ 7
 unfolding generated
 generated-long p n h = let d = digits-five n h in omega arith
 
-module _ (h : Hit) (e : Em) where
-  pub hit-missing : h ≡ Missing → (e ≡ puts (written h) e) × (length (written h) ≤ 12)
-  hit-missing q = rw q (sym (puts-nil e), omega arith)
+module _ (h : Hit) (at : ℕ) (pool : Bytes) (room : at + 12 ≤ length pool) (most : length pool ≤ last) where
+  laid : (r : ℕ) (pool′ : Bytes) → em r pool′ ≡ puts (written h) (em at pool) → length (written h) ≤ 12 → Laid (written h) at r pool pool′
+  laid r pool′ e k = record {
+    size = k;
+    end = omega (arith, ap (λ (x : Em). x .at) e, puts-at (written h) (em at pool) (omega arith), k, room, most);
+    over = ap (λ (x : Em). x .out) e ∙ puts-out (written h) (em at pool) most;
+  }
 
-  module _ (p k w : ℕ) (e′ : Em) (is : w ≡ k) (small : w < 65536) (put : e′ ≡ puts (generated p w) e) where
-    pub hit-plain : h ≡ Plain p k → (e′ ≡ puts (written h) e) × (length (written h) ≤ 12)
-    hit-plain q = let l = generated-long p k (omega arith) in rw q (put ∙ ap (λ (n : ℕ). puts (generated p n) e) is, omega arith)
+  pub hit-missing : h ≡ Missing → Laid (written h) at at pool pool
+  hit-missing q = laid at pool (rw q (sym (puts-nil (em at pool)))) (rw q (omega arith))
 
-    pub hit-labelled : (e″ : Em) → e″ ≡ puts label e′ → h ≡ Labelled p k → (e″ ≡ puts (written h) e) × (length (written h) ≤ 12)
-    hit-labelled e″ more q =
+  module _ (p k w a : ℕ) (o : Bytes) (is : w ≡ k) (small : w < 65536) (put : em a o ≡ puts (generated p w) (em at pool)) where
+    plain : em a o ≡ puts (generated p k) (em at pool)
+    plain = put ∙ ap (λ (n : ℕ). puts (generated p n) (em at pool)) is
+
+    pub hit-plain : h ≡ Plain p k → Laid (written h) at a pool o
+    hit-plain q = let l = generated-long p k (omega arith) in laid a o (rw q plain) (rw q (omega arith))
+
+    pub hit-labelled : (r : ℕ) (pool′ : Bytes) → em r pool′ ≡ puts label (em a o) → h ≡ Labelled p k → Laid (written h) at r pool pool′
+    hit-labelled r pool′ more q =
         let l = generated-long p k (omega arith) in
-        rw q
-        (more ∙ ap (puts label) (put ∙ ap (λ (n : ℕ). puts (generated p n) e) is) ∙ sym (puts-append (generated p k) label e), omega (arith, l, length-append (generated p k) label))
+        laid r pool′ (rw q (more ∙ ap (puts label) plain ∙ sym (puts-append (generated p k) label (em at pool)))) (rw q (omega (arith, l, length-append (generated p k) label)))
 
 -- a size of 0 leaves the name
 picks : (w : Bytes) (h : Hit) → cond (eqb (length (written h)) 0) w (written h) ≡ orSelf (said h) w
@@ -88,15 +97,9 @@ piece-kept o o′ at a z h k j e =
 -- ---- one name
 
 module _ (ps : List Push) (s : Bytes) (a l : List ℕ) (i x y : ℕ) (f : Bytes) (ex : x ≡ getD a i 0) (ey : y ≡ getD l i 0) (ef : f ≡ piece x y s) (h : Hit) (says : said h ≡ lookup f ps)
-    (at r : ℕ) (pool pool′ : Bytes) (put : (em r pool′ ≡ puts (written h) (em at pool)) × (length (written h) ≤ 12)) (room : at + 12 ≤ length pool) (most : length pool ≤ last) where
-  pub ends : r ≡ at + length (written h)
-  ends = omega (arith, ap (λ (e : Em). e .at) (put .0), puts-at (written h) (em at pool) (omega arith), put .1, room, most)
-
-  laid : pool′ ≡ sets pool at (written h)
-  laid = ap (λ (e : Em). e .out) (put .0) ∙ puts-out (written h) (em at pool) most
-
+    (at r : ℕ) (pool pool′ : Bytes) (put : Laid (written h) at r pool pool′) (room : at + 12 ≤ length pool) where
   fits : at + length (written h) ≤ length pool
-  fits = omega (arith, put .1, room)
+  fits = omega (arith, put .size, room)
 
   named : orSelf (said h) (nameAt s a l i) ≡ newName ps (nameAt s a l i)
   unfolding newName
@@ -104,18 +107,18 @@ module _ (ps : List Push) (s : Bytes) (a l : List ℕ) (i x y : ℕ) (f : Bytes)
 
   pub settles : (targets spans : List ℕ) → i < length targets → i < length spans → Settled ps (nameAt s a l i) i at r pool targets spans pool′ (set targets i at) (set spans i (r - at))
   settles targets spans ht hs =
-      let span : r - at ≡ length (written h) = omega (arith, ends) in
+      let span : r - at ≡ length (written h) = omega (arith, put .end) in
       let t : getD (set targets i at) i 0 ≡ at = getD-set-same targets i at 0 ht in
       let u : getD (set spans i (r - at)) i 0 ≡ r - at = getD-set-same spans i (r - at) 0 hs in
       record {
         here = ap₂ (λ (p q : ℕ). cond (eqb q 0) (nameAt s a l i) (piece p q pool′)) t (u ∙ span)
-            ∙ ap (λ (o : Bytes). cond (eqb (length (written h)) 0) (nameAt s a l i) o) (ap (λ (o : Bytes). piece at (length (written h)) o) laid ∙ sets-piece (written h) pool at fits)
+            ∙ ap (λ (o : Bytes). cond (eqb (length (written h)) 0) (nameAt s a l i) o) (ap (λ (o : Bytes). piece at (length (written h)) o) (put .over) ∙ sets-piece (written h) pool at fits)
             ∙ picks (nameAt s a l i) h
             ∙ named;
-        inside = omega (arith, t, u, ends);
-        low = omega (arith, ends);
-        high = omega (arith, ends, put .1);
-        before = ap (take at) laid ∙ sets-before (written h) pool at fits;
+        inside = omega (arith, t, u, put .end);
+        low = omega (arith, put .end);
+        high = omega (arith, put .end, put .size);
+        before = ap (take at) (put .over) ∙ sets-before (written h) pool at fits;
         others = λ k n. (getD-set-other targets i k at 0 n, getD-set-other spans i k (r - at) 0 n);
       }
 

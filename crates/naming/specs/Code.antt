@@ -2,13 +2,14 @@
 use Prim.Native.Nat.{ℕ, zero, suc, _+_, _≤_, _<_}
 use mathlib.Core.Path.{_≡_}
 use mathlib.Core.List.{List, [], _∷_, _++_}
-use mathlib.Core.Bool.{true, cond}
+use mathlib.Core.Bool.{true, false, cond}
 use mathlib.Core.Option.{Option, none, some}
 use lib.ListN.{length, getD, take}
+use lib.Seq.{sets}
 use lib.Dec.{eqb}
-use Rattle.text.specs.Text.{Bytes, piece}
+use Rattle.text.specs.Text.{Bytes, same, piece}
 use Rattle.algebra.specs.Valid.{mem}
-use Rattle.names.specs.Names.{nameAt}
+use Rattle.names.specs.Names.{nameAt, listing, Holds}
 use Rattle.scoping.specs.Label.{label, base, generated}
 use Rattle.scoping.specs.Pushes.{Push, aPush, contains, newName}
 use Rattle.walking.specs.Code.{replacement}
@@ -23,12 +24,23 @@ unfoldable pub book : Bytes → List ℕ → List ℕ → List ℕ → List ℕ 
 book s froms lens tags numbers zero = []
 book s froms lens tags numbers (suc m) = aPush (nameAt s froms lens m) (getD tags m 0) (getD numbers m 0) ∷ book s froms lens tags numbers m
 
--- their arrays have 1,024 entries
-pub record Long (f l t n : List ℕ) : Type 0 where
-  pub froms : length f ≡ 1024
-  pub lens : length l ≡ 1024
+-- their arrays: the bases are a table of names with hints h, and t and n have 1,024 entries
+pub record Stored (s : Bytes) (f l h t n : List ℕ) (m : ℕ) : Type 0 where
+  pub few : m ≤ 1024
+  pub bases : Holds s f l h m (listing s f l m)
   pub tags : length t ≡ 1024
   pub numbers : length n ≡ 1024
+
+-- no push has a base that was there before it
+unfoldable pub Apart : List Push → Type 0
+unfolding contains
+Apart [] = Unit {0}
+Apart (p ∷ ps) = (contains (p .base) ps ≡ false) × Apart ps
+
+-- r is the entry of a base of which w is the Label, or it is m, and there is none among the first m
+pub record LabelAt (w s : Bytes) (f l : List ℕ) (m r : ℕ) : Type 0 where
+  pub here : r < m → same w (nameAt s f l r ++ label) ≡ true
+  pub none : m ≤ r → (k : ℕ) → k < m → same w (nameAt s f l k ++ label) ≡ false
 
 -- how many of the names have a base that no push has
 unfoldable pub fresh : List Push → List Bytes → ℕ
@@ -65,6 +77,12 @@ abbrev pub written : Hit → Bytes
 written Missing = []
 written (Plain p n) = generated p n
 written (Labelled p n) = generated p n ++ label
+
+-- its bytes, at most 12, were laid over the pool at `at`, and r is behind them
+pub record Laid (b : Bytes) (at r : ℕ) (pool pool′ : Bytes) : Type 0 where
+  pub size : length b ≤ 12
+  pub end : r ≡ at + length b
+  pub over : pool′ ≡ sets pool at b
 
 -- what the name w at entry j becomes: a size of 0 leaves it
 abbrev pub becomesAt : Bytes → List ℕ → List ℕ → ℕ → Bytes → Bytes

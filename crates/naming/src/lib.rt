@@ -1,22 +1,24 @@
 // nemo's standardize_variables over the variable table: which bases get a prefix and a number, and what each name of the table becomes.
 use emit::put;
 use emit::put_all;
+use names::add_name;
+use names::find_name;
 use text::equal;
 use text::piece;
 ghost use mathlib.Core.Path.{_≡_};
-ghost use mathlib.Core.List.{[], _∷_, _++_};
+ghost use mathlib.Core.List.{[], _∷_};
 ghost use mathlib.Core.Bool.{cond, false};
 ghost use Prim.Native.Nat.{ℕ, _+_, _≤_, _<_};
-ghost use lib.ListN.{length, getD, take};
+ghost use lib.ListN.{length, getD, take, set};
 ghost use lib.Dec.{eqb};
-ghost use Rattle.text.specs.Text.{same};
+ghost use Rattle.text.specs.Text.{piece as pieceOf};
 ghost use Rattle.text.specs.Field.{decimal};
-ghost use Rattle.names.specs.Names.{nameAt, listing};
+ghost use Rattle.names.specs.Names.{nameAt, listing, Hinted};
 ghost use Rattle.emit.specs.Emit.{em, puts};
-ghost use Rattle.scoping.specs.Label.{label, isLabel, base as baseOf, generated};
+ghost use Rattle.scoping.specs.Label.{isLabel, base as baseOf, generated};
 ghost use Rattle.scoping.specs.Pushes.{lookup, contains, pushed, pushes, allPushes};
 ghost use Rattle.walking.specs.Flags.{chosen};
-ghost use Rattle.naming.specs.Code.{book, Long, Room, numberedBy, namesAt, said, written, Settled, Standard};
+ghost use Rattle.naming.specs.Code.{book, Stored, Apart, LabelAt, Room, numberedBy, namesAt, said, written, Laid, Settled, Standard};
 
 fn wide(x: u16) -> usize
     ensures { λ r. ⌜ (r ≡ x) × (r < 65536) ⌝ }
@@ -47,17 +49,6 @@ fn base_size(f: &[u8]) -> usize
     f.len()
 }
 
-// A name is another with Label behind it.
-fn is_label_of(f: &[u8], b: &[u8]) -> bool
-    ensures { λ r. ⌜ r ≡ same (now (f .entry)) (now (b .entry) ++ label) ⌝ }
-{
-    if ends_in_label(f) {
-        let e = f.len() - 5;
-        return equal(&f[..e], b);
-    }
-    false
-}
-
 // What was found for a name: nothing, a prefix and a number, or these with Label behind them.
 enum Hit {
     Missing,
@@ -65,55 +56,67 @@ enum Hit {
     Labelled(u8, u16),
 }
 
-// The last push for a name.
+// The entry of the base of which a name is the Label, or m.
+fn find_label(
+    f: &[u8],
+    text: &[u8],
+    froms: &[u16; 1024],
+    lens: &[u16; 1024],
+    hints: &[u16; 4096],
+    m: usize,
+) -> usize
+    requires { ⌜ (m ≤ 1024) × Hinted (now hints) (listing (now text) (now froms) (now lens) m) ⌝ }
+    ensures { λ r. ⌜ LabelAt (now (f .entry)) (now (text .entry)) (now (froms .entry)) (now (lens .entry)) m r ⌝ }
+{
+    if ends_in_label(f) {
+        let e = f.len() - 5;
+        return find_name(&f[..e], text, froms, lens, hints, m);
+    }
+    m
+}
+
+// The last push for a name. If both the name and the name without its Label are bases, the shorter one was pushed later.
 fn find_push(
     f: &[u8],
     text: &[u8],
-    froms: &[u16],
-    lens: &[u16],
-    tags: &[u8],
-    numbers: &[u16],
+    froms: &[u16; 1024],
+    lens: &[u16; 1024],
+    hints: &[u16; 4096],
+    tags: &[u8; 1024],
+    numbers: &[u16; 1024],
     m: usize,
 ) -> Hit
-    requires { ⌜ (m ≤ 1024) × Long (now froms) (now lens) (now tags) (now numbers) ⌝ }
+    requires { ⌜ Stored (now text) (now froms) (now lens) (now hints) (now tags) (now numbers) m × Apart (book (now text) (now froms) (now lens) (now tags) (now numbers) m) ⌝ }
     ensures { λ r. ⌜ said r ≡ lookup (now (f .entry)) (book (now (text .entry)) (now (froms .entry)) (now (lens .entry)) (now (tags .entry)) (now (numbers .entry)) m) ⌝ }
 {
-    let mut d = m;
-    while 0 < d {
-        let i = d - 1;
-        let from = wide(froms[i]);
-        let size = wide(lens[i]);
-        let b = piece(text, from, size);
-        if is_label_of(f, b) {
-            return Hit::Labelled(tags[i], numbers[i]);
-        }
-        if equal(f, b) {
-            return Hit::Plain(tags[i], numbers[i]);
-        }
-        d = i;
+    let i = find_label(f, text, froms, lens, hints, m);
+    if i < m {
+        return Hit::Labelled(tags[i], numbers[i]);
+    }
+    let k = find_name(f, text, froms, lens, hints, m);
+    if k < m {
+        return Hit::Plain(tags[k], numbers[k]);
     }
     Hit::Missing
 }
 
-// There is a push for a name.
-fn has(
-    f: &[u8],
-    text: &[u8],
-    froms: &[u16],
-    lens: &[u16],
-    tags: &[u8],
-    numbers: &[u16],
-    m: usize,
-) -> bool
-    requires { ⌜ (m ≤ 1024) × Long (now froms) (now lens) (now tags) (now numbers) ⌝ }
-    ensures { λ r. ⌜ r ≡ contains (now (f .entry)) (book (now (text .entry)) (now (froms .entry)) (now (lens .entry)) (now (tags .entry)) (now (numbers .entry)) m) ⌝ }
+// The size of the base of the name at entry k.
+fn base_at(text: &[u8], starts: &[u16; 1024], sizes: &[u16; 1024], k: usize) -> usize
+    requires { ⌜ k < 1024 ⌝ }
+    ensures { λ r. ⌜ (pieceOf (getD (now (starts .entry)) k 0) r (now (text .entry)) ≡ baseOf (nameAt (now (text .entry)) (now (starts .entry)) (now (sizes .entry)) k)) × (r < 65536) ⌝ }
 {
-    let h = find_push(f, text, froms, lens, tags, numbers, m);
-    match h {
-        Hit::Missing => false,
-        Hit::Plain(_, _) => true,
-        Hit::Labelled(_, _) => true,
-    }
+    let from = wide(starts[k]);
+    let size = wide(sizes[k]);
+    base_size(piece(text, from, size))
+}
+
+// The prefix and the number of push m.
+fn set_push(tags: &mut [u8; 1024], numbers: &mut [u16; 1024], m: usize, prefix: u8, count: usize)
+    requires { ⌜ (m < 1024) × (count < 65536) ⌝ }
+    ensures { λ _. ⌜ (now (tags .exit) ≡ set (now (tags .entry)) m prefix) × (now (numbers .exit) ≡ set (now (numbers .entry)) m count) ⌝ }
+{
+    tags[m] = prefix;
+    numbers[m] = count as u16;
 }
 
 // One push more, for the base of the name at entry k, unless there is a push for that base.
@@ -124,25 +127,27 @@ fn push(
     k: usize,
     prefix: u8,
     count: usize,
-    froms: &mut [u16],
-    lens: &mut [u16],
-    tags: &mut [u8],
-    numbers: &mut [u16],
+    froms: &mut [u16; 1024],
+    lens: &mut [u16; 1024],
+    hints: &mut [u16; 4096],
+    tags: &mut [u8; 1024],
+    numbers: &mut [u16; 1024],
     m: usize,
 ) -> usize
-    requires { ⌜ (k < 1024) × (count < 65536) × (m ≤ 1024) × Long (now froms) (now lens) (now tags) (now numbers) × (contains (baseOf (nameAt (now text) (now starts) (now sizes) k)) (book (now text) (now froms) (now lens) (now tags) (now numbers) m) ≡ false → m < 1024) ⌝ }
-    ensures { λ r. ⌜ book (now (text .entry)) (now (froms .exit)) (now (lens .exit)) (now (tags .exit)) (now (numbers .exit)) r ≡ pushed prefix count (nameAt (now (text .entry)) (now (starts .entry)) (now (sizes .entry)) k) (book (now (text .entry)) (now (froms .entry)) (now (lens .entry)) (now (tags .entry)) (now (numbers .entry)) m) ⌝ }
+    requires { ⌜ (k < 1024) × (count < 65536) × Stored (now text) (now froms) (now lens) (now hints) (now tags) (now numbers) m × (contains (baseOf (nameAt (now text) (now starts) (now sizes) k)) (book (now text) (now froms) (now lens) (now tags) (now numbers) m) ≡ false → m < 1024) ⌝ }
+    ensures { λ r. ⌜ (book (now (text .entry)) (now (froms .exit)) (now (lens .exit)) (now (tags .exit)) (now (numbers .exit)) r ≡ pushed prefix count (nameAt (now (text .entry)) (now (starts .entry)) (now (sizes .entry)) k) (book (now (text .entry)) (now (froms .entry)) (now (lens .entry)) (now (tags .entry)) (now (numbers .entry)) m)) × Stored (now (text .entry)) (now (froms .exit)) (now (lens .exit)) (now (hints .exit)) (now (tags .exit)) (now (numbers .exit)) r ⌝ }
 {
     let from = wide(starts[k]);
-    let size = base_size(piece(text, from, wide(sizes[k])));
-    if has(piece(text, from, size), text, froms, lens, tags, numbers, m) {
+    let size = base_at(text, starts, sizes, k);
+    if find_label(piece(text, from, size), text, froms, lens, hints, m) < m {
         return m;
     }
-    froms[m] = starts[k];
-    lens[m] = size as u16;
-    tags[m] = prefix;
-    numbers[m] = count as u16;
-    m + 1
+    let r = add_name(text, from, size, froms, lens, hints, m);
+    if r == m {
+        return m;
+    }
+    set_push(tags, numbers, m, prefix, count);
+    r
 }
 
 // Pushes for the names at the first m entries of a list, under the prefix j, numbered by their places in the list.
@@ -152,13 +157,14 @@ fn push_joins(
     sizes: &[u16; 1024],
     joins: &[u16; 64],
     m: usize,
-    froms: &mut [u16],
-    lens: &mut [u16],
-    tags: &mut [u8],
-    numbers: &mut [u16],
+    froms: &mut [u16; 1024],
+    lens: &mut [u16; 1024],
+    hints: &mut [u16; 4096],
+    tags: &mut [u8; 1024],
+    numbers: &mut [u16; 1024],
 ) -> usize
-    requires { ⌜ Long (now froms) (now lens) (now tags) (now numbers) × (m ≤ 64) × ((i : ℕ) → i < m → getD (now joins) i 0 < 1024) ⌝ }
-    ensures { λ r. ⌜ book (now (text .entry)) (now (froms .exit)) (now (lens .exit)) (now (tags .exit)) (now (numbers .exit)) r ≡ pushes 106 0 (namesAt (now (text .entry)) (now (starts .entry)) (now (sizes .entry)) (now (joins .entry)) m 0) [] ⌝ }
+    requires { ⌜ Stored (now text) (now froms) (now lens) (now hints) (now tags) (now numbers) 0 × (m ≤ 64) × ((i : ℕ) → i < m → getD (now joins) i 0 < 1024) ⌝ }
+    ensures { λ r. ⌜ (book (now (text .entry)) (now (froms .exit)) (now (lens .exit)) (now (tags .exit)) (now (numbers .exit)) r ≡ pushes 106 0 (namesAt (now (text .entry)) (now (starts .entry)) (now (sizes .entry)) (now (joins .entry)) m 0) []) × Stored (now (text .entry)) (now (froms .exit)) (now (lens .exit)) (now (hints .exit)) (now (tags .exit)) (now (numbers .exit)) r ⌝ }
 {
     let mut d = 0;
     let mut i = 0;
@@ -173,6 +179,7 @@ fn push_joins(
             i,
             froms,
             lens,
+            hints,
             tags,
             numbers,
             d,
@@ -197,13 +204,14 @@ fn push_one(
     flag: u8,
     prefix: u8,
     first: Pass,
-    froms: &mut [u16],
-    lens: &mut [u16],
-    tags: &mut [u8],
-    numbers: &mut [u16],
+    froms: &mut [u16; 1024],
+    lens: &mut [u16; 1024],
+    hints: &mut [u16; 4096],
+    tags: &mut [u8; 1024],
+    numbers: &mut [u16; 1024],
 ) -> Pass
-    requires { ⌜ (k < 1024) × (first .count < 65536) × (first .m ≤ 1024) × Long (now froms) (now lens) (now tags) (now numbers) × (contains (baseOf (nameAt (now text) (now starts) (now sizes) k)) (book (now text) (now froms) (now lens) (now tags) (now numbers) (first .m)) ≡ false → first .m < 1024) ⌝ }
-    ensures { λ r. ⌜ (book (now (text .entry)) (now (froms .exit)) (now (lens .exit)) (now (tags .exit)) (now (numbers .exit)) (r .m) ≡ pushes prefix (first .count) (cond (eqb flag 0) [] (nameAt (now (text .entry)) (now (starts .entry)) (now (sizes .entry)) k ∷ [])) (book (now (text .entry)) (now (froms .entry)) (now (lens .entry)) (now (tags .entry)) (now (numbers .entry)) (first .m))) × (r .count ≡ first .count + length (cond (eqb flag 0) [] (nameAt (now (text .entry)) (now (starts .entry)) (now (sizes .entry)) k ∷ []))) ⌝ }
+    requires { ⌜ (k < 1024) × (first .count < 65536) × Stored (now text) (now froms) (now lens) (now hints) (now tags) (now numbers) (first .m) × (contains (baseOf (nameAt (now text) (now starts) (now sizes) k)) (book (now text) (now froms) (now lens) (now tags) (now numbers) (first .m)) ≡ false → first .m < 1024) ⌝ }
+    ensures { λ r. ⌜ (book (now (text .entry)) (now (froms .exit)) (now (lens .exit)) (now (tags .exit)) (now (numbers .exit)) (r .m) ≡ pushes prefix (first .count) (cond (eqb flag 0) [] (nameAt (now (text .entry)) (now (starts .entry)) (now (sizes .entry)) k ∷ [])) (book (now (text .entry)) (now (froms .entry)) (now (lens .entry)) (now (tags .entry)) (now (numbers .entry)) (first .m))) × (r .count ≡ first .count + length (cond (eqb flag 0) [] (nameAt (now (text .entry)) (now (starts .entry)) (now (sizes .entry)) k ∷ []))) × Stored (now (text .entry)) (now (froms .exit)) (now (lens .exit)) (now (hints .exit)) (now (tags .exit)) (now (numbers .exit)) (r .m) ⌝ }
 {
     if flag == 0 {
         return first;
@@ -218,6 +226,7 @@ fn push_one(
         count,
         froms,
         lens,
+        hints,
         tags,
         numbers,
         first.m,
@@ -238,13 +247,14 @@ fn push_flagged(
     base: usize,
     prefix: u8,
     first: Pass,
-    froms: &mut [u16],
-    lens: &mut [u16],
-    tags: &mut [u8],
-    numbers: &mut [u16],
+    froms: &mut [u16; 1024],
+    lens: &mut [u16; 1024],
+    hints: &mut [u16; 4096],
+    tags: &mut [u8; 1024],
+    numbers: &mut [u16; 1024],
 ) -> Pass
-    requires { ⌜ (n ≤ 1024) × (base ≤ 1024) × (first .count ≤ 1024) × Long (now froms) (now lens) (now tags) (now numbers) × Room (book (now text) (now froms) (now lens) (now tags) (now numbers) (first .m)) (listing (now text) (now starts) (now sizes) n) ⌝ }
-    ensures { λ r. ⌜ (book (now (text .entry)) (now (froms .exit)) (now (lens .exit)) (now (tags .exit)) (now (numbers .exit)) (r .m) ≡ pushes prefix (first .count) (chosen base (now (flags .entry)) (listing (now (text .entry)) (now (starts .entry)) (now (sizes .entry)) n)) (book (now (text .entry)) (now (froms .entry)) (now (lens .entry)) (now (tags .entry)) (now (numbers .entry)) (first .m))) × (r .count ≡ first .count + length (chosen base (now (flags .entry)) (listing (now (text .entry)) (now (starts .entry)) (now (sizes .entry)) n))) × (r .count ≤ first .count + n) × Room (book (now (text .entry)) (now (froms .exit)) (now (lens .exit)) (now (tags .exit)) (now (numbers .exit)) (r .m)) (listing (now (text .entry)) (now (starts .entry)) (now (sizes .entry)) n) ⌝ }
+    requires { ⌜ (n ≤ 1024) × (base ≤ 1024) × (first .count ≤ 1024) × Stored (now text) (now froms) (now lens) (now hints) (now tags) (now numbers) (first .m) × Room (book (now text) (now froms) (now lens) (now tags) (now numbers) (first .m)) (listing (now text) (now starts) (now sizes) n) ⌝ }
+    ensures { λ r. ⌜ (book (now (text .entry)) (now (froms .exit)) (now (lens .exit)) (now (tags .exit)) (now (numbers .exit)) (r .m) ≡ pushes prefix (first .count) (chosen base (now (flags .entry)) (listing (now (text .entry)) (now (starts .entry)) (now (sizes .entry)) n)) (book (now (text .entry)) (now (froms .entry)) (now (lens .entry)) (now (tags .entry)) (now (numbers .entry)) (first .m))) × (r .count ≡ first .count + length (chosen base (now (flags .entry)) (listing (now (text .entry)) (now (starts .entry)) (now (sizes .entry)) n))) × (r .count ≤ first .count + n) × Room (book (now (text .entry)) (now (froms .exit)) (now (lens .exit)) (now (tags .exit)) (now (numbers .exit)) (r .m)) (listing (now (text .entry)) (now (starts .entry)) (now (sizes .entry)) n) × Stored (now (text .entry)) (now (froms .exit)) (now (lens .exit)) (now (hints .exit)) (now (tags .exit)) (now (numbers .exit)) (r .m) ⌝ }
 {
     let mut p = first;
     let mut k = 0;
@@ -259,6 +269,7 @@ fn push_flagged(
             p,
             froms,
             lens,
+            hints,
             tags,
             numbers,
         );
@@ -268,7 +279,7 @@ fn push_flagged(
 }
 
 // A number in base ten.
-fn put_decimal(out: &mut [u8], at: usize, n: usize) -> usize
+pub fn put_decimal(out: &mut [u8], at: usize, n: usize) -> usize
     ensures { λ r. ⌜ em r (now (out .exit)) ≡ puts (decimal n) (em at (now (out .entry))) ⌝ }
 {
     if n < 10 {
@@ -290,7 +301,8 @@ fn put_generated(out: &mut [u8], at: usize, prefix: u8, n: usize) -> usize
 
 // What was found for a name, written: nothing, or a generated name without or with Label.
 fn put_hit(out: &mut [u8], at: usize, h: Hit) -> usize
-    ensures { λ r. ⌜ (em r (now (out .exit)) ≡ puts (written h) (em at (now (out .entry)))) × (length (written h) ≤ 12) ⌝ }
+    requires { ⌜ (at + 12 ≤ 16384) × (16384 ≤ length (now out)) ⌝ }
+    ensures { λ r. ⌜ Laid (written h) at r (now (out .entry)) (now (out .exit)) ⌝ }
 {
     match h {
         Hit::Missing => at,
@@ -308,21 +320,22 @@ fn set_new_name(
     starts: &[u16; 1024],
     sizes: &[u16; 1024],
     k: usize,
-    froms: &[u16],
-    lens: &[u16],
-    tags: &[u8],
-    numbers: &[u16],
+    froms: &[u16; 1024],
+    lens: &[u16; 1024],
+    hints: &[u16; 4096],
+    tags: &[u8; 1024],
+    numbers: &[u16; 1024],
     m: usize,
     pool: &mut [u8],
     at: usize,
     targets: &mut [u16],
     spans: &mut [u16],
 ) -> usize
-    requires { ⌜ (k < 1024) × (m ≤ 1024) × Long (now froms) (now lens) (now tags) (now numbers) × (at + 12 ≤ 16384) × (16384 ≤ length (now pool)) × (length (now targets) ≡ 1024) × (length (now spans) ≡ 1024) ⌝ }
+    requires { ⌜ (k < 1024) × Stored (now text) (now froms) (now lens) (now hints) (now tags) (now numbers) m × Apart (book (now text) (now froms) (now lens) (now tags) (now numbers) m) × (at + 12 ≤ 16384) × (16384 ≤ length (now pool)) × (length (now targets) ≡ 1024) × (length (now spans) ≡ 1024) ⌝ }
     ensures { λ r. ⌜ Settled (book (now (text .entry)) (now (froms .entry)) (now (lens .entry)) (now (tags .entry)) (now (numbers .entry)) m) (nameAt (now (text .entry)) (now (starts .entry)) (now (sizes .entry)) k) k at r (now (pool .entry)) (now (targets .entry)) (now (spans .entry)) (now (pool .exit)) (now (targets .exit)) (now (spans .exit)) ⌝ }
 {
     let f = piece(text, wide(starts[k]), wide(sizes[k]));
-    let h = find_push(f, text, froms, lens, tags, numbers, m);
+    let h = find_push(f, text, froms, lens, hints, tags, numbers, m);
     let to = put_hit(pool, at, h);
     targets[k] = at as u16;
     spans[k] = (to - at) as u16;
@@ -335,16 +348,17 @@ fn set_new_names(
     starts: &[u16; 1024],
     sizes: &[u16; 1024],
     n: usize,
-    froms: &[u16],
-    lens: &[u16],
-    tags: &[u8],
-    numbers: &[u16],
+    froms: &[u16; 1024],
+    lens: &[u16; 1024],
+    hints: &[u16; 4096],
+    tags: &[u8; 1024],
+    numbers: &[u16; 1024],
     m: usize,
     pool: &mut [u8],
     targets: &mut [u16],
     spans: &mut [u16],
 )
-    requires { ⌜ (n ≤ 1024) × (m ≤ 1024) × Long (now froms) (now lens) (now tags) (now numbers) × (16384 ≤ length (now pool)) × (length (now targets) ≡ 1024) × (length (now spans) ≡ 1024) ⌝ }
+    requires { ⌜ (n ≤ 1024) × Stored (now text) (now froms) (now lens) (now hints) (now tags) (now numbers) m × Apart (book (now text) (now froms) (now lens) (now tags) (now numbers) m) × (16384 ≤ length (now pool)) × (length (now targets) ≡ 1024) × (length (now spans) ≡ 1024) ⌝ }
     ensures { λ _. ⌜ Standard (book (now (text .entry)) (now (froms .entry)) (now (lens .entry)) (now (tags .entry)) (now (numbers .entry)) m) (listing (now (text .entry)) (now (starts .entry)) (now (sizes .entry)) n) n (now (pool .exit)) (now (targets .exit)) (now (spans .exit)) (now (spans .entry)) ⌝ }
 {
     let mut at = 0;
@@ -357,6 +371,7 @@ fn set_new_names(
             k,
             froms,
             lens,
+            hints,
             tags,
             numbers,
             m,
@@ -379,15 +394,27 @@ fn push_all(
     prefix: u8,
     joins: &[u16; 64],
     m: usize,
-    froms: &mut [u16],
-    lens: &mut [u16],
-    tags: &mut [u8],
-    numbers: &mut [u16],
+    froms: &mut [u16; 1024],
+    lens: &mut [u16; 1024],
+    hints: &mut [u16; 4096],
+    tags: &mut [u8; 1024],
+    numbers: &mut [u16; 1024],
 ) -> usize
-    requires { ⌜ (n ≤ 1024) × (m ≤ 64) × ((i : ℕ) → i < m → getD (now joins) i 0 < n) × Long (now froms) (now lens) (now tags) (now numbers) ⌝ }
-    ensures { λ r. ⌜ (book (now (text .entry)) (now (froms .exit)) (now (lens .exit)) (now (tags .exit)) (now (numbers .exit)) r ≡ allPushes prefix (numberedBy (now (flags .entry)) (listing (now (text .entry)) (now (starts .entry)) (now (sizes .entry)) n)) (namesAt (now (text .entry)) (now (starts .entry)) (now (sizes .entry)) (now (joins .entry)) m 0)) × (r ≤ 1024) ⌝ }
+    requires { ⌜ (n ≤ 1024) × (m ≤ 64) × ((i : ℕ) → i < m → getD (now joins) i 0 < n) × Stored (now text) (now froms) (now lens) (now hints) (now tags) (now numbers) 0 ⌝ }
+    ensures { λ r. ⌜ (book (now (text .entry)) (now (froms .exit)) (now (lens .exit)) (now (tags .exit)) (now (numbers .exit)) r ≡ allPushes prefix (numberedBy (now (flags .entry)) (listing (now (text .entry)) (now (starts .entry)) (now (sizes .entry)) n)) (namesAt (now (text .entry)) (now (starts .entry)) (now (sizes .entry)) (now (joins .entry)) m 0)) × Stored (now (text .entry)) (now (froms .exit)) (now (lens .exit)) (now (hints .exit)) (now (tags .exit)) (now (numbers .exit)) r ⌝ }
 {
-    let k = push_joins(text, starts, sizes, joins, m, froms, lens, tags, numbers);
+    let k = push_joins(
+        text,
+        starts,
+        sizes,
+        joins,
+        m,
+        froms,
+        lens,
+        hints,
+        tags,
+        numbers,
+    );
     let a = push_flagged(
         text,
         starts,
@@ -399,6 +426,7 @@ fn push_all(
         Pass { m: k, count: 0 },
         froms,
         lens,
+        hints,
         tags,
         numbers,
     );
@@ -413,6 +441,7 @@ fn push_all(
         a,
         froms,
         lens,
+        hints,
         tags,
         numbers,
     );
@@ -439,6 +468,7 @@ pub fn standardize_variables(
 {
     let mut froms = [0u16; 1024];
     let mut lens = [0u16; 1024];
+    let mut hints = [0u16; 4096];
     let mut tags = [0u8; 1024];
     let mut numbers = [0u16; 1024];
     let k = push_all(
@@ -452,6 +482,7 @@ pub fn standardize_variables(
         m,
         &mut froms,
         &mut lens,
+        &mut hints,
         &mut tags,
         &mut numbers,
     );
@@ -462,6 +493,7 @@ pub fn standardize_variables(
         n,
         &froms,
         &lens,
+        &hints,
         &tags,
         &numbers,
         k,

@@ -1,5 +1,6 @@
 -- `naming::put_hit` meets its contract. Assumes nothing.
 use borrow.Author.Needs.{needs}
+use native.Mathlib.Omega.{arith}
 use Rattle.naming.proofs.Written as W
 use Rattle.naming.proofs.put_hit.Statement.{statement}
 use Rattle.naming.proofs.put_hit.Tie as tie
@@ -17,8 +18,8 @@ put-hit-spec =
     (λ c κs. search needs)
     (λ c. search needs)
     (λ c κs. search needs)
-    (λ c. W.hit-missing _ _ (c .enum-told .given .1))
+    (λ c. W.hit-missing _ _ _ (let p = c .before .before .before .pre in omega arith) (omega arith) (c .enum-told .given .1))
     (λ c. search needs)
-    (λ c. W.hit-plain _ _ _ _ _ _ (c .before .before .before .wide .ensures .0) (c .before .before .before .wide .ensures .1) (c .before .before .put-generated .ensures) (c .before .before .before .before .before .before .h .given .1))
+    (λ c. W.hit-plain _ _ _ (let p = c .before .before .before .before .before .before .before .before .before .pre in omega arith) (omega arith) _ _ _ _ _ (c .before .before .before .wide .ensures .0) (c .before .before .before .wide .ensures .1) (c .before .before .put-generated .ensures) (c .before .before .before .before .before .before .h .given .1))
     (λ c. search needs)
-    (λ c. W.hit-labelled _ _ _ _ _ _ (c .before .before .before .before .before .before .before .before .wide2 .ensures .0) (c .before .before .before .before .before .before .before .before .wide2 .ensures .1) (c .before .before .before .before .before .before .before .put-generated2 .ensures) _ (c .before .before .put-all .ensures) (c .before .before .before .before .before .before .before .before .before .before .before .h2 .given .1)))
+    (λ c. W.hit-labelled _ _ _ (let p = c .before .before .before .before .before .before .before .before .before .before .before .before .before .before .pre in omega arith) (omega arith) _ _ _ _ _ (c .before .before .before .before .before .before .before .before .wide2 .ensures .0) (c .before .before .before .before .before .before .before .before .wide2 .ensures .1) (c .before .before .before .before .before .before .before .put-generated2 .ensures) _ _ (c .before .before .put-all .ensures) (c .before .before .before .before .before .before .before .before .before .before .before .h2 .given .1)))
