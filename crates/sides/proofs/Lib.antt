@@ -1,0 +1,9 @@
+pub mod Picked
+pub mod Masks
+pub mod Gone
+pub mod Places
+pub mod Positions
+pub mod Trees
+pub mod Entries
+pub mod Values
+pub mod Root

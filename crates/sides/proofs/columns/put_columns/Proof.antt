@@ -1,0 +1,37 @@
+-- `sides::columns/put_columns` meets its contract. Assumes nothing.
+use borrow.Author.Needs.{needs}
+use Prim.Native.Nat.{ℕ, _+_, _-_, _*_, _^_, _≤_, _<_}
+use mathlib.Core.Path.{_≡_, refl, sym, ap, _∙_}
+use native.Mathlib.Omega.{arith}
+use lib.ListN.{length, getD, take, drop, length-set}
+use Rattle.cursor.specs.Cursor.{left as fieldsLeft}
+use Rattle.emit.specs.Emit.{em, puts}
+use Rattle.walking.specs.Walk.{tabbed}
+use Rattle.sides.specs.Columns.{picked}
+use Rattle.sides.proofs.Picked as L
+use Rattle.sides.proofs.columns.put_columns.Statement.{statement}
+use Rattle.sides.proofs.columns.put_columns.Tie as tie
+
+abbrev Inv-loop : tie.InvT-loop
+Inv-loop line end mask bit count out₀ at to₀ next₀ bits₀ left₀ out to next bits left =
+    (length out ≡ length out₀) × (left ≡ length (picked bit bits (fieldsLeft line next end))) × (puts (tabbed (picked bit bits (fieldsLeft line next end))) (em to out) ≡ puts (tabbed (picked bit bits₀ (fieldsLeft line next₀ end))) (em to₀ out₀))
+
+abbrev μ-loop : tie.MeasureT-loop
+μ-loop line end mask bit count out₀ at to₀ next₀ bits₀ left₀ out to next bits left =
+    end + 1 - next
+
+pub put-columns-spec : {M : Type 1} → statement M
+put-columns-spec =
+    tie.close
+    (tie.spec
+    Inv-loop
+    μ-loop
+    (λ c. (refl, c .before .before .pre .1, refl))
+    (λ c κs. (L.columns-more _ _ _ _ _ _ (c .before .loop .inv .1) (c .loop-test .taken), c .before .before .before .before .pre .0))
+    (λ c κs. (c .before .find .ensures .low, let h = c .before .find .ensures .high in let p = c .before .before .before .before .before .before .pre .0 in omega arith))
+    (λ c κs. search needs)
+    (λ c. let h = c .before .before .before .before .before .find .ensures .high in let p = c .before .before .before .before .before .before .before .before .before .before .pre .0 in omega arith)
+    (λ c. let l = c .before .before .before .before .before .find .ensures .low in let t = L.columns-more _ _ _ _ _ _ (c .before .before .before .before .before .before .before .loop .inv .1) (c .before .before .before .before .before .before .loop-test .taken) in let h = c .before .before .before .before .before .find .ensures .high in omega arith)
+    (λ c. let t = L.columns-more _ _ _ _ _ _ (c .before .before .before .before .before .before .before .loop .inv .1) (c .before .before .before .before .before .before .loop-test .taken) in (c .before .before .before .put-column .kept .1 .1 .1 .1 .0 ∙ c .before .before .before .before .before .before .before .loop .inv .0, L.columns-less _ _ _ _ _ _ (c .before .before .before .before .before .before .before .before .before .before .pre .0) t (c .before .before .before .before .before .find .ensures) _ _ _ refl (c .before .before .before .before .before .before .before .loop .inv .1) (c .less .ensures), L.columns-next _ _ _ _ _ _ (c .before .before .before .before .before .before .before .before .before .before .pre .0) t (c .before .before .before .before .before .find .ensures) _ _ _ refl (c .before .before .before .put-column .ensures) ∙ c .before .before .before .before .before .before .before .loop .inv .2))
+    (λ c. c .before .loop .inv .0)
+    (λ c. L.nothing-left _ _ _ _ (c .before .loop .inv .1) (c .loop-test .left) (c .before .loop .inv .2)))

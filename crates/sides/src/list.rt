@@ -1,0 +1,117 @@
+// A list of pairs that was checked: its positions, and the terms of a constant list by rising position.
+use crate::columns::place_of;
+use emit::put;
+use emit::put_all;
+use names::wide;
+use text::find;
+use walking::line::count_at;
+use walking::line::line_end;
+ghost use mathlib.Core.Path.{_≡_};
+ghost use Prim.Native.Nat.{ℕ, _+_, _≤_, _<_};
+ghost use mathlib.Core.List.{List, [], _∷_};
+ghost use mathlib.Core.Bool.{Bool, cond, false};
+ghost use lib.ListN.{length, getD, drop};
+ghost use Rattle.text.specs.Text.{Bytes, Line, linesFrom};
+ghost use Rattle.cursor.specs.Cursor.{left};
+ghost use Rattle.emit.specs.Emit.{em, puts};
+ghost use Rattle.walking.specs.Walk.{tabbed, numberIn};
+ghost use Rattle.algebra.specs.Query.{Pair};
+ghost use Rattle.sides.specs.Listed.{Listed, Kept, Found, secondOf, termsFrom};
+
+// A position is outside its projection, or there are so many.
+pub enum Positions {
+    Outside,
+    Are(usize),
+}
+
+// The number in a line's first field or in its second.
+fn position_at(list: &[u8], from: usize, end: usize, second: bool) -> usize
+    requires { ⌜ end < length (now list) ⌝ }
+    ensures { λ r. ⌜ r ≡ numberIn (getD (left (now (list .entry)) from end) (cond second 1 0) []) ⌝ }
+{
+    let a = count_at(list, from, end);
+    if !second {
+        return a.number;
+    }
+    let b = count_at(list, a.next, end);
+    b.number
+}
+
+// The positions in one of the two fields of each line, below c, and where each line starts.
+pub fn read_positions(
+    list: &[u8],
+    second: bool,
+    c: usize,
+    at: &mut [u16; 64],
+    lines: &mut [u16; 64],
+) -> Positions
+    requires { ⌜ (c ≤ 64) × (length (now at) ≡ 64) × (length (now lines) ≡ 64) × ((xs : List Pair) × Listed (now list) xs) ⌝ }
+    ensures { λ r. ⌜ (length (now (at .exit)) ≡ 64) × (length (now (lines .exit)) ≡ 64) × ((xs : List Pair) → Listed (now (list .entry)) xs → Found (now (list .entry)) xs second c (now (at .exit)) (now (lines .exit)) r) ⌝ }
+{
+    let mut m = 0;
+    let mut from = 0;
+    while from < list.len() {
+        let end = line_end(list, from);
+        if end == list.len() {
+            return Positions::Outside;
+        }
+        let p = position_at(list, from, end, second);
+        if c <= p {
+            return Positions::Outside;
+        }
+        at[m] = p as u16;
+        lines[m] = from as u16;
+        m += 1;
+        from = end + 1;
+    }
+    Positions::Are(m)
+}
+
+// The second field of the line that starts here, a part of the list.
+fn second_field(list: &[u8], from: usize) -> &[u8]
+    ensures { λ r. ⌜ ((f g : Bytes) (ls : List Line) → linesFrom (now (list .entry)) from ≡ (f ∷ g ∷ []) ∷ ls → now r ≡ g) ⌝ }
+{
+    let end = line_end(list, from);
+    if end == list.len() {
+        return &list[..0];
+    }
+    let tab = find(list, from, end, 9);
+    if tab == end {
+        return &list[..0];
+    }
+    let next = tab + 1;
+    &list[next..end]
+}
+
+// The term of the constant at a place of the list, after a tab, if it is below m.
+fn put_term(list: &[u8], lines: &[u16; 64], k: usize, m: usize, out: &mut [u8], at: usize) -> usize
+    requires { ⌜ m ≤ 64 ⌝ }
+    ensures { λ r. ⌜ ((xs : List Pair) (second : Bool) (at₀ : List ℕ) → Kept (now (list .entry)) xs second at₀ (now (lines .entry)) m → em r (now (out .exit)) ≡ puts (tabbed (secondOf (drop k xs))) (em at (now (out .entry)))) ⌝ }
+{
+    if m <= k {
+        return at;
+    }
+    let a = put(out, at, 9);
+    put_all(out, a, second_field(list, wide(lines[k])))
+}
+
+// The terms by rising position, each after a tab.
+pub fn put_terms(
+    list: &[u8],
+    at: &[u16; 64],
+    lines: &[u16; 64],
+    m: usize,
+    out: &mut [u8],
+    to: usize,
+) -> usize
+    requires { ⌜ (m ≤ 64) × (length (now at) ≡ 64) ⌝ }
+    ensures { λ r. ⌜ ((xs : List Pair) → Kept (now (list .entry)) xs false (now (at .entry)) (now (lines .entry)) m → em r (now (out .exit)) ≡ puts (tabbed (termsFrom xs 0 64)) (em to (now (out .entry)))) ⌝ }
+{
+    let mut next = to;
+    let mut p = 0;
+    while p < 64 {
+        next = put_term(list, lines, place_of(at, m, p), m, out, next);
+        p += 1;
+    }
+    next
+}

@@ -1,0 +1,312 @@
+// A side: its columns, its names, its lines.
+use crate::columns::position_mask;
+use crate::columns::put_columns;
+use crate::list::Positions;
+use crate::list::put_terms;
+use crate::list::read_positions;
+use emit::put;
+use emit::put_all;
+use names::find_name;
+use names::wide;
+use naming::put_decimal;
+use naming::standardize_variables;
+use text::equal;
+use text::find;
+use walking::line::line_end;
+use walking::line::walk_line;
+use walking::tree::rename_in_graph_pattern;
+ghost use mathlib.Core.Path.{_≡_};
+ghost use Prim.Native.Nat.{ℕ, _+_, _≤_, _<_};
+ghost use mathlib.Core.List.{List, [], _∷_, map};
+ghost use mathlib.Core.Bool.{Bool, true, false};
+ghost use lib.ListN.{length, getD, take};
+ghost use lib.Count.{ones};
+ghost use Rattle.text.specs.Text.{Bytes, Line, same, textOf, linesFrom};
+ghost use Rattle.text.specs.Word.{bytes};
+ghost use Rattle.cursor.specs.Cursor.{left};
+ghost use Rattle.algebra.specs.Tree.{Pattern};
+ghost use Rattle.algebra.specs.Query.{Pair};
+ghost use Rattle.names.specs.Names.{listing};
+ghost use Rattle.emit.specs.Emit.{em, puts};
+ghost use Rattle.scoping.specs.Sets.{indexOf};
+ghost use Rattle.scoping.specs.Numbering.{numbered};
+ghost use Rattle.scoping.specs.Pushes.{allPushes, newName};
+ghost use Rattle.scoping.specs.Rename.{renameInGraphPattern};
+ghost use Rattle.walking.specs.Code.{Named};
+ghost use Rattle.naming.specs.Code.{namesAt};
+ghost use Rattle.algebra.specs.Layout.{put};
+ghost use Rattle.merging.specs.Request.{Projection, tree};
+ghost use Rattle.sides.specs.Columns.{columnsIn, picked};
+ghost use Rattle.sides.specs.Listed.{Listed, Kept, termsFrom};
+ghost use Rattle.sides.specs.Side.{TreeIn, Renames, SideIs, PreparedIs, joinLine, valuesLines, newNames};
+
+const PROJECT: [u8; 7] = *b"project";
+
+// The line that starts here is a project's.
+pub fn is_project(text: &[u8], from: usize) -> bool
+    ensures { λ r. ⌜ r ≡ same (getD (getD (linesFrom (now (text .entry)) from) 0 []) 0 []) (bytes "project") ⌝ }
+{
+    let end = line_end(text, from);
+    if end == text.len() {
+        return false;
+    }
+    let word = find(text, from, end, 9);
+    equal(&text[from..word], &PROJECT)
+}
+
+// The entries in the variable table of the fields from here to the line's end, and how many there are.
+fn column_entries(
+    text: &[u8],
+    from: usize,
+    end: usize,
+    starts: &[u16; 1024],
+    sizes: &[u16; 1024],
+    hints: &[u16; 4096],
+    n: usize,
+    entries: &mut [u16; 64],
+) -> usize
+    requires { ⌜ (end ≤ length (now text)) × (length (left (now text) from end) ≤ 64) × (length (now entries) ≡ 64) × Named (now text) (now starts) (now sizes) (now hints) n ⌝ }
+    ensures { λ r. ⌜ (length (now (entries .exit)) ≡ 64) × (r ≡ length (left (now (text .entry)) from end)) × (take r (now (entries .exit)) ≡ map (λ f. indexOf f (listing (now (text .entry)) (now (starts .entry)) (now (sizes .entry)) n)) (left (now (text .entry)) from end)) ⌝ }
+{
+    let mut c = 0;
+    let mut next = from;
+    while next <= end {
+        let e = find(text, next, end, 9);
+        let k = find_name(&text[next..e], text, starts, sizes, hints, n);
+        entries[c] = k as u16;
+        c += 1;
+        next = e + 1;
+    }
+    c
+}
+
+// The entries of the columns at the first m positions.
+fn join_entries(entries: &[u16; 64], at: &[u16; 64], m: usize, joins: &mut [u16; 64])
+    requires { ⌜ (m ≤ 64) × (length (now joins) ≡ 64) × ((i : ℕ) → i < m → getD (now at) i 0 < 64) ⌝ }
+    ensures { λ _. ⌜ (length (now (joins .exit)) ≡ 64) × ((i : ℕ) → i < m → getD (now (joins .exit)) i 0 ≡ getD (now (entries .entry)) (getD (now (at .entry)) i 0) 0) ⌝ }
+{
+    let mut i = 0;
+    while i < m {
+        joins[i] = entries[wide(at[i])];
+        i += 1;
+    }
+}
+
+// standardize_variables for the tree that starts here: its places are noted, and each name of the table gets its new name.
+fn name_side(
+    text: &[u8],
+    from: usize,
+    starts: &[u16; 1024],
+    sizes: &[u16; 1024],
+    hints: &[u16; 4096],
+    n: usize,
+    prefix: u8,
+    joins: &[u16; 64],
+    m: usize,
+    pool: &mut [u8],
+    targets: &mut [u16; 1024],
+    spans: &mut [u16; 1024],
+)
+    requires { ⌜ Named (now text) (now starts) (now sizes) (now hints) n × (m ≤ 64) × ((i : ℕ) → i < m → getD (now joins) i 0 < n) × (16384 ≤ length (now pool)) × (length (now targets) ≡ 1024) × (length (now spans) ≡ 1024) × ((k : ℕ) → getD (now spans) k 0 ≡ 0) ⌝ }
+    ensures { λ _. ⌜ (length (now (targets .exit)) ≡ 1024) × (length (now (spans .exit)) ≡ 1024) × ((p : Pattern) → TreeIn (now (text .entry)) from (now (starts .entry)) (now (sizes .entry)) (now (hints .entry)) n p → Renames (listing (now (text .entry)) (now (starts .entry)) (now (sizes .entry)) n) n (now (pool .exit)) (now (targets .exit)) (now (spans .exit)) (newName (allPushes prefix (numbered p) (namesAt (now (text .entry)) (now (starts .entry)) (now (sizes .entry)) (now (joins .entry)) m 0)))) ⌝ }
+{
+    let mut flags = [0u8; 2048];
+    let mut none = [0u8; 0];
+    rename_in_graph_pattern(
+        text,
+        starts,
+        sizes,
+        hints,
+        n,
+        &text[..0],
+        targets,
+        spans,
+        &mut flags,
+        &mut none,
+        from,
+        0,
+        0,
+        64,
+    );
+    standardize_variables(
+        text,
+        starts,
+        sizes,
+        n,
+        &flags,
+        prefix,
+        joins,
+        m,
+        pool,
+        targets,
+        spans,
+    );
+}
+
+// What is found of a side: where its inner pattern starts, how many columns it has, which of them carry constants and which
+// are joined, how many constants there are, and where its line of renamed columns ends.
+pub struct Side {
+    pub inner: usize,
+    pub columns: usize,
+    pub constant: u64,
+    pub joined: u64,
+    pub constants: usize,
+    pub end: usize,
+}
+
+// A position is outside the projection, or the side is ready.
+pub enum Prepared {
+    Outside,
+    Ready(Side),
+}
+
+// The new names of a side, whose join positions were found, and its line of renamed columns.
+fn rename_side(
+    text: &[u8],
+    from: usize,
+    starts: &[u16; 1024],
+    sizes: &[u16; 1024],
+    hints: &[u16; 4096],
+    n: usize,
+    prefix: u8,
+    joins: &[u16; 64],
+    m: usize,
+    pool: &mut [u8],
+    targets: &mut [u16; 1024],
+    spans: &mut [u16; 1024],
+    line: &mut [u8],
+) -> usize
+    requires { ⌜ Named (now text) (now starts) (now sizes) (now hints) n × (m ≤ 64) × ((i : ℕ) → i < m → getD (now joins) i 0 < n) × (16384 ≤ length (now pool)) × (length (now targets) ≡ 1024) × (length (now spans) ≡ 1024) × ((k : ℕ) → getD (now spans) k 0 ≡ 0) ⌝ }
+    ensures { λ r. ⌜ ((x : Projection) → TreeIn (now (text .entry)) from (now (starts .entry)) (now (sizes .entry)) (now (hints .entry)) n (tree x) → Renames (listing (now (text .entry)) (now (starts .entry)) (now (sizes .entry)) n) n (now (pool .exit)) (now (targets .exit)) (now (spans .exit)) (newName (allPushes prefix (numbered (tree x)) (namesAt (now (text .entry)) (now (starts .entry)) (now (sizes .entry)) (now (joins .entry)) m 0))) × (em r (now (line .exit)) ≡ puts (textOf ((bytes "project" ∷ map (newName (allPushes prefix (numbered (tree x)) (namesAt (now (text .entry)) (now (starts .entry)) (now (sizes .entry)) (now (joins .entry)) m 0))) (x .columns)) ∷ [])) (em 0 (now (line .entry))))) ⌝ }
+{
+    name_side(
+        text,
+        from,
+        starts,
+        sizes,
+        hints,
+        n,
+        prefix,
+        joins,
+        m,
+        pool,
+        targets,
+        spans,
+    );
+    let mut flags = [0u8; 2048];
+    let w = walk_line(
+        text,
+        from,
+        2,
+        starts,
+        sizes,
+        hints,
+        n,
+        pool,
+        targets,
+        spans,
+        2,
+        &mut flags,
+        line,
+        0,
+    );
+    w.at
+}
+
+const JOIN: [u8; 5] = *b"join\n";
+
+const VALUES: [u8; 7] = *b"values\t";
+
+const COLS: [u8; 7] = *b"\t1\ncols";
+
+const ROW: [u8; 4] = *b"\nrow";
+
+// With constants, the side stands under a join.
+fn put_join(m: usize, out: &mut [u8], at: usize) -> usize
+    ensures { λ r. ⌜ ((t : List Line) → puts (textOf t) (em r (now (out .exit))) ≡ puts (textOf (joinLine m t)) (em at (now (out .entry)))) ⌝ }
+{
+    if m == 0 {
+        return at;
+    }
+    put_all(out, at, &JOIN)
+}
+
+// With constants, a Values of one row: their columns and their terms.
+fn put_values(
+    line: &[u8],
+    end: usize,
+    mask: u64,
+    constants: &[u8],
+    positions: &[u16; 64],
+    lines: &[u16; 64],
+    m: usize,
+    out: &mut [u8],
+    at: usize,
+) -> usize
+    requires { ⌜ (m ≤ 64) × (length (now positions) ≡ 64) × (end ≤ length (now line)) × (ones mask ≡ length (picked 1 mask (columnsIn (now line) end))) ⌝ }
+    ensures { λ r. ⌜ ((ks : List Pair) → Kept (now (constants .entry)) ks false (now (positions .entry)) (now (lines .entry)) m → (t : List Line) → puts (textOf t) (em r (now (out .exit))) ≡ puts (textOf (valuesLines m (ones mask) (picked 1 mask (columnsIn (now (line .entry)) end)) (termsFrom ks 0 64) t)) (em at (now (out .entry)))) ⌝ }
+{
+    if m == 0 {
+        return at;
+    }
+    let count = u64::count_ones(mask) as usize;
+    let a = put_all(out, at, &VALUES);
+    let b = put_decimal(out, a, count);
+    let c = put_all(out, b, &COLS);
+    let d = put_columns(line, end, mask, 1, count, out, c);
+    let e = put_all(out, d, &ROW);
+    let f = put_terms(constants, positions, lines, m, out, e);
+    put(out, f, 10)
+}
+
+// The lines of a side: its inner pattern under new names, and its constants bound.
+pub fn put_side(
+    text: &[u8],
+    starts: &[u16; 1024],
+    sizes: &[u16; 1024],
+    hints: &[u16; 4096],
+    n: usize,
+    pool: &[u8],
+    targets: &[u16; 1024],
+    spans: &[u16; 1024],
+    side: Side,
+    line: &[u8],
+    constants: &[u8],
+    positions: &[u16; 64],
+    lines: &[u16; 64],
+    out: &mut [u8],
+    at: usize,
+) -> usize
+    requires { ⌜ Named (now text) (now starts) (now sizes) (now hints) n × (side .constants ≤ 64) × (length (now positions) ≡ 64) × (side .end ≤ length (now line)) × (ones (side .constant) ≡ length (picked 1 (side .constant) (columnsIn (now line) (side .end)))) ⌝ }
+    ensures { λ r. ⌜ ((from : ℕ) (x : Projection) (new : Bytes → Bytes) (ks : List Pair) → TreeIn (now (text .entry)) from (now (starts .entry)) (now (sizes .entry)) (now (hints .entry)) n (tree x) → Renames (listing (now (text .entry)) (now (starts .entry)) (now (sizes .entry)) n) n (now (pool .entry)) (now (targets .entry)) (now (spans .entry)) new → linesFrom (now (text .entry)) (side .inner) ≡ put (x .inner) [] → Kept (now (constants .entry)) ks false (now (positions .entry)) (now (lines .entry)) (side .constants) → (t : List Line) → puts (textOf t) (em r (now (out .exit))) ≡ puts (textOf (joinLine (side .constants) (put (renameInGraphPattern new (x .inner)) (valuesLines (side .constants) (ones (side .constant)) (picked 1 (side .constant) (columnsIn (now (line .entry)) (side .end))) (termsFrom ks 0 64) t)))) (em at (now (out .entry)))) ⌝ }
+{
+    let mut flags = [0u8; 2048];
+    let a = put_join(side.constants, out, at);
+    let p = rename_in_graph_pattern(
+        text,
+        starts,
+        sizes,
+        hints,
+        n,
+        pool,
+        targets,
+        spans,
+        &mut flags,
+        out,
+        side.inner,
+        a,
+        2,
+        64,
+    );
+    put_values(
+        line,
+        side.end,
+        side.constant,
+        constants,
+        positions,
+        lines,
+        side.constants,
+        out,
+        p.at,
+    )
+}
