@@ -7,3 +7,5 @@ pub mod Trees
 pub mod Entries
 pub mod Values
 pub mod Root
+pub mod Line
+pub mod Sides

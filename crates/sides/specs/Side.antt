@@ -13,6 +13,7 @@ use Rattle.algebra.specs.Valid.{Valid, mem}
 use Rattle.algebra.specs.Depth.{depth}
 use Rattle.algebra.specs.Layout.{put}
 use Rattle.names.specs.Names.{listing, Holds}
+use Rattle.scoping.specs.Sets.{indexOf}
 use Rattle.scoping.specs.Numbering.{byPlace}
 use Rattle.scoping.specs.Premises.{sideName, inside}
 use Rattle.walking.specs.Code.{replacement}
@@ -22,7 +23,7 @@ use Rattle.sides.specs.declared.side.Side.{Side}
 use Rattle.sides.specs.declared.side.Prepared.{Prepared}
 use Rattle.sides.specs.declared.side.Prepared.the-variants.{Outside, Ready}
 use Rattle.sides.specs.Columns.{columnsIn, maskOf}
-use Rattle.sides.specs.Listed.{positionsIn, Kept}
+use Rattle.sides.specs.Listed.{Listed, positionsIn, Kept}
 
 -- a tree stands in a text from a place on, within the bounds, and the table lists its names
 pub record TreeIn (s : Bytes) (at : ℕ) (a l h : List ℕ) (n : ℕ) (p : Pattern) : Type 0 where
@@ -37,6 +38,10 @@ pub record Renames (ns : List Bytes) (n : ℕ) (pool targets spans : List ℕ) (
   pub found : (f : Bytes) → mem f ns ≡ true → replacement ns pool targets spans f ≡ new f
   pub behind : (k : ℕ) → n ≤ k → getD spans k 0 ≡ 0
 
+-- the entries of fields among the names of a table
+abbrev pub entriesOf : List Bytes → List Bytes → List ℕ
+entriesOf ns fs = map (λ f. indexOf f ns) fs
+
 -- the mask of the positions that are listed, of c columns
 abbrev pub maskAt : List ℕ → ℕ → ℕ
 maskAt ps c = maskOf (map (λ i. isAt i ps) (countFrom 0 c))
@@ -44,6 +49,16 @@ maskAt ps c = maskOf (map (λ i. isAt i ps) (countFrom 0 c))
 -- the new names that standardize_variables gives
 abbrev pub newNames : ℕ → Bool → Projection → List Pair → Bytes → Bytes
 newNames prefix second x js = sideName prefix (x .columns) (x .inner) (positionsIn second js)
+
+-- what a side is made of: a projection within the bounds, and two lists that were checked
+pub record Asked (s : Bytes) (at : ℕ) (a l h : List ℕ) (n : ℕ) (pairs constants : Bytes) : Type 0 where
+  pub projection : Projection
+  pub stands : TreeIn s at a l h n (tree projection)
+  pub narrow : length (projection .columns) ≤ 64
+  pub joins : List Pair
+  pub joins-listed : Listed pairs joins
+  pub terms : List Pair
+  pub terms-listed : Listed constants terms
 
 -- what was found for a projection, a join list and constants
 pub record SideIs (text : Bytes) (starts sizes : List ℕ) (n prefix : ℕ) (second : Bool) (constants : Bytes) (x : Projection) (js ks : List Pair) (pool targets spans line at lines : List ℕ) (s : Side) : Type 0 where

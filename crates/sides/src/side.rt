@@ -36,9 +36,11 @@ ghost use Rattle.walking.specs.Code.{Named};
 ghost use Rattle.naming.specs.Code.{namesAt};
 ghost use Rattle.algebra.specs.Layout.{put};
 ghost use Rattle.merging.specs.Request.{Projection, tree};
+ghost use Rattle.merging.proofs.Names.{Letter};
+ghost use Rattle.scoping.specs.Premises.{inside, sideName};
 ghost use Rattle.sides.specs.Columns.{columnsIn, picked};
 ghost use Rattle.sides.specs.Listed.{Listed, Kept, termsFrom};
-ghost use Rattle.sides.specs.Side.{TreeIn, Renames, SideIs, PreparedIs, joinLine, valuesLines, newNames};
+ghost use Rattle.sides.specs.Side.{entriesOf, TreeIn, Renames, Asked, PreparedIs, joinLine, valuesLines};
 
 const PROJECT: [u8; 7] = *b"project";
 
@@ -211,6 +213,134 @@ fn rename_side(
         0,
     );
     w.at
+}
+
+// Where a project's inner pattern starts, and how many columns it has.
+struct Found {
+    inner: usize,
+    columns: usize,
+}
+
+// The columns of the project that starts here, and their entries.
+fn find_columns(
+    text: &[u8],
+    from: usize,
+    starts: &[u16; 1024],
+    sizes: &[u16; 1024],
+    hints: &[u16; 4096],
+    n: usize,
+    entries: &mut [u16; 64],
+) -> Found
+    requires { ⌜ (length (now entries) ≡ 64) × ((x : Projection) × TreeIn (now text) from (now starts) (now sizes) (now hints) n (tree x) × (length (x .columns) ≤ 64)) ⌝ }
+    ensures { λ r. ⌜ (length (now (entries .exit)) ≡ 64) × (r .columns ≤ 64) × ((x : Projection) → TreeIn (now (text .entry)) from (now (starts .entry)) (now (sizes .entry)) (now (hints .entry)) n (tree x) → (r .columns ≡ length (x .columns)) × (linesFrom (now (text .entry)) (r .inner) ≡ put (x .inner) []) × (take (length (x .columns)) (now (entries .exit)) ≡ entriesOf (listing (now (text .entry)) (now (starts .entry)) (now (sizes .entry)) n) (x .columns))) ⌝ }
+{
+    let end = line_end(text, from);
+    let word = find(text, from, end, 9);
+    let columns = column_entries(text, word + 1, end, starts, sizes, hints, n, entries);
+    Found {
+        inner: end + 1,
+        columns,
+    }
+}
+
+// The new names of a side, by the entries of its columns and its k join positions; and where its line of renamed columns ends.
+fn name_columns(
+    text: &[u8],
+    from: usize,
+    starts: &[u16; 1024],
+    sizes: &[u16; 1024],
+    hints: &[u16; 4096],
+    n: usize,
+    prefix: u8,
+    entries: &[u16; 64],
+    at: &[u16; 64],
+    k: usize,
+    pool: &mut [u8],
+    targets: &mut [u16; 1024],
+    spans: &mut [u16; 1024],
+    line: &mut [u8],
+) -> usize
+    requires { ⌜ Letter prefix × (16384 ≤ length (now pool)) × (length (now targets) ≡ 1024) × (length (now spans) ≡ 1024) × ((i : ℕ) → getD (now spans) i 0 ≡ 0) × (length (now line) ≡ 8336) × (k ≤ 64) × (length (now at) ≡ 64) × ((x : Projection) × TreeIn (now text) from (now starts) (now sizes) (now hints) n (tree x) × (length (x .columns) ≤ 64) × (take (length (x .columns)) (now entries) ≡ entriesOf (listing (now text) (now starts) (now sizes) n) (x .columns)) × (inside (x .columns) (take k (now at)) ≡ true)) ⌝ }
+    ensures { λ r. ⌜ (r ≤ 8336) × ((x : Projection) → TreeIn (now (text .entry)) from (now (starts .entry)) (now (sizes .entry)) (now (hints .entry)) n (tree x) → length (x .columns) ≤ 64 → take (length (x .columns)) (now (entries .entry)) ≡ entriesOf (listing (now (text .entry)) (now (starts .entry)) (now (sizes .entry)) n) (x .columns) → inside (x .columns) (take k (now (at .entry))) ≡ true → Renames (listing (now (text .entry)) (now (starts .entry)) (now (sizes .entry)) n) n (now (pool .exit)) (now (targets .exit)) (now (spans .exit)) (sideName prefix (x .columns) (x .inner) (take k (now (at .entry)))) × (columnsIn (now (line .exit)) r ≡ map (sideName prefix (x .columns) (x .inner) (take k (now (at .entry)))) (x .columns))) ⌝ }
+{
+    let mut joins = [0u16; 64];
+    join_entries(entries, at, k, &mut joins);
+    let size = rename_side(
+        text,
+        from,
+        starts,
+        sizes,
+        hints,
+        n,
+        prefix,
+        &joins,
+        k,
+        pool,
+        targets,
+        spans,
+        line,
+    );
+    size - 1
+}
+
+// A project's side: the positions of the join list in one of its fields, and of the constants, then its names.
+pub fn prepare(
+    text: &[u8],
+    from: usize,
+    starts: &[u16; 1024],
+    sizes: &[u16; 1024],
+    hints: &[u16; 4096],
+    n: usize,
+    prefix: u8,
+    pairs: &[u8],
+    second: bool,
+    constants: &[u8],
+    pool: &mut [u8],
+    targets: &mut [u16; 1024],
+    spans: &mut [u16; 1024],
+    line: &mut [u8],
+    at: &mut [u16; 64],
+    lines: &mut [u16; 64],
+) -> Prepared
+    requires { ⌜ Asked (now text) from (now starts) (now sizes) (now hints) n (now pairs) (now constants) × Letter prefix × (16384 ≤ length (now pool)) × (length (now targets) ≡ 1024) × (length (now spans) ≡ 1024) × ((k : ℕ) → getD (now spans) k 0 ≡ 0) × (length (now line) ≡ 8336) × (length (now at) ≡ 64) × (length (now lines) ≡ 64) ⌝ }
+    ensures { λ r. ⌜ (length (now (at .exit)) ≡ 64) × ((x : Projection) (js ks : List Pair) → TreeIn (now (text .entry)) from (now (starts .entry)) (now (sizes .entry)) (now (hints .entry)) n (tree x) → length (x .columns) ≤ 64 → Listed (now (pairs .entry)) js → Listed (now (constants .entry)) ks → PreparedIs (now (text .entry)) (now (starts .entry)) (now (sizes .entry)) n prefix second (now (constants .entry)) x js ks (now (pool .exit)) (now (targets .exit)) (now (spans .exit)) (now (line .exit)) (now (at .exit)) (now (lines .exit)) r) ⌝ }
+{
+    let mut entries = [0u16; 64];
+    let mut join_at = [0u16; 64];
+    let mut join_lines = [0u16; 64];
+    let found = find_columns(text, from, starts, sizes, hints, n, &mut entries);
+    let columns = found.columns;
+    let Positions::Are(k) = read_positions(pairs, second, columns, &mut join_at, &mut join_lines)
+    else {
+        return Prepared::Outside;
+    };
+    let Positions::Are(m) = read_positions(constants, false, columns, at, lines) else {
+        return Prepared::Outside;
+    };
+    let end = name_columns(
+        text,
+        from,
+        starts,
+        sizes,
+        hints,
+        n,
+        prefix,
+        &entries,
+        &join_at,
+        k,
+        pool,
+        targets,
+        spans,
+        line,
+    );
+    Prepared::Ready(Side {
+        inner: found.inner,
+        columns,
+        constant: position_mask(at, m, columns),
+        joined: position_mask(&join_at, k, columns),
+        constants: m,
+        end,
+    })
 }
 
 const JOIN: [u8; 5] = *b"join\n";
