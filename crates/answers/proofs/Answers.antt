@@ -42,6 +42,12 @@ spared b spare spare′ need e h k =
     ap₂ take long (ap (λ (x : Em). x .out) e ∙ puts-out b (em 0 spare) (omega arith) ∙ sets-eq b spare 0 (omega arith))
     ∙ take-append-seam b (drop (0 + length b) spare)
 
+-- a short answer is copied from a spare buffer of k bytes
+pub copied : (b out : Bytes) (need : ℕ) (spare spare′ : Bytes) → em need spare′ ≡ puts b (em 0 spare) → (size : ℕ) (out′ : Bytes) (k : ℕ) → need ≤ length out → length out < last → length spare ≡ k → k < last → need ≤ k
+    → em size out′ ≡ puts (piece 0 need spare′) (em 0 out) → Answered (written b) out out′ (Written size)
+copied b out need spare spare′ m size out′ k i j l x y e =
+    all-written b out need spare spare′ m size out′ i j (e ∙ ap (λ (c : Bytes). puts c (em 0 out)) (spared b spare spare′ need m (omega arith) (omega arith)))
+
 -- the answer for what the texts say
 pub answered : (o q : Outcome) (before after : Bytes) (r : Answer) → q ≡ o → Answered o before after r → Answered q before after r
 answered o q before after r e h = subst (λ (x : Outcome). Answered x before after r) (sym e) h

@@ -39,7 +39,8 @@ use Rattle.answers.specs.declared.Answer.{Answer}
 use Rattle.answers.specs.declared.Answer.the-variants.{Written, Malformed, OverBound, TooShort}
 use Rattle.answers.specs.Outcome.{Outcome, refused, written, Reported, Answered}
 use Rattle.gandeuch.specs.Rename.{becomes, renameOutcome}
-use Rattle.gandeuch.specs.Code.{Known, KnownPairs, Targets, lookLast}
+use Rattle.heads.specs.Known.{Known}
+use Rattle.gandeuch.specs.Code.{KnownPairs, Targets, lookLast}
 use Rattle.gandeuch.proofs.Tables.{known-valid, known-depth, known-names, known-lines}
 use Rattle.reading.proofs.Said.{said-good}
 use Rattle.scoping.proofs.Alike.{rename-alike}

@@ -24,7 +24,8 @@ use Rattle.answers.specs.declared.Answer.{Answer}
 use Rattle.answers.specs.declared.Answer.the-variants.{Written, Malformed, OverBound, TooShort}
 use Rattle.answers.specs.Outcome.{Outcome, refused, written, Reported, Answered}
 use Rattle.gandeuch.specs.Scope.{scopeText, scopeOutcome}
-use Rattle.gandeuch.specs.Code.{Known, chosenText}
+use Rattle.heads.specs.Known.{Known}
+use Rattle.gandeuch.specs.Code.{chosenText}
 use Rattle.gandeuch.proofs.Tables.{known-valid, known-depth, known-few, known-names, known-lines}
 use Rattle.walking.proofs.Chosen.{chosen-in-scope, chosen-hidden}
 use Rattle.answers.proofs.Answers.{too-short, all-written, answered}

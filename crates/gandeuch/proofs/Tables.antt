@@ -26,7 +26,7 @@ use Rattle.scoping.specs.Sets.{Once}
 use Rattle.scoping.specs.Numbering.{byPlace}
 use Rattle.scoping.proofs.FirstPlaces.{by-place-once}
 use Rattle.walking.specs.Code.{Named}
-use Rattle.gandeuch.specs.Code.{Known}
+use Rattle.heads.specs.Known.{Known}
 
 module _ (s : Bytes) (a l h : List ℕ) (n : ℕ) (k : Known s a l h n) where
   is-tree : IsTree bounds s (k .pattern)

@@ -18,12 +18,6 @@ use Rattle.emit.specs.Emit.{Em, puts}
 use Rattle.walking.specs.Code.{replacement}
 use Rattle.walking.specs.Flags.{chosen}
 
--- a text that was checked: it is a tree's, and the table lists the tree's names
-pub record Known (tree : Bytes) (starts sizes hints : List ℕ) (n : ℕ) : Type 0 where
-  pub pattern : Pattern
-  pub read : readTree tree ≡ reads pattern
-  pub table : Holds tree starts sizes hints n (byPlace pattern)
-
 -- a text that is a mapping's
 pub record KnownPairs (pairs : Bytes) : Type 0 where
   pub list : List Pair

@@ -19,7 +19,8 @@ ghost use Rattle.algebra.specs.Valid.{mem};
 ghost use Rattle.walking.specs.Code.{Named};
 ghost use Rattle.answers.specs.Outcome.{Answered};
 ghost use Rattle.gandeuch.specs.Rename.{renameOutcome};
-ghost use Rattle.gandeuch.specs.Code.{Known, KnownPairs, Targets, Settled};
+ghost use Rattle.heads.specs.Known.{Known};
+ghost use Rattle.gandeuch.specs.Code.{KnownPairs, Targets, Settled};
 
 // A line of the mapping, whose fields end at `to` and `end`: the entry of its first name, if it is in the table, gets the second.
 fn set_target(

@@ -17,7 +17,8 @@ ghost use Rattle.emit.specs.Emit.{em, puts};
 ghost use Rattle.answers.specs.Outcome.{Answered};
 ghost use Rattle.gandeuch.specs.Scope.{scopeOutcome};
 ghost use Rattle.walking.specs.Flags.{chosen};
-ghost use Rattle.gandeuch.specs.Code.{Known, chosenText, tabbed};
+ghost use Rattle.heads.specs.Known.{Known};
+ghost use Rattle.gandeuch.specs.Code.{chosenText, tabbed};
 
 // The names whose flags from `base` on are set, each after a tab.
 fn put_names(

@@ -1,1 +1,2 @@
 pub mod TreeAt
+pub mod Known

@@ -1,0 +1,158 @@
+-- The ways out of the calls that join: refusals in document 01's order, and what is written. Assumes nothing.
+use Prim.Native.Nat.{ℕ, _≤_, _<_}
+use mathlib.Core.Path.{_≡_, refl, sym, ap, ap₂, subst, _∙_}
+use mathlib.Core.List.{List, [], _∷_, _++_, map}
+use mathlib.Core.Bool.{Bool, true, false, not, _&&_, true≢false, false≢true}
+use mathlib.Core.Option.{Option, none, some}
+use lib.ListN.{length, getD, take}
+use lib.Dec.{ltb}
+use borrow.Author.Tests.{not-true, not-false}
+use Rattle.text.specs.Text.{Bytes, Line, same, linesFrom}
+use Rattle.text.specs.Word.{bytes}
+use Rattle.text.specs.Field.{given}
+use Rattle.algebra.specs.Tree.{Pattern}
+use Rattle.algebra.specs.Query.{Pair, joins, constants}
+use Rattle.algebra.specs.Layout.{put, layout}
+use Rattle.algebra.specs.Reader.{reads, refuses, malformed, overBound}
+use Rattle.algebra.specs.Texts.{readPairs}
+use Rattle.algebra.specs.declared.Answer.{Answer as Check}
+use Rattle.algebra.specs.declared.Answer.the-variants as C
+use Rattle.answers.specs.Outcome.{Outcome, refused, written, Reported, Answered, orRefused, refusedUnless}
+use Rattle.answers.specs.declared.Answer.{Answer}
+use Rattle.answers.specs.declared.Answer.the-variants.{Outside, NotProject}
+use Rattle.names.specs.Checked.{Checked}
+use Rattle.lists.specs.Pairs.{keysOf}
+use Rattle.reading.proofs.Said.{said-malformed, said-over}
+use Rattle.scoping.specs.Sets.{all}
+use Rattle.scoping.specs.Premises.{inside}
+use Rattle.merging.specs.Sides.{Constant}
+use Rattle.merging.specs.Request.{Projection, tree, asProject, made, readJoins, readConstants, joinPositions, byPosition, constantsIn, positions, request, allInside}
+use Rattle.merging.specs.Merge.{lists, mergeProjectPatterns, mergeTrees}
+use Rattle.merging.specs.Push.{pushConstantsInProjectPattern}
+use Rattle.merging.proofs.Given.{project-of}
+use Rattle.merging.proofs.Lines.{root-word}
+use Rattle.merging.proofs.Lists.{sorted-test}
+use Rattle.sides.specs.Listed.{positionsIn}
+use Rattle.joining.specs.Joining.{KnownTerms, ListsRead, bothTerms, TermsChecked, ListsChecked, pushedBehind, mergedBehind, joinedBehind}
+use Rattle.joining.proofs.Picks.{positions-are}
+use Rattle.joining.proofs.Merged.{lefts-are, rights-are}
+use Rattle.joining.proofs.Known.{good-terms, KnownJoins, good-joins}
+
+-- ---- the checks of lists
+
+module _ (a b : Bytes) where
+  pub terms-malformed : readPairs constants a ≡ refuses malformed → TermsChecked a b C.Malformed
+  unfolding TermsChecked readConstants
+  terms-malformed e k = rw e
+
+  pub terms-over : readPairs constants a ≡ refuses overBound → TermsChecked a b C.OverBound
+  unfolding TermsChecked readConstants
+  terms-over e k = rw e
+
+  second-malformed : KnownTerms a → readPairs constants b ≡ refuses malformed → TermsChecked a b C.Malformed
+  unfolding TermsChecked readConstants
+  second-malformed t e k = rw (t .read, e)
+
+  second-over : KnownTerms a → readPairs constants b ≡ refuses overBound → TermsChecked a b C.OverBound
+  unfolding TermsChecked readConstants
+  second-over t e k = rw (t .read, e)
+
+  pub terms-second : (s l h : List ℕ) (r : Check) → KnownTerms a → Checked (keysOf constants) b s l h (readPairs constants b) r → TermsChecked a b r
+  unfolding TermsChecked
+  terms-second s l h (C.Good n) t c = (t, good-terms b s l h (C.Good n) n c refl)
+  terms-second s l h C.Malformed t c = second-malformed t (said-malformed (keysOf constants) b s l h C.Malformed (readPairs constants b) c refl)
+  terms-second s l h C.OverBound t c = second-over t (said-over (keysOf constants) b s l h C.OverBound (readPairs constants b) c refl)
+
+  module _ (pairs : Bytes) where
+    pub lists-malformed : readPairs joins pairs ≡ refuses malformed → ListsChecked pairs a b C.Malformed
+    unfolding ListsChecked readJoins
+    lists-malformed e k = rw e
+
+    pub lists-over : readPairs joins pairs ≡ refuses overBound → ListsChecked pairs a b C.OverBound
+    unfolding ListsChecked readJoins
+    lists-over e k = rw e
+
+    pub lists-rest : (r : Check) → KnownJoins pairs → TermsChecked a b r → ListsChecked pairs a b r
+    unfolding ListsChecked TermsChecked
+    lists-rest (C.Good n) j t = record { js = j .list; joins = j .listed; joins-read = j .read; left = t .0; right = t .1 }
+    lists-rest C.Malformed j t = λ k. rw (j .read) (t (k (joinPositions (j .list))))
+    lists-rest C.OverBound j t = λ k. rw (j .read) (t (k (joinPositions (j .list))))
+
+-- ---- positions
+
+pub inside-sorted : (cs : List Bytes) (ks : List Pair) → inside cs (positions (byPosition (constantsIn ks))) ≡ inside cs (positionsIn false ks)
+unfolding inside
+inside-sorted cs ks = over (byPosition (constantsIn ks)) ∙ sorted-test (λ k. ltb (k .position) (length cs)) (constantsIn ks) ∙ sym (over (constantsIn ks)) ∙ ap (all (λ i. ltb i (length cs))) (positions-are ks)
+  where
+    over : (xs : List Constant) → all (λ i. ltb i (length cs)) (positions xs) ≡ all (λ k. ltb (k .position) (length cs)) xs
+    over [] = refl
+    over (x ∷ xs) = ap (λ (t : Bool). ltb (x .position) (length cs) && t) (over xs)
+
+all-inside-is : (x y : Projection) (js ks ls : List Pair) → allInside (request x y (joinPositions js) (byPosition (constantsIn ks)) (byPosition (constantsIn ls)))
+    ≡ ((inside (x .columns) (positionsIn false js) && inside (y .columns) (positionsIn true js)) && (inside (x .columns) (positionsIn false ks) && inside (y .columns) (positionsIn false ls)))
+unfolding allInside
+all-inside-is x y js ks ls = ap₂ _&&_
+    (ap₂ _&&_ (ap (inside (x .columns)) (lefts-are js)) (ap (inside (y .columns)) (rights-are js)))
+    (ap₂ _&&_ (inside-sorted (x .columns) ks) (inside-sorted (y .columns) ls))
+
+no-left : (a b c d : Bool) → (a && c) ≡ false → ((a && b) && (c && d)) ≡ false
+no-left false b c d e = refl
+no-left true true c d e = ap (λ (t : Bool). t && d) e
+no-left true false c d e = refl
+
+no-right : (a b c d : Bool) → (b && d) ≡ false → ((a && b) && (c && d)) ≡ false
+no-right false b c d e = refl
+no-right true false c d e = refl
+no-right true true true d e = e
+no-right true true false d e = refl
+
+-- ---- two projects
+
+module _ (head : Bytes) (x y : Projection) (js ks ls : List Pair) where
+  refused-three : (out : Bytes) → allInside (request x y (joinPositions js) (byPosition (constantsIn ks)) (byPosition (constantsIn ls))) ≡ false → Answered (joinedBehind head x y js ks ls) out out Outside
+  unfolding Reported
+  refused-three out e = rw e (refl, refl, refl)
+
+  pub left-outside : (out : Bytes) → (inside (x .columns) (positionsIn false js) && inside (x .columns) (positionsIn false ks)) ≡ false → Answered (joinedBehind head x y js ks ls) out out Outside
+  left-outside out e = refused-three out (all-inside-is x y js ks ls ∙ no-left (inside (x .columns) (positionsIn false js)) (inside (y .columns) (positionsIn true js)) (inside (x .columns) (positionsIn false ks)) (inside (y .columns) (positionsIn false ls)) e)
+
+  pub right-outside : (out : Bytes) → (inside (y .columns) (positionsIn true js) && inside (y .columns) (positionsIn false ls)) ≡ false → Answered (joinedBehind head x y js ks ls) out out Outside
+  right-outside out e = refused-three out (all-inside-is x y js ks ls ∙ no-right (inside (x .columns) (positionsIn false js)) (inside (y .columns) (positionsIn true js)) (inside (x .columns) (positionsIn false ks)) (inside (y .columns) (positionsIn false ls)) e)
+
+  pub joined-is : inside (x .columns) (positionsIn false js) ≡ true → inside (y .columns) (positionsIn true js) ≡ true → inside (x .columns) (positionsIn false ks) ≡ true → inside (y .columns) (positionsIn false ls) ≡ true
+      → joinedBehind head x y js ks ls ≡ written (head ++ layout (mergeProjectPatterns (request x y (joinPositions js) (byPosition (constantsIn ks)) (byPosition (constantsIn ls)))))
+  joined-is a b c d = rw (all-inside-is x y js ks ls ∙ ap₂ _&&_ (ap₂ _&&_ a b) (ap₂ _&&_ c d))
+
+-- ---- two trees
+
+-- a root that the code finds to be no project, or a project
+module _ (s : Bytes) (from : ℕ) (p : Pattern) (lines : linesFrom s from ≡ put p []) (r : Bool) (e : r ≡ same (getD (getD (linesFrom s from) 0 []) 0 []) (bytes "project")) where
+  root-given : r ≡ given (asProject p)
+  root-given = e ∙ ap (λ (ls : List Line). same (getD (getD ls 0 []) 0 []) (bytes "project")) lines ∙ sym (root-word p [])
+
+  pub no-project : not r ≡ true → asProject p ≡ none
+  no-project h = go (asProject p) (sym root-given ∙ not-true r h)
+    where
+      go : (o : Option Projection) → given o ≡ false → o ≡ none
+      go none q = refl
+      go (some x) q = absurd (true≢false q)
+
+  pub a-project : not r ≡ false → (x : Projection) × (asProject p ≡ some x) × (p ≡ tree x)
+  a-project h = go (asProject p) refl (sym root-given ∙ not-false r h)
+    where
+      go : (o : Option Projection) → asProject p ≡ o → given o ≡ true → (x : Projection) × (asProject p ≡ some x) × (p ≡ tree x)
+      go none q z = absurd (false≢true z)
+      go (some x) q z = (x, q, project-of p x q)
+
+module _ (head : Bytes) (p q : Pattern) (js ks ls : List Pair) where
+  pub left-no-project : (out : Bytes) → asProject p ≡ none → Answered (mergedBehind head p q js ks ls) out out NotProject
+  unfolding Reported mergeTrees
+  left-no-project out e = rw e (refl, refl, refl)
+
+  pub right-no-project : (out : Bytes) (x : Projection) → asProject p ≡ some x → asProject q ≡ none → Answered (mergedBehind head p q js ks ls) out out NotProject
+  unfolding Reported mergeTrees
+  right-no-project out x e f = rw (e, f) (refl, refl, refl)
+
+  pub merged-as : (x y : Projection) → asProject p ≡ some x → asProject q ≡ some y → mergedBehind head p q js ks ls ≡ joinedBehind head x y js ks ls
+  unfolding mergeTrees
+  merged-as x y e f = rw (e, f)

@@ -1,0 +1,143 @@
+-- What a pass of the code writes: a head, the line of columns, the lines of each side. Assumes nothing.
+use Prim.Native.Nat.{ℕ, _≤_}
+use mathlib.Core.Path.{_≡_, refl, sym, ap, ap₂, subst, _∙_}
+use mathlib.Core.List.{List, [], _∷_, _++_, append-assoc}
+use mathlib.Core.Bool.{Bool, true, false, _&&_}
+use lib.ListN.{length}
+use Rattle.text.specs.Text.{Bytes, Line, ended, textOf}
+use Rattle.text.specs.Word.{bytes}
+use Rattle.algebra.specs.Tree.{Pattern}
+use Rattle.algebra.specs.Query.{Pair}
+use Rattle.algebra.specs.Layout.{put, layout}
+use Rattle.emit.specs.Emit.{Em, em, puts}
+use Rattle.emit.proofs.Laws.{puts-append, puts-nil}
+use Rattle.walking.specs.Walk.{tabbed}
+use Rattle.walking.proofs.Written.{puts-ended}
+use Rattle.merging.specs.Request.{Projection, tree}
+use Rattle.sides.specs.declared.side.Side.{Side}
+use Rattle.sides.specs.declared.side.Prepared.{Prepared}
+use Rattle.sides.specs.declared.side.Prepared.the-variants.{Outside, Ready}
+use Rattle.scoping.specs.Premises.{inside}
+use Rattle.sides.specs.Listed.{Listed, positionsIn}
+use Rattle.sides.specs.Side.{Asked, newNames, SideIs, PreparedIs}
+use Rattle.text.specs.Text.{split, linesIn, linesOf}
+use native.Mathlib.Omega.{arith}
+use Rattle.algebra.specs.Layout.{putPairs}
+use Rattle.answers.specs.Outcome.{written, Reported, Answered}
+use Rattle.answers.specs.declared.Answer.the-variants.{Outside as AnswerOutside}
+use Rattle.text.specs.Field.{clean}
+use Rattle.scoping.specs.Label.{prefixL, prefixR, prefixV}
+use Rattle.merging.proofs.Names.{Letter}
+use Rattle.scoping.specs.Sets.{all}
+use Rattle.merging.specs.Sides.{renamedPattern}
+use Rattle.merging.specs.Request.{byPosition, constantsIn, joinPositions, request}
+use Rattle.merging.specs.Merge.{mergeProjectPatterns}
+use Rattle.merging.proofs.Lists.{map-length}
+use Rattle.merging.specs.Push.{onlySide, pushConstantsInProjectPattern}
+use Rattle.merging.proofs.Lines.{push-lines}
+use Rattle.sides.specs.Columns.{columnsIn, picked}
+use Rattle.joining.specs.Joining.{Stands, KnownTerms, pushedBehind}
+use Rattle.joining.proofs.SideLines.{side, side-free}
+use Rattle.joining.proofs.Outcomes.{inside-sorted}
+
+pub put-piece : (b c : Bytes) (e e′ : Em) → e′ ≡ puts b e → b ≡ c → e′ ≡ puts c e
+put-piece b c e e′ p q = p ∙ ap (λ (x : Bytes). puts x e) q
+
+-- ---- the line of columns
+
+tabbed-append : (us vs : List Bytes) → tabbed (us ++ vs) ≡ tabbed us ++ tabbed vs
+unfolding tabbed
+tabbed-append [] vs = refl
+tabbed-append (u ∷ us) vs = ap (λ (l : Bytes). 9 ∷ (u ++ l)) (tabbed-append us vs) ∙ ap (λ (l : Bytes). 9 ∷ l) (sym (append-assoc u (tabbed us) (tabbed vs)))
+
+-- of one side
+pub one-head : (head : Bytes) (cs : List Bytes) (e e₁ e₂ e₃ e₄ : Em) → e₁ ≡ puts head e → e₂ ≡ puts (bytes "project") e₁ → e₃ ≡ puts (tabbed cs) e₂ → e₄ ≡ puts (10 ∷ []) e₃
+    → (t : List Line) → puts (textOf t) e₄ ≡ puts (head ++ textOf ((bytes "project" ∷ cs) ∷ t)) e
+unfolding textOf
+one-head head cs e e₁ e₂ e₃ e₄ p₁ p₂ p₃ p₄ t =
+    ap (puts (textOf t)) (p₄ ∙ ap (puts (10 ∷ [])) (p₃ ∙ ap (puts (tabbed cs)) p₂))
+    ∙ puts-ended (bytes "project") cs (textOf t) e₁
+    ∙ ap (puts (ended (bytes "project" ∷ cs) (textOf t))) p₁
+    ∙ sym (puts-append head (ended (bytes "project" ∷ cs) (textOf t)) e)
+
+join-line : (t : List Line) (e : Em) → puts (textOf t) (puts (bytes "\njoin\n") e) ≡ puts (textOf ((bytes "join" ∷ []) ∷ t)) (puts (10 ∷ []) e)
+unfolding textOf ended puts
+join-line t e = refl
+
+-- of two sides, and the join's line
+pub two-heads : (head : Bytes) (us vs : List Bytes) (e e₁ e₂ e₃ e₄ e₅ : Em) → e₁ ≡ puts head e → e₂ ≡ puts (bytes "project") e₁ → e₃ ≡ puts (tabbed us) e₂ → e₄ ≡ puts (tabbed vs) e₃ → e₅ ≡ puts (bytes "\njoin\n") e₄
+    → (t : List Line) → puts (textOf t) e₅ ≡ puts (head ++ textOf ((bytes "project" ∷ (us ++ vs)) ∷ (bytes "join" ∷ []) ∷ t)) e
+two-heads head us vs e e₁ e₂ e₃ e₄ e₅ p₁ p₂ p₃ p₄ p₅ t =
+    ap (puts (textOf t)) p₅ ∙ join-line t e₄
+    ∙ one-head head (us ++ vs) e e₁ e₂ e₄ (puts (10 ∷ []) e₄) p₁ p₂ (p₄ ∙ ap (puts (tabbed vs)) p₃ ∙ sym (ap (λ (l : Bytes). puts l e₂) (tabbed-append us vs) ∙ puts-append (tabbed us) (tabbed vs) e₂)) refl ((bytes "join" ∷ []) ∷ t)
+
+-- ---- a whole pass
+
+module _ (head : Bytes) (e e₁ e₂ : Em) where
+  -- one side behind its head
+  pub pass-one : (first raw side : List Line → List Line) (p : Pattern) → ((t : List Line) → puts (textOf t) e₁ ≡ puts (head ++ textOf (first t)) e) → ((t : List Line) → puts (textOf t) e₂ ≡ puts (textOf (raw t)) e₁)
+      → ((t : List Line) → raw t ≡ side t) → first (side []) ≡ put p [] → e₂ ≡ puts (head ++ layout p) e
+  unfolding layout textOf
+  pass-one first raw side p h w r f = sym (puts-nil e₂) ∙ w [] ∙ h (raw []) ∙ ap (λ (ls : List Line). puts (head ++ textOf (first ls)) e) (r []) ∙ ap (λ (ls : List Line). puts (head ++ textOf ls) e) f
+
+  -- two sides
+  pub pass-two : (e₃ : Em) (first raw side raw′ side′ : List Line → List Line) (p : Pattern) → ((t : List Line) → puts (textOf t) e₁ ≡ puts (head ++ textOf (first t)) e) → ((t : List Line) → puts (textOf t) e₂ ≡ puts (textOf (raw t)) e₁)
+      → ((t : List Line) → puts (textOf t) e₃ ≡ puts (textOf (raw′ t)) e₂) → ((t : List Line) → raw t ≡ side t) → ((t : List Line) → raw′ t ≡ side′ t) → first (side (side′ [])) ≡ put p [] → e₃ ≡ puts (head ++ layout p) e
+  unfolding layout textOf
+  pass-two e₃ first raw side raw′ side′ p h w w′ r r′ f =
+      sym (puts-nil e₃) ∙ w′ [] ∙ w (raw′ []) ∙ h (raw (raw′ []))
+      ∙ ap (λ (ls : List Line). puts (head ++ textOf (first ls)) e) (ap raw (r′ []) ∙ r (side′ []))
+      ∙ ap (λ (ls : List Line). puts (head ++ textOf ls) e) f
+
+-- ---- sides that are prepared
+
+pub asked-of : (s : Bytes) (at : ℕ) (a l h : List ℕ) (n : ℕ) (pairs constants : Bytes) (x : Projection) (js : List Pair) → Stands s at a l h n (tree x) → Listed pairs js → KnownTerms constants → Asked s at a l h n pairs constants
+asked-of s at a l h n pairs constants x js t j k = record { projection = x; stands = t .tree-in; narrow = t .narrow x refl; joins = js; joins-listed = j; terms = k .list; terms-listed = k .terms .listed }
+
+module _ (text : Bytes) (starts sizes : List ℕ) (n prefix : ℕ) (second : Bool) (constants : Bytes) (x : Projection) (js ks : List Pair) (pool targets spans line at lines : List ℕ) (r : Prepared)
+    (p : PreparedIs text starts sizes n prefix second constants x js ks pool targets spans line at lines r) where
+  pub prepared-outside : r ≡ Outside → (inside (x .columns) (positionsIn second js) && inside (x .columns) (positionsIn false ks)) ≡ false
+  unfolding PreparedIs
+  prepared-outside e = subst (PreparedIs text starts sizes n prefix second constants x js ks pool targets spans line at lines) e p
+
+  pub prepared-ready : (s : Side) → r ≡ Ready s → (inside (x .columns) (positionsIn second js) ≡ true) × (inside (x .columns) (positionsIn false ks) ≡ true) × SideIs text starts sizes n prefix second constants x js ks pool targets spans line at lines s
+  unfolding PreparedIs
+  prepared-ready s e = subst (PreparedIs text starts sizes n prefix second constants x js ks pool targets spans line at lines) e p
+
+-- ---- one side: a push
+
+-- no join list
+pub none-listed : Listed [] []
+unfolding putPairs linesOf linesIn split
+none-listed = record { lines = refl; few = omega arith; short = omega arith }
+
+abbrev pub pushed : Projection → List Pair → Pattern
+pushed x ks = pushConstantsInProjectPattern x (byPosition (constantsIn ks))
+
+module _ (text : Bytes) (starts sizes : List ℕ) (n : ℕ) (constants : Bytes) (x : Projection) (ks : List Pair) (pool targets spans line at lines : List ℕ) (s : Side)
+    (is : SideIs text starts sizes n prefixV false constants x [] ks pool targets spans line at lines s) where
+  pub pushed-lines : (bytes "project" ∷ picked 0 (s .constant) (columnsIn line (s .end))) ∷ put (renamedPattern (side text starts sizes n prefixV false constants x [] ks pool targets spans line at lines s is)) [] ≡ put (pushed x ks) []
+  pushed-lines = ap (λ (cs : List Bytes). (bytes "project" ∷ cs) ∷ put (renamedPattern (onlySide x (byPosition (constantsIn ks)))) []) (side-free text starts sizes n prefixV false constants x [] ks pool targets spans line at lines s is) ∙ sym (push-lines x (byPosition (constantsIn ks)) [])
+
+module _ (head : Bytes) (x : Projection) (ks : List Pair) where
+  pub pushed-outside : (out : Bytes) → (inside (x .columns) (positionsIn false []) && inside (x .columns) (positionsIn false ks)) ≡ false → Answered (pushedBehind head x ks) out out AnswerOutside
+  unfolding Reported inside all
+  pushed-outside out e = rw (inside-sorted (x .columns) ks ∙ e) (refl, refl, refl)
+
+  pub pushed-is : inside (x .columns) (positionsIn false ks) ≡ true → pushedBehind head x ks ≡ written (head ++ layout (pushed x ks))
+  pushed-is e = rw (inside-sorted (x .columns) ks ∙ e)
+
+-- the prefixes may stand in a field
+pub letters : Letter prefixL × Letter prefixR × Letter prefixV
+unfolding clean
+letters = (refl, refl, refl)
+
+-- ---- two sides: a merge
+
+abbrev pub merged : Projection → Projection → List Pair → List Pair → List Pair → Pattern
+merged x y js ks ls = mergeProjectPatterns (request x y (joinPositions js) (byPosition (constantsIn ks)) (byPosition (constantsIn ls)))
+
+-- a side's line has 64 columns at most
+pub columns-few : (text : Bytes) (starts sizes : List ℕ) (n prefix : ℕ) (second : Bool) (constants : Bytes) (x : Projection) (js ks : List Pair) (pool targets spans line at lines : List ℕ) (s : Side)
+    → SideIs text starts sizes n prefix second constants x js ks pool targets spans line at lines s → length (x .columns) ≤ 64 → length (columnsIn line (s .end)) ≤ 64
+columns-few text starts sizes n prefix second constants x js ks pool targets spans line at lines s is h = let e = ap length (is .columns) ∙ map-length (newNames prefix second x js) (x .columns) in omega arith

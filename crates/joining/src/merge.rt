@@ -1,0 +1,586 @@
+// The calls merge patterns and merge queries: two trees, or two queries, joined into one.
+use algebra::Answer as Check;
+use answers::Answer;
+use emit::put_all;
+use heads::is_mergeable;
+use heads::tree_start;
+use lists::check_constants;
+use lists::check_joins;
+use reading::check_query;
+use reading::check_tree;
+use sides::columns::joined_mask;
+use sides::columns::put_columns;
+use sides::columns::width;
+use sides::side::Prepared;
+use sides::side::Side;
+use sides::side::is_project;
+use sides::side::prepare;
+use sides::side::put_side;
+use text::piece;
+ghost use mathlib.Core.Path.{_≡_};
+ghost use Prim.Native.Nat.{_-_, _≤_};
+ghost use mathlib.Core.List.{List, [], _∷_, _++_};
+ghost use lib.ListN.{length, take};
+ghost use lib.Count.{ones};
+ghost use Rattle.text.specs.Text.{Line, textOf};
+ghost use Rattle.text.specs.Word.{bytes};
+ghost use Rattle.emit.specs.Emit.{em, puts};
+ghost use Rattle.algebra.specs.Query.{Pair};
+ghost use Rattle.answers.specs.Outcome.{Answered};
+ghost use Rattle.algebra.specs.Tree.{Pattern};
+ghost use Rattle.merging.specs.Request.{Projection, tree};
+ghost use Rattle.merging.specs.Merge.{mergePatternsOutcome, mergeQueriesOutcome};
+ghost use Rattle.heads.specs.Known.{Known, KnownQuery};
+ghost use Rattle.sides.specs.Columns.{columnsIn, picked};
+ghost use Rattle.joining.specs.Joining.{Stands, Lists, joinedBehind, mergedBehind, ListsRead, TermsChecked, ListsChecked};
+
+const PROJECT: [u8; 7] = *b"project";
+
+const JOIN: [u8; 6] = *b"\njoin\n";
+
+// The head, the merged columns, and the join's line.
+fn put_head(
+    left: &[u8],
+    from: usize,
+    left_line: &[u8],
+    l: Side,
+    right_line: &[u8],
+    r: Side,
+    gone: u64,
+    out: &mut [u8],
+) -> usize
+    requires { ⌜ (l .end ≤ length (now «left_line»)) × (ones (l .constant) ≤ l .columns) × (l .columns - ones (l .constant) ≡ length (picked 0 (l .constant) (columnsIn (now «left_line») (l .end)))) × (r .end ≤ length (now «right_line»)) × (ones gone ≤ r .columns) × (r .columns - ones gone ≡ length (picked 0 gone (columnsIn (now «right_line») (r .end)))) ⌝ }
+    ensures { λ result. ⌜ ((t : List Line) → puts (textOf t) (em result (now (out .exit))) ≡ puts (take from (now (left .entry)) ++ textOf ((bytes "project" ∷ (picked 0 (l .constant) (columnsIn (now («left_line» .entry)) (l .end)) ++ picked 0 gone (columnsIn (now («right_line» .entry)) (r .end)))) ∷ (bytes "join" ∷ []) ∷ t)) (em 0 (now (out .entry)))) ⌝ }
+{
+    let a = put_all(out, 0, piece(left, 0, from));
+    let b = put_all(out, a, &PROJECT);
+    let c = put_columns(
+        left_line,
+        l.end,
+        l.constant,
+        0,
+        width(l.columns, l.constant),
+        out,
+        b,
+    );
+    let d = put_columns(right_line, r.end, gone, 0, width(r.columns, gone), out, c);
+    put_all(out, d, &JOIN)
+}
+
+// merge_project_patterns for two projects, behind the left text's head: names, masks, then measured and written.
+fn merge_projects(
+    left: &[u8],
+    left_from: usize,
+    left_starts: &[u16; 1024],
+    left_sizes: &[u16; 1024],
+    left_hints: &[u16; 4096],
+    left_n: usize,
+    right: &[u8],
+    right_from: usize,
+    right_starts: &[u16; 1024],
+    right_sizes: &[u16; 1024],
+    right_hints: &[u16; 4096],
+    right_n: usize,
+    pairs: &[u8],
+    left_constants: &[u8],
+    right_constants: &[u8],
+    out: &mut [u8],
+) -> Answer
+    requires { ⌜ ((x : Projection) × Stands (now left) «left_from» (now «left_starts») (now «left_sizes») (now «left_hints») «left_n» (tree x)) × ((y : Projection) × Stands (now right) «right_from» (now «right_starts») (now «right_sizes») (now «right_hints») «right_n» (tree y)) × ListsRead (now pairs) (now «left_constants») (now «right_constants») ⌝ }
+    ensures { λ r. ⌜ ((x y : Projection) (js ks ls : List Pair) → Stands (now (left .entry)) «left_from» (now («left_starts» .entry)) (now («left_sizes» .entry)) (now («left_hints» .entry)) «left_n» (tree x) → Stands (now (right .entry)) «right_from» (now («right_starts» .entry)) (now («right_sizes» .entry)) (now («right_hints» .entry)) «right_n» (tree y) → Lists (now (pairs .entry)) (now («left_constants» .entry)) (now («right_constants» .entry)) js ks ls → Answered (joinedBehind (take «left_from» (now (left .entry))) x y js ks ls) (now (out .entry)) (now (out .exit)) r) ⌝ }
+{
+    let mut left_pool = [0u8; 16384];
+    let mut left_targets = [0u16; 1024];
+    let mut left_spans = [0u16; 1024];
+    let mut left_line = [0u8; 8336];
+    let mut left_at = [0u16; 64];
+    let mut left_lines = [0u16; 64];
+    let Prepared::Ready(l) = prepare(
+        left,
+        left_from,
+        left_starts,
+        left_sizes,
+        left_hints,
+        left_n,
+        b'l',
+        pairs,
+        false,
+        left_constants,
+        &mut left_pool,
+        &mut left_targets,
+        &mut left_spans,
+        &mut left_line,
+        &mut left_at,
+        &mut left_lines,
+    ) else {
+        return Answer::Outside;
+    };
+    let mut right_pool = [0u8; 16384];
+    let mut right_targets = [0u16; 1024];
+    let mut right_spans = [0u16; 1024];
+    let mut right_line = [0u8; 8336];
+    let mut right_at = [0u16; 64];
+    let mut right_lines = [0u16; 64];
+    let Prepared::Ready(r) = prepare(
+        right,
+        right_from,
+        right_starts,
+        right_sizes,
+        right_hints,
+        right_n,
+        b'r',
+        pairs,
+        true,
+        right_constants,
+        &mut right_pool,
+        &mut right_targets,
+        &mut right_spans,
+        &mut right_line,
+        &mut right_at,
+        &mut right_lines,
+    ) else {
+        return Answer::Outside;
+    };
+    let gone = joined_mask(&right_line, r.end, r.constant, &left_line, l.end, l.joined);
+    let mut spare = [0u8; 16384];
+    let a = put_head(
+        left,
+        left_from,
+        &left_line,
+        l,
+        &right_line,
+        r,
+        gone,
+        &mut spare,
+    );
+    let b = put_side(
+        left,
+        left_starts,
+        left_sizes,
+        left_hints,
+        left_n,
+        &left_pool,
+        &left_targets,
+        &left_spans,
+        l,
+        &left_line,
+        left_constants,
+        &left_at,
+        &left_lines,
+        &mut spare,
+        a,
+    );
+    let size = put_side(
+        right,
+        right_starts,
+        right_sizes,
+        right_hints,
+        right_n,
+        &right_pool,
+        &right_targets,
+        &right_spans,
+        r,
+        &right_line,
+        right_constants,
+        &right_at,
+        &right_lines,
+        &mut spare,
+        b,
+    );
+    if out.len() < size {
+        return Answer::TooShort;
+    }
+    if size <= 16384 {
+        let copied = put_all(out, 0, piece(&spare, 0, size));
+        return Answer::Written(copied);
+    }
+    let c = put_head(left, left_from, &left_line, l, &right_line, r, gone, out);
+    let d = put_side(
+        left,
+        left_starts,
+        left_sizes,
+        left_hints,
+        left_n,
+        &left_pool,
+        &left_targets,
+        &left_spans,
+        l,
+        &left_line,
+        left_constants,
+        &left_at,
+        &left_lines,
+        out,
+        c,
+    );
+    let put = put_side(
+        right,
+        right_starts,
+        right_sizes,
+        right_hints,
+        right_n,
+        &right_pool,
+        &right_targets,
+        &right_spans,
+        r,
+        &right_line,
+        right_constants,
+        &right_at,
+        &right_lines,
+        out,
+        d,
+    );
+    Answer::Written(put)
+}
+
+// merge_project_patterns: two trees that were checked, behind the left text's head.
+fn merge_trees(
+    left: &[u8],
+    left_from: usize,
+    left_starts: &[u16; 1024],
+    left_sizes: &[u16; 1024],
+    left_hints: &[u16; 4096],
+    left_n: usize,
+    right: &[u8],
+    right_from: usize,
+    right_starts: &[u16; 1024],
+    right_sizes: &[u16; 1024],
+    right_hints: &[u16; 4096],
+    right_n: usize,
+    pairs: &[u8],
+    left_constants: &[u8],
+    right_constants: &[u8],
+    out: &mut [u8],
+) -> Answer
+    requires { ⌜ ((p : Pattern) × Stands (now left) «left_from» (now «left_starts») (now «left_sizes») (now «left_hints») «left_n» p) × ((q : Pattern) × Stands (now right) «right_from» (now «right_starts») (now «right_sizes») (now «right_hints») «right_n» q) × ListsRead (now pairs) (now «left_constants») (now «right_constants») ⌝ }
+    ensures { λ r. ⌜ ((p q : Pattern) (js ks ls : List Pair) → Stands (now (left .entry)) «left_from» (now («left_starts» .entry)) (now («left_sizes» .entry)) (now («left_hints» .entry)) «left_n» p → Stands (now (right .entry)) «right_from» (now («right_starts» .entry)) (now («right_sizes» .entry)) (now («right_hints» .entry)) «right_n» q → Lists (now (pairs .entry)) (now («left_constants» .entry)) (now («right_constants» .entry)) js ks ls → Answered (mergedBehind (take «left_from» (now (left .entry))) p q js ks ls) (now (out .entry)) (now (out .exit)) r) ⌝ }
+{
+    if !is_project(left, left_from) {
+        return Answer::NotProject;
+    }
+    if !is_project(right, right_from) {
+        return Answer::NotProject;
+    }
+    merge_projects(
+        left,
+        left_from,
+        left_starts,
+        left_sizes,
+        left_hints,
+        left_n,
+        right,
+        right_from,
+        right_starts,
+        right_sizes,
+        right_hints,
+        right_n,
+        pairs,
+        left_constants,
+        right_constants,
+        out,
+    )
+}
+
+// The check of two constant lists, in document 01's order.
+fn check_terms(left_constants: &[u8], right_constants: &[u8]) -> Check
+    ensures { λ r. ⌜ TermsChecked (now («left_constants» .entry)) (now («right_constants» .entry)) r ⌝ }
+{
+    let mut starts = [0u16; 1024];
+    let mut sizes = [0u16; 1024];
+    let mut hints = [0u16; 4096];
+    match check_constants(left_constants, &mut starts, &mut sizes, &mut hints) {
+        Check::Good(_) => check_constants(right_constants, &mut starts, &mut sizes, &mut hints),
+        Check::Malformed => Check::Malformed,
+        Check::OverBound => Check::OverBound,
+    }
+}
+
+// The check of the three lists, in document 01's order.
+fn check_lists(pairs: &[u8], left_constants: &[u8], right_constants: &[u8]) -> Check
+    ensures { λ r. ⌜ ListsChecked (now (pairs .entry)) (now («left_constants» .entry)) (now («right_constants» .entry)) r ⌝ }
+{
+    let mut starts = [0u16; 1024];
+    let mut sizes = [0u16; 1024];
+    let mut hints = [0u16; 4096];
+    match check_joins(pairs, &mut starts, &mut sizes, &mut hints) {
+        Check::Good(_) => check_terms(left_constants, right_constants),
+        Check::Malformed => Check::Malformed,
+        Check::OverBound => Check::OverBound,
+    }
+}
+
+// The same for two trees that were checked and any lists.
+fn merge_listed(
+    left: &[u8],
+    left_starts: &[u16; 1024],
+    left_sizes: &[u16; 1024],
+    left_hints: &[u16; 4096],
+    left_n: usize,
+    right: &[u8],
+    right_starts: &[u16; 1024],
+    right_sizes: &[u16; 1024],
+    right_hints: &[u16; 4096],
+    right_n: usize,
+    pairs: &[u8],
+    left_constants: &[u8],
+    right_constants: &[u8],
+    out: &mut [u8],
+) -> Answer
+    requires { ⌜ Known (now left) (now «left_starts») (now «left_sizes») (now «left_hints») «left_n» × Known (now right) (now «right_starts») (now «right_sizes») (now «right_hints») «right_n» ⌝ }
+    ensures { λ r. ⌜ Answered (mergePatternsOutcome (now (left .entry)) (now (right .entry)) (now (pairs .entry)) (now («left_constants» .entry)) (now («right_constants» .entry))) (now (out .entry)) (now (out .exit)) r ⌝ }
+{
+    match check_lists(pairs, left_constants, right_constants) {
+        Check::Good(_) => merge_trees(
+            left,
+            0,
+            left_starts,
+            left_sizes,
+            left_hints,
+            left_n,
+            right,
+            0,
+            right_starts,
+            right_sizes,
+            right_hints,
+            right_n,
+            pairs,
+            left_constants,
+            right_constants,
+            out,
+        ),
+        Check::Malformed => Answer::Malformed,
+        Check::OverBound => Answer::OverBound,
+    }
+}
+
+// The same for a left text that was checked and any right one.
+fn merge_right(
+    left: &[u8],
+    left_starts: &[u16; 1024],
+    left_sizes: &[u16; 1024],
+    left_hints: &[u16; 4096],
+    left_n: usize,
+    right: &[u8],
+    pairs: &[u8],
+    left_constants: &[u8],
+    right_constants: &[u8],
+    out: &mut [u8],
+) -> Answer
+    requires { ⌜ Known (now left) (now «left_starts») (now «left_sizes») (now «left_hints») «left_n» ⌝ }
+    ensures { λ r. ⌜ Answered (mergePatternsOutcome (now (left .entry)) (now (right .entry)) (now (pairs .entry)) (now («left_constants» .entry)) (now («right_constants» .entry))) (now (out .entry)) (now (out .exit)) r ⌝ }
+{
+    let mut right_starts = [0u16; 1024];
+    let mut right_sizes = [0u16; 1024];
+    let mut right_hints = [0u16; 4096];
+    match check_tree(right, &mut right_starts, &mut right_sizes, &mut right_hints) {
+        Check::Good(right_n) => merge_listed(
+            left,
+            left_starts,
+            left_sizes,
+            left_hints,
+            left_n,
+            right,
+            &right_starts,
+            &right_sizes,
+            &right_hints,
+            right_n,
+            pairs,
+            left_constants,
+            right_constants,
+            out,
+        ),
+        Check::Malformed => Answer::Malformed,
+        Check::OverBound => Answer::OverBound,
+    }
+}
+
+// merge patterns: two trees, join list, left and right constants to tree.
+pub fn merge_patterns(
+    left: &[u8],
+    right: &[u8],
+    pairs: &[u8],
+    left_constants: &[u8],
+    right_constants: &[u8],
+    out: &mut [u8],
+) -> Answer
+    ensures { λ r. ⌜ Answered (mergePatternsOutcome (now (left .entry)) (now (right .entry)) (now (pairs .entry)) (now («left_constants» .entry)) (now («right_constants» .entry))) (now (out .entry)) (now (out .exit)) r ⌝ }
+{
+    let mut left_starts = [0u16; 1024];
+    let mut left_sizes = [0u16; 1024];
+    let mut left_hints = [0u16; 4096];
+    match check_tree(left, &mut left_starts, &mut left_sizes, &mut left_hints) {
+        Check::Good(left_n) => merge_right(
+            left,
+            &left_starts,
+            &left_sizes,
+            &left_hints,
+            left_n,
+            right,
+            pairs,
+            left_constants,
+            right_constants,
+            out,
+        ),
+        Check::Malformed => Answer::Malformed,
+        Check::OverBound => Answer::OverBound,
+    }
+}
+
+// The same for two queries and lists that were checked: 5 unless their heads are one, then their trees.
+fn merge_heads(
+    left: &[u8],
+    left_starts: &[u16; 1024],
+    left_sizes: &[u16; 1024],
+    left_hints: &[u16; 4096],
+    left_n: usize,
+    right: &[u8],
+    right_starts: &[u16; 1024],
+    right_sizes: &[u16; 1024],
+    right_hints: &[u16; 4096],
+    right_n: usize,
+    pairs: &[u8],
+    left_constants: &[u8],
+    right_constants: &[u8],
+    out: &mut [u8],
+) -> Answer
+    requires { ⌜ KnownQuery (now left) (now «left_starts») (now «left_sizes») (now «left_hints») «left_n» × KnownQuery (now right) (now «right_starts») (now «right_sizes») (now «right_hints») «right_n» × ListsRead (now pairs) (now «left_constants») (now «right_constants») ⌝ }
+    ensures { λ r. ⌜ Answered (mergeQueriesOutcome (now (left .entry)) (now (right .entry)) (now (pairs .entry)) (now («left_constants» .entry)) (now («right_constants» .entry))) (now (out .entry)) (now (out .exit)) r ⌝ }
+{
+    let left_from = tree_start(left);
+    let right_from = tree_start(right);
+    if !is_mergeable(left, left_from, right, right_from) {
+        return Answer::NotMergeable;
+    }
+    merge_trees(
+        left,
+        left_from,
+        left_starts,
+        left_sizes,
+        left_hints,
+        left_n,
+        right,
+        right_from,
+        right_starts,
+        right_sizes,
+        right_hints,
+        right_n,
+        pairs,
+        left_constants,
+        right_constants,
+        out,
+    )
+}
+
+// The same for two queries that were checked and any lists.
+fn merge_listed_queries(
+    left: &[u8],
+    left_starts: &[u16; 1024],
+    left_sizes: &[u16; 1024],
+    left_hints: &[u16; 4096],
+    left_n: usize,
+    right: &[u8],
+    right_starts: &[u16; 1024],
+    right_sizes: &[u16; 1024],
+    right_hints: &[u16; 4096],
+    right_n: usize,
+    pairs: &[u8],
+    left_constants: &[u8],
+    right_constants: &[u8],
+    out: &mut [u8],
+) -> Answer
+    requires { ⌜ KnownQuery (now left) (now «left_starts») (now «left_sizes») (now «left_hints») «left_n» × KnownQuery (now right) (now «right_starts») (now «right_sizes») (now «right_hints») «right_n» ⌝ }
+    ensures { λ r. ⌜ Answered (mergeQueriesOutcome (now (left .entry)) (now (right .entry)) (now (pairs .entry)) (now («left_constants» .entry)) (now («right_constants» .entry))) (now (out .entry)) (now (out .exit)) r ⌝ }
+{
+    match check_lists(pairs, left_constants, right_constants) {
+        Check::Good(_) => merge_heads(
+            left,
+            left_starts,
+            left_sizes,
+            left_hints,
+            left_n,
+            right,
+            right_starts,
+            right_sizes,
+            right_hints,
+            right_n,
+            pairs,
+            left_constants,
+            right_constants,
+            out,
+        ),
+        Check::Malformed => Answer::Malformed,
+        Check::OverBound => Answer::OverBound,
+    }
+}
+
+// The same for a left text that was checked and any right one.
+fn merge_right_query(
+    left: &[u8],
+    left_starts: &[u16; 1024],
+    left_sizes: &[u16; 1024],
+    left_hints: &[u16; 4096],
+    left_n: usize,
+    right: &[u8],
+    pairs: &[u8],
+    left_constants: &[u8],
+    right_constants: &[u8],
+    out: &mut [u8],
+) -> Answer
+    requires { ⌜ KnownQuery (now left) (now «left_starts») (now «left_sizes») (now «left_hints») «left_n» ⌝ }
+    ensures { λ r. ⌜ Answered (mergeQueriesOutcome (now (left .entry)) (now (right .entry)) (now (pairs .entry)) (now («left_constants» .entry)) (now («right_constants» .entry))) (now (out .entry)) (now (out .exit)) r ⌝ }
+{
+    let mut right_starts = [0u16; 1024];
+    let mut right_sizes = [0u16; 1024];
+    let mut right_hints = [0u16; 4096];
+    match check_query(right, &mut right_starts, &mut right_sizes, &mut right_hints) {
+        Check::Good(right_n) => merge_listed_queries(
+            left,
+            left_starts,
+            left_sizes,
+            left_hints,
+            left_n,
+            right,
+            &right_starts,
+            &right_sizes,
+            &right_hints,
+            right_n,
+            pairs,
+            left_constants,
+            right_constants,
+            out,
+        ),
+        Check::Malformed => Answer::Malformed,
+        Check::OverBound => Answer::OverBound,
+    }
+}
+
+// merge queries: two queries, join list, left and right constants to query.
+pub fn merge_queries(
+    left: &[u8],
+    right: &[u8],
+    pairs: &[u8],
+    left_constants: &[u8],
+    right_constants: &[u8],
+    out: &mut [u8],
+) -> Answer
+    ensures { λ r. ⌜ Answered (mergeQueriesOutcome (now (left .entry)) (now (right .entry)) (now (pairs .entry)) (now («left_constants» .entry)) (now («right_constants» .entry))) (now (out .entry)) (now (out .exit)) r ⌝ }
+{
+    let mut left_starts = [0u16; 1024];
+    let mut left_sizes = [0u16; 1024];
+    let mut left_hints = [0u16; 4096];
+    match check_query(left, &mut left_starts, &mut left_sizes, &mut left_hints) {
+        Check::Good(left_n) => merge_right_query(
+            left,
+            &left_starts,
+            &left_sizes,
+            &left_hints,
+            left_n,
+            right,
+            pairs,
+            left_constants,
+            right_constants,
+            out,
+        ),
+        Check::Malformed => Answer::Malformed,
+        Check::OverBound => Answer::OverBound,
+    }
+}
