@@ -145,12 +145,11 @@ fn bench(mode: &Mode, arguments: &mut impl Iterator<Item = String>) {
     let file = arguments.next().expect("a file");
     let count: u32 = arguments.next().expect("a count").parse().expect("a count");
     let text = decode(&fs::read(file).expect("a file that can be read"));
-    let texts = parted(&text);
     let mut out = String::with_capacity(1 << 17);
     let start = time::Instant::now();
     for _ in 0..count {
         out.clear();
-        work(mode, hint::black_box(&texts), &mut out);
+        work(mode, &parted(hint::black_box(&text)), &mut out);
         hint::black_box(&out);
     }
     println!("{}", start.elapsed().as_nanos() / u128::from(count.max(1)));
