@@ -7,6 +7,7 @@ Most are well formed, with projects for roots and positions inside. In some a ro
 heads differ, a text is damaged or stands at a bound.
 """
 
+import itertools
 import pathlib
 import random
 import sys
@@ -97,8 +98,9 @@ class Inputs:
 
     def growing(self, maker):
         """Short names with long new ones: two such sides give more than 65,536 bytes."""
-        first = [b"?%02x" % number if number < 256 else b"?%03x" % number for number in range(trees.NAMES - 20)]
-        short = [b"?" + bytes([number]) for number in b"abcdefghijklmnopqrst"]
+        letters = b"abcdefghijklmnopqrstuvwxyz0123456789"
+        first = [b"?" + bytes(pair) for pair in itertools.product(letters, repeat=2)][: trees.NAMES - 20]
+        short = [b"?" + bytes([letter]) for letter in letters[:20]]
         head = [b"project\t?a", b"values\t", b"cols\t" + b"\t".join(first)]
         room = (trees.BYTES - sum(map(len, head)) - 80) // 3
         maker.lines += [head[0], head[1] + b"%d\t0" % (len(first) + room), head[2] + b"".join(b"\t" + self.rng.choice(short) for _ in range(room))]
