@@ -1,13 +1,15 @@
 #!/usr/bin/env python3
-"""Texts for timing `scope` and `rename`, the same every time.
+"""Inputs for timing the calls, the same every time.
 
     bench_texts.py FOLDER
 
-writes NAME.tree, NAME.mapping and NAME.rename (the tree, a line --, the mapping) for each NAME:
+writes NAME.scope, NAME.rename, NAME.merge and NAME.push, what the program of that name reads, for each NAME:
 lines10, lines50, lines200   ordinary queries of that many lines
 names1024                    16,384 bytes but for less than a line, with 1,024 short names
 names12                      16,384 bytes but for less than a line, with 12 names
-A mapping renames every third name of an ordinary query, and 64 names (or all) at the bounds.
+A mapping renames every third name of an ordinary query, and 64 names (or all) at the bounds. A merge has two such trees, without
+the `distinct` of the others. For an ordinary query it joins the first columns and has a constant on the left's last column; at the
+bounds it joins half of the columns, and a quarter has constants, on both sides. A push has the left side's constants.
 """
 
 import itertools
@@ -27,6 +29,9 @@ THINGS = "event relay breaker bay feeder bus trip zone phase station".split()
 def laid(*lines):
     """Lines with spaces for tabs."""
     return "".join(line.replace(" ", "\t") + "\n" for line in lines)
+
+
+HEAD = laid("query select - -")
 
 
 def thing(number):
@@ -54,12 +59,17 @@ def joined(parts):
     return "join\n" + joined(parts[:half]) + joined(parts[half:])
 
 
+def projected(lines, first=0):
+    """A tree of that many lines: a projection over blocks and one larger basic graph pattern, from some thing on."""
+    blocks = (lines - 9) // 11
+    columns = " ".join(f"{thing(number)} {thing(number)}Label" for number in range(first, first + min(blocks + 1, 8)))
+    last = triples(first + blocks, lines - 2 - 11 * blocks)
+    return laid(f"project {columns}") + joined([block(number) for number in range(first, first + blocks)] + [last])
+
+
 def ordinary(lines):
-    """A query of that many lines: a projection over blocks and one larger basic graph pattern."""
-    blocks = (lines - 10) // 11
-    columns = " ".join(f"{thing(number)} {thing(number)}Label" for number in range(min(blocks + 1, 8)))
-    last = triples(blocks, lines - 3 - 11 * blocks)
-    return laid("distinct", f"project {columns}") + joined([block(number) for number in range(blocks)] + [last])
+    """A query of that many lines."""
+    return laid("distinct") + projected(lines - 1)
 
 
 def short_names():
@@ -67,10 +77,10 @@ def short_names():
     return ["?" + first + second for first, second in itertools.product(letters, repeat=2)][: trees.NAMES]
 
 
-def at_bounds(names):
+def at_bounds(names, room=trees.BYTES):
     """A projection over triples that go round the names, as long as whole lines allow."""
     head, source, lines, text = laid("project " + " ".join(names[: trees.COLUMNS])), itertools.cycle(names), [], ""
-    while len(text) <= trees.BYTES:
+    while len(text) <= room:
         shorter = text
         lines.append(f"t {next(source)} <{PROPERTIES[len(lines) % 10]}> {next(source)}")
         text = head + joined(list(patterns(lines)))
@@ -89,20 +99,47 @@ def mapping(tree, step):
     return "".join(f"{name}\t?renamed{number}\n" for number, name in enumerate(own[::step][: trees.ENTRIES]))
 
 
+def constants(positions):
+    return "".join(f"{position}\t<http://example.org/grid/constant{position}>\n" for position in positions)
+
+
+def lists_of_ordinary(tree):
+    """The join list, and each side's constants, of an ordinary query."""
+    return laid("0 0"), constants([tree.split("\n")[0].count("\t") - 1]), ""
+
+
+def lists_at_bounds(tree):
+    width = tree.split("\n")[0].count("\t")
+    half, quarter = range(width // 2), range(width // 2, width // 2 + width // 4)
+    return "".join(f"{position}\t{position}\n" for position in half), constants(quarter), constants(quarter)
+
+
+def input_texts(tree, step, left, right, short, lists):
+    """What each program reads; `short` is a tree that leaves room for a query's head."""
+    return {
+        "scope": [tree],
+        "rename": [tree, mapping(tree, step)],
+        "merge": [left, right, *lists],
+        "push": [HEAD + short, lists[1]],
+    }
+
+
 def texts():
-    """Each name with its tree and mapping."""
+    """Each name with what the programs read."""
     for lines in (10, 50, 200):
-        yield f"lines{lines}", (tree := ordinary(lines)), mapping(tree, 3)
-    yield "names1024", (tree := at_bounds(short_names())), mapping(tree, 16)
-    yield "names12", (tree := at_bounds([thing(number) for number in range(12)])), mapping(tree, 1)
+        left = projected(lines)
+        yield f"lines{lines}", input_texts(ordinary(lines), 3, left, projected(lines, 5), left, lists_of_ordinary(left))
+    for name, own, step in (("names1024", short_names(), 16), ("names12", [thing(number) for number in range(12)], 1)):
+        tree = at_bounds(own)
+        yield name, input_texts(tree, step, tree, at_bounds(own[::-1]), at_bounds(own, trees.BYTES - len(HEAD)), lists_at_bounds(tree))
 
 
 def main():
     folder = pathlib.Path(sys.argv[1])
     folder.mkdir(parents=True, exist_ok=True)
-    for name, tree, renaming in texts():
-        for ending, text in (("tree", tree), ("mapping", renaming), ("rename", tree + "--\n" + renaming)):
-            (folder / f"{name}.{ending}").write_bytes(text.encode())
+    for name, inputs in texts():
+        for program, parts in inputs.items():
+            (folder / f"{name}.{program}").write_bytes("--\n".join(parts).encode())
 
 
 if __name__ == "__main__":

@@ -1,12 +1,15 @@
-"""The two sides: nemo's Rust in the driver, many cases at once, and the programs, one case each."""
+"""The two sides: nemo's Rust in the driver, and ours: the programs, one case a process, or `vectors`, many cases a process."""
 
 import concurrent.futures
 import os
 import pathlib
+import re
 import subprocess
+import tempfile
 
 HERE = pathlib.Path(__file__).resolve().parent
 ROOM = 65536  # bytes of a program's answer; a longer one is refusal 6
+PROGRAMS = ["scope", "rename", "merge", "merge_queries", "push", "negate"]  # by their kinds in `vectors`
 
 
 def build(rust, out):
@@ -33,8 +36,26 @@ class Driver:
         return [answer if len(answer) <= ROOM else b"refused\t6\n" for answer in answers]
 
 
+class Batch:
+    """The program `vectors` of a folder: what the program of each name writes, for all cases in one process."""
+
+    def __init__(self, folder):
+        self.path = pathlib.Path(folder).resolve() / "vectors"
+
+    def answers(self, program, cases):
+        with tempfile.TemporaryDirectory() as room:
+            with open(pathlib.Path(room) / "cases", "wb") as file:
+                for number, case in enumerate(cases):
+                    file.write(b"%d\t%d\t==== %d\n%s\n" % (PROGRAMS.index(program), len(case), number, case))
+            done = subprocess.run([self.path], cwd=room, stdout=subprocess.PIPE)
+        answers = re.split(rb"(?m)^==== [0-9]+\n", done.stdout)[1:]
+        if done.returncode:
+            answers.append(b"stopped with %d\n" % done.returncode)
+        return answers[: len(cases)] + [b"no answer\n"] * (len(cases) - len(answers))
+
+
 class Programs:
-    """The programs `scope` and `rename` of a folder."""
+    """The programs of a folder."""
 
     def __init__(self, folder):
         self.folder = pathlib.Path(folder).resolve()
@@ -46,3 +67,8 @@ class Programs:
     def answers(self, program, cases):
         with concurrent.futures.ThreadPoolExecutor(os.cpu_count()) as pool:
             return list(pool.map(lambda case: self.answer(program, case), cases))
+
+
+def ours(folder):
+    """Our side: `vectors`, if the folder has it, else the programs."""
+    return Batch(folder) if (pathlib.Path(folder) / "vectors").exists() else Programs(folder)

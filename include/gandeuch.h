@@ -6,9 +6,13 @@
  *   0  the answer stands in the first `*size` bytes of `out`; the bytes behind it are unchanged
  *   1  a text is malformed
  *   2  a text is over a bound
+ *   3  a position is outside its projection
+ *   4  a root isn't project
+ *   5  the heads of two queries differ, or their kind can't be merged
  *   6  the answer is longer than `out_size`
  *
- * Where the number isn't 0, `*size` is 0 and `out` is unchanged. Texts are checked in the order of the parameters.
+ * Where the number isn't 0, `*size` is 0 and `out` is unchanged. Texts are checked in the order of the parameters (1, 2); then
+ * 5, 4, 3, 6 in this order, as far as a call has them.
  *
  * Every text is allowed. What a caller owes is what C asks of any such call, as nothing in C can test it:
  *
@@ -39,7 +43,31 @@ uint8_t gandeuch_rename(const uint8_t *tree, size_t tree_size,
                         const uint8_t *mapping, size_t mapping_size,
                         uint8_t *out, size_t out_size, size_t *size);
 
-/* negate: the query that asks for what its pattern doesn't match; a construct or describe query as it is. */
+/* merge_patterns: two trees whose roots are project, merged into one whose answer joins the columns of `joins`, a line `left right`
+ * for each pair of positions; `left_constants` and `right_constants` fix columns, a line `position term` each. Numbers 1, 2, 4, 3, 6. */
+uint8_t gandeuch_merge_patterns(const uint8_t *left, size_t left_size,
+                                const uint8_t *right, size_t right_size,
+                                const uint8_t *joins, size_t joins_size,
+                                const uint8_t *left_constants, size_t left_constants_size,
+                                const uint8_t *right_constants, size_t right_constants_size,
+                                uint8_t *out, size_t out_size, size_t *size);
+
+/* merge_queries: the same for two queries with one head, which the answer has too; select and ask can be merged. Numbers 1, 2, 5, 4, 3, 6. */
+uint8_t gandeuch_merge_queries(const uint8_t *left, size_t left_size,
+                               const uint8_t *right, size_t right_size,
+                               const uint8_t *joins, size_t joins_size,
+                               const uint8_t *left_constants, size_t left_constants_size,
+                               const uint8_t *right_constants, size_t right_constants_size,
+                               uint8_t *out, size_t out_size, size_t *size);
+
+/* push_constants: the query, under new names, with the columns fixed for which there is a line `position term`. It is copied if it is a
+ * construct or describe or its root isn't project. Numbers 1, 2, 6, and where it isn't copied 3. */
+uint8_t gandeuch_push_constants(const uint8_t *query, size_t query_size,
+                                const uint8_t *constants, size_t constants_size,
+                                uint8_t *out, size_t out_size, size_t *size);
+
+/* negate: the query with the pattern below its outermost projection asked not to exist. It is copied if it is a construct or describe or
+ * has no such projection. Numbers 1, 2, 6. */
 uint8_t gandeuch_negate(const uint8_t *query, size_t query_size,
                         uint8_t *out, size_t out_size, size_t *size);
 

@@ -4,23 +4,27 @@
     python3 make_vectors.py OUTDIR
 
 writes OUTDIR/cases and OUTDIR/expected, the same bytes each time. First come
-the cases of vectors/scope.txt and vectors/rename.txt, whose answers are those
-of nemo's Rust, then the inputs below, whose answers are written by hand from
-document 01 and the recorded readings of its open corners.
+the cases of vectors/, whose answers are those of nemo's Rust, then the inputs
+below and in written_merges.py, whose answers are written by hand from document
+01 and the recorded readings of its open corners.
 
 vectors/NAME.txt: a head, then the cases; a line ==== follows each of them. A
 case is what the program NAME reads, a line ->, and what it must write. `%` and
 two hexadecimal digits stand for a byte.
 
 cases: for each record a line `DIGIT TAB LENGTH TAB LABEL`, then LENGTH bytes
-and a line end; DIGIT is the program: 0 scope, 1 rename. expected: for each
-record a line with its label, then what the program writes.
+and a line end; DIGIT is the program: 0 scope, 1 rename, 2 merge, 3
+merge_queries, 4 push, 5 negate. expected: for each record a line with its
+label, then what the program writes.
 """
 import os
 import sys
 import urllib.parse
 
-PROGRAMS = ["scope", "rename"]
+import written_merges
+from written_texts import BAR, LONG, MALFORMED, OVER, padded, refused, text
+
+PROGRAMS = ["scope", "rename", "merge", "merge_queries", "push", "negate"]
 HERE = os.path.dirname(os.path.abspath(__file__))
 
 
@@ -34,28 +38,10 @@ def recorded(program):
         yield urllib.parse.unquote_to_bytes(given + b"\n"), urllib.parse.unquote_to_bytes(answer + b"\n")
 
 
-def text(written):
-    """The bytes of a text in document 01's notation: / for a line end, the last not shown, and spaces for tabs."""
-    return written.replace(" ", "\t").replace("/", "\n").encode("latin-1") + b"\n" if written else b""
-
-
-def refused(number):
-    return b"refused\t%d\n" % number
-
-
 TREE = text("project ?a/bgp 1/t ?a <p> ?b")
 OTHER = text("project ?b/bgp 1/t ?b <p> ?a")
 SCOPE = text("in ?a/hid ?a ?b")
 SWAP = text("?a ?b/?b ?a")
-BAR = b"--\n"
-MALFORMED = text("bgp 1")
-OVER = text("project " + " ".join("?c%d" % i for i in range(65)) + "/bgp 0")
-LONG = 65536
-
-
-def padded(start, size):
-    return start + b"x" * (size - len(start))
-
 
 # The number of lines `--` is looked at before the texts, so a tree over a bound tells whether a line was one.
 WRITTEN = [
@@ -95,7 +81,7 @@ def records():
     for program in PROGRAMS:
         for number, (given, answer) in enumerate(recorded(program), 1):
             yield program, "%s-%d" % (program, number), given, answer
-    for program, name, given, answer in WRITTEN:
+    for program, name, given, answer in WRITTEN + written_merges.WRITTEN:
         yield program, "%s-%s" % (program, name), given, answer
 
 

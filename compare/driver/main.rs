@@ -4,8 +4,11 @@
 //!     driver batch MODE          many cases, each followed by a line `====`; the answers likewise
 //!     driver bench MODE FILE N   nanoseconds for one call, over N calls from memory to memory
 //!
-//! MODE is `scope` (a tree), `rename` (a tree, a line `--`, a mapping), `standardize PREFIX` (a tree) or
-//! `copy` (a tree, read and written back).
+//! MODE is `scope` (a tree), `rename` (a tree, a mapping), `standardize PREFIX` (a tree), `copy` (a tree, read and
+//! written back), `merge` or `merge_queries` (two trees or queries, a join list, two constant lists), `push` (a query, a
+//! constant list) or `negate` (a query). The texts are parted by lines `--`.
+//!
+//! Where nemo's function gives None the answer is a line `none`, where it panics a line `panicked`.
 
 #[allow(dead_code)]
 mod functions;
@@ -16,7 +19,7 @@ mod write;
 
 use std::collections::HashSet;
 use std::io::{Read, Write};
-use std::{env, fs, hint, io, time};
+use std::{env, fs, hint, io, panic, time};
 
 use oxrdf::Variable;
 use read::Places;
@@ -26,6 +29,10 @@ enum Mode {
     Rename,
     Standardize(String),
     Copy,
+    Merge,
+    MergeQueries,
+    Push,
+    Negate,
 }
 
 fn main() {
@@ -39,7 +46,7 @@ fn main() {
         }
         _ => {
             let mode = mode(&mut [command].into_iter().chain(arguments));
-            print(&answer(&mode, &decode(&input())));
+            print(&answer(&mode, &parted(&decode(&input()))));
         }
     }
 }
@@ -50,34 +57,68 @@ fn mode(arguments: &mut impl Iterator<Item = String>) -> Mode {
         "rename" => Mode::Rename,
         "standardize" => Mode::Standardize(arguments.next().expect("a prefix")),
         "copy" => Mode::Copy,
+        "merge" => Mode::Merge,
+        "merge_queries" => Mode::MergeQueries,
+        "push" => Mode::Push,
+        "negate" => Mode::Negate,
         other => panic!("{other} is no mode"),
     }
 }
 
-fn answer(mode: &Mode, text: &str) -> String {
-    let mut out = String::new();
-    work(mode, text, &mut out);
-    out
+fn answer(mode: &Mode, texts: &[&str]) -> String {
+    panic::catch_unwind(|| {
+        let mut out = String::new();
+        work(mode, texts, &mut out);
+        out
+    })
+    .unwrap_or("panicked\n".to_string())
 }
 
-/// Reads the case, does the work and writes the answer.
-fn work(mode: &Mode, text: &str, out: &mut String) {
-    match mode {
-        Mode::Scope => {
-            let (tree, places) = read::tree_and_places(text);
+/// Reads the texts, does the work and writes the answer.
+fn work(mode: &Mode, texts: &[&str], out: &mut String) {
+    match (mode, texts) {
+        (Mode::Scope, [tree]) => {
+            let (tree, places) = read::tree_and_places(tree);
             let (in_scope, hidden) = queries::scope(&tree);
             write::set(out, "in", by_place(&in_scope, &places));
             write::set(out, "hid", by_place(&hidden, &places));
         }
-        Mode::Rename => {
-            let (tree, mapping) = text.split_once("\n--\n").expect("a line --");
+        (Mode::Rename, [tree, mapping]) => {
             let renamed = queries::rename(&read::tree(tree), &read::mapping(mapping));
             write::pattern(out, &renamed);
         }
-        Mode::Standardize(prefix) => {
-            write::pattern(out, &queries::standardize(prefix, &read::tree(text)));
+        (Mode::Standardize(prefix), [tree]) => {
+            write::pattern(out, &queries::standardize(prefix, &read::tree(tree)));
         }
-        Mode::Copy => write::pattern(out, &read::tree(text)),
+        (Mode::Copy, [tree]) => write::pattern(out, &read::tree(tree)),
+        (Mode::Merge, [left, right, joins, left_constants, right_constants]) => {
+            let merged = queries::merge_project_patterns(
+                &read::tree(left),
+                &read::tree(right),
+                &read::joins(joins),
+                &read::constants(left_constants),
+                &read::constants(right_constants),
+            );
+            write::or_none(out, merged.as_ref(), write::pattern);
+        }
+        (Mode::MergeQueries, [left, right, joins, left_constants, right_constants]) => {
+            let merged = queries::merge_queries(
+                &read::query(left),
+                &read::query(right),
+                &read::joins(joins),
+                &read::constants(left_constants),
+                &read::constants(right_constants),
+            );
+            write::or_none(out, merged.as_ref(), write::query);
+        }
+        (Mode::Push, [query, constants]) => {
+            let pushed = queries::push_constants(&read::query(query), &read::constants(constants));
+            write::query(out, &pushed);
+        }
+        (Mode::Negate, [query]) => {
+            write::query(out, &queries::negate_query(&read::query(query)));
+        }
+        _ => panic!("another number of texts"),
     }
 }
 
@@ -88,11 +129,12 @@ fn by_place<'s>(set: &'s HashSet<Variable>, places: &Places) -> Vec<&'s Variable
 }
 
 fn batch(mode: &Mode) {
+    panic::set_hook(Box::new(|_| {}));
     let text = decode(&input());
     let mut out = String::new();
     let mut rest = text.as_str();
     while let Some((case, after)) = rest.split_once("\n====\n") {
-        work(mode, &format!("{case}\n"), &mut out);
+        out.push_str(&answer(mode, &parted(&format!("{case}\n"))));
         out.push_str("====\n");
         rest = after;
     }
@@ -107,10 +149,25 @@ fn bench(mode: &Mode, arguments: &mut impl Iterator<Item = String>) {
     let start = time::Instant::now();
     for _ in 0..count {
         out.clear();
-        work(mode, hint::black_box(&text), &mut out);
+        work(mode, &parted(hint::black_box(&text)), &mut out);
         hint::black_box(&out);
     }
     println!("{}", start.elapsed().as_nanos() / u128::from(count.max(1)));
+}
+
+/// The texts before, between and after lines `--`.
+fn parted(case: &str) -> Vec<&str> {
+    let mut texts = Vec::new();
+    let (mut start, mut end) = (0, 0);
+    for line in case.split_inclusive('\n') {
+        if line == "--\n" {
+            texts.push(&case[start..end]);
+            start = end + line.len();
+        }
+        end += line.len();
+    }
+    texts.push(&case[start..]);
+    texts
 }
 
 fn input() -> Vec<u8> {
@@ -120,7 +177,9 @@ fn input() -> Vec<u8> {
 }
 
 fn print(text: &str) {
-    io::stdout().write_all(&encode(text)).expect("standard output");
+    io::stdout()
+        .write_all(&encode(text))
+        .expect("standard output");
 }
 
 /// Each byte as the character of its number, so that any byte may stand in a name.

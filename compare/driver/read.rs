@@ -1,12 +1,13 @@
-//! Reads well-formed texts of trees and mappings. On any other text it panics.
+//! Reads well-formed texts of trees, queries and lists. On any other text it panics.
 
 use std::collections::HashMap;
 use std::str::{Split, SplitTerminator};
 
 use oxrdf::{BlankNode, Literal, NamedNode, Variable};
+use spargebra::Query;
 use spargebra::algebra::{
     AggregateExpression, AggregateFunction, Expression, Function, GraphPattern, OrderExpression,
-    PropertyPathExpression,
+    PropertyPathExpression, QueryDataset,
 };
 use spargebra::term::{GroundTerm, NamedNodePattern, TermPattern, TriplePattern};
 
@@ -34,16 +35,77 @@ pub fn tree_and_places(text: &str) -> (GraphPattern, Places<'_>) {
     (reader.pattern(), reader.places.expect("was given"))
 }
 
+/// A construct has no template in the layout.
+pub fn query(text: &str) -> Query {
+    let (head, pattern) = text.split_once('\n').expect("a head");
+    let mut fields = head.split('\t');
+    assert_eq!(fields.next(), Some("query"));
+    let kind = field(&mut fields);
+    let dataset = opaque(field(&mut fields)).map(QueryDataset);
+    let base_iri = opaque(field(&mut fields));
+    let pattern = tree(pattern);
+    match kind {
+        "select" => Query::Select {
+            dataset,
+            pattern,
+            base_iri,
+        },
+        "ask" => Query::Ask {
+            dataset,
+            pattern,
+            base_iri,
+        },
+        "construct" => Query::Construct {
+            template: Vec::new(),
+            dataset,
+            pattern,
+            base_iri,
+        },
+        "describe" => Query::Describe {
+            dataset,
+            pattern,
+            base_iri,
+        },
+        kind => panic!("{kind} is no kind of query"),
+    }
+}
+
 pub fn mapping(text: &str) -> HashMap<Variable, Variable> {
-    text.split_terminator('\n')
-        .map(|line| {
-            let (from, to) = line.split_once('\t').expect("two fields");
+    pairs(text)
+        .map(|(from, to)| {
             (
                 Variable::new_unchecked(&from[1..]),
                 Variable::new_unchecked(&to[1..]),
             )
         })
         .collect()
+}
+
+pub fn joins(text: &str) -> Vec<(usize, usize)> {
+    pairs(text)
+        .map(|(left, right)| {
+            (
+                left.parse().expect("a number"),
+                right.parse().expect("a number"),
+            )
+        })
+        .collect()
+}
+
+pub fn constants(text: &str) -> HashMap<usize, GroundTerm> {
+    pairs(text)
+        .map(|(position, term)| {
+            (
+                position.parse().expect("a number"),
+                cell(term).expect("a term"),
+            )
+        })
+        .collect()
+}
+
+fn pairs(text: &str) -> impl Iterator<Item = (&str, &str)> {
+    text.split_terminator('\n')
+        .map(|line| line.split_once('\t').expect("two fields"))
 }
 
 impl<'t> Reader<'t> {
@@ -308,6 +370,11 @@ fn length(fields: &mut Fields<'_>) -> Option<usize> {
     }
 }
 
+/// A field of a query's head, if it isn't absent.
+fn opaque(field: &str) -> Option<String> {
+    (field != "-").then(|| field.to_string())
+}
+
 fn flag(fields: &mut Fields<'_>) -> bool {
     match field(fields) {
         "0" => false,
@@ -317,7 +384,9 @@ fn flag(fields: &mut Fields<'_>) -> bool {
 }
 
 fn named_node(field: &str) -> NamedNode {
-    let iri = field.strip_prefix('<').and_then(|rest| rest.strip_suffix('>'));
+    let iri = field
+        .strip_prefix('<')
+        .and_then(|rest| rest.strip_suffix('>'));
     NamedNode::new_unchecked(iri.expect("an IRI"))
 }
 

@@ -1,6 +1,7 @@
-//! Writes trees and scopes in the layout.
+//! Writes trees, queries and scopes in the layout.
 
 use oxrdf::{NamedNode, Variable};
+use spargebra::Query;
 use spargebra::algebra::{
     AggregateExpression, Expression, Function, GraphPattern, OrderExpression,
 };
@@ -13,6 +14,47 @@ pub fn set<'v>(out: &mut String, word: &str, variables: impl IntoIterator<Item =
         put_variable(out, variable);
     }
     out.push('\n');
+}
+
+/// What a function gave, by its writer, or a line `none`.
+pub fn or_none<T>(out: &mut String, given: Option<&T>, writer: fn(&mut String, &T)) {
+    match given {
+        None => out.push_str("none\n"),
+        Some(given) => writer(out, given),
+    }
+}
+
+pub fn query(out: &mut String, query: &Query) {
+    let (kind, dataset, tree, base_iri) = match query {
+        Query::Select {
+            dataset,
+            pattern,
+            base_iri,
+        } => ("select", dataset, pattern, base_iri),
+        Query::Ask {
+            dataset,
+            pattern,
+            base_iri,
+        } => ("ask", dataset, pattern, base_iri),
+        Query::Construct {
+            dataset,
+            pattern,
+            base_iri,
+            ..
+        } => ("construct", dataset, pattern, base_iri),
+        Query::Describe {
+            dataset,
+            pattern,
+            base_iri,
+        } => ("describe", dataset, pattern, base_iri),
+    };
+    let dataset = dataset.as_ref().map_or("-", |dataset| &dataset.0);
+    line(
+        out,
+        "query",
+        &[kind, dataset, base_iri.as_deref().unwrap_or("-")],
+    );
+    pattern(out, tree);
 }
 
 pub fn pattern(out: &mut String, tree: &GraphPattern) {

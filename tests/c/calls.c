@@ -1,39 +1,79 @@
-/* Calls both functions of gandeuch.h from C on a few texts and holds number, length and every byte of the buffer, and of
- * the bytes around it, against what is expected. Writes a line for each case; exits with 1 if one differs. */
+/* Makes every call of gandeuch.h from C on a few texts and holds number, length and every byte of the buffer, and of the bytes
+ * around it, against what is expected. Writes a line for each case; exits with 1 if one differs. */
 #include <stdio.h>
 #include <stdlib.h>
 #include <string.h>
 
 #include "gandeuch.h"
 
-enum { AROUND = 64, ROOM = 1024, BUFFER = AROUND + ROOM + AROUND, LONGEST = 16384, ENTRIES = 64 };
+enum { AROUND = 64, ROOM = 1024, BUFFER = AROUND + ROOM + AROUND, LONGEST = 16384, ENTRIES = 64, TEXTS = 5, MADE = 8 };
 
 #define TREE "project\t?a\t?b\nminus\nbgp\t1\nt\t?a\t<p>\t?b\nservice\t?s\t0\nbgp\t1\nt\t?b\t<q>\t?c\n"
 #define SCOPE "in\t?a\t?b\nhid\t?a\t?b\t?c\n"
 #define SWAP "?a\t?b\n?b\t?a\n?s\t?t\n"
 #define RENAMED "project\t?b\t?a\nminus\nbgp\t1\nt\t?b\t<p>\t?a\nservice\t?s\t0\nbgp\t1\nt\t?a\t<q>\t?c\n"
 
+#define LEFT "project\t?event\t?relay\nbgp\t1\nt\t?event\t<by>\t?relay\n"
+#define RIGHT "project\t?r\t?bay\nbgp\t1\nt\t?r\t<in>\t?bay\n"
+#define JOIN "1\t0\n"
+#define MERGED "project\t?l0\t?j0\t?r1\njoin\nbgp\t1\nt\t?l0\t<by>\t?j0\nbgp\t1\nt\t?j0\t<in>\t?r1\n"
+#define BOUND "project\t?l0\njoin\njoin\nbgp\t1\nt\t?l0\t<by>\t?j0\nvalues\t1\t1\ncols\t?j0\nrow\t<k>\n" \
+              "join\nbgp\t1\nt\t?j0\t<in>\t?r1\nvalues\t1\t1\ncols\t?r1\nrow\t\"b\"\n"
+#define DISTINCT "distinct\n" LEFT
+#define BAD "bgp\t1\n"
+
+#define SELECT "query\tselect\t-\t-\n"
+#define ASK "query\task\t-\t-\n"
+#define CONSTRUCT "query\tconstruct\t-\t-\n"
+#define PUSHED "project\t?v0\njoin\nbgp\t1\nt\t?v0\t<by>\t?v1\nvalues\t1\t1\ncols\t?v1\nrow\t<k>\n"
+#define NEGATED "distinct\nproject\t?event\t?relay\nfilter\nbgp\t0\nnot\nexists\nbgp\t1\nt\t?event\t<by>\t?relay\n"
+
 struct text {
     const uint8_t *bytes;
     size_t size;
 };
 
-static int failures = 0;
+/* A call on its texts, in the order of its parameters. */
+typedef uint8_t call(const struct text *texts, uint8_t *out, size_t out_size, size_t *size);
 
-static struct text text(const char *written) {
-    return (struct text){(const uint8_t *)written, strlen(written)};
+#define GIVEN(i) texts[i].bytes, texts[i].size
+
+static uint8_t scope(const struct text *texts, uint8_t *out, size_t out_size, size_t *size) {
+    return gandeuch_scope(GIVEN(0), out, out_size, size);
 }
 
+static uint8_t rename_tree(const struct text *texts, uint8_t *out, size_t out_size, size_t *size) {
+    return gandeuch_rename(GIVEN(0), GIVEN(1), out, out_size, size);
+}
+
+static uint8_t merge_patterns(const struct text *texts, uint8_t *out, size_t out_size, size_t *size) {
+    return gandeuch_merge_patterns(GIVEN(0), GIVEN(1), GIVEN(2), GIVEN(3), GIVEN(4), out, out_size, size);
+}
+
+static uint8_t merge_queries(const struct text *texts, uint8_t *out, size_t out_size, size_t *size) {
+    return gandeuch_merge_queries(GIVEN(0), GIVEN(1), GIVEN(2), GIVEN(3), GIVEN(4), out, out_size, size);
+}
+
+static uint8_t push_constants(const struct text *texts, uint8_t *out, size_t out_size, size_t *size) {
+    return gandeuch_push_constants(GIVEN(0), GIVEN(1), out, out_size, size);
+}
+
+static uint8_t negate(const struct text *texts, uint8_t *out, size_t out_size, size_t *size) {
+    return gandeuch_negate(GIVEN(0), out, out_size, size);
+}
+
+static int failures = 0;
+
 /* A text of a start, and of pieces with the numbers from 0 on in the place of %d. */
-static struct text repeated(const char *start, const char *piece, int times, const char *end) {
-    static char memory[4][2 * LONGEST];
+static const char *repeated(const char *start, const char *piece, int times, const char *end) {
+    static char memory[MADE][2 * LONGEST];
     static int used = 0;
     char *bytes = memory[used++];
     int size = sprintf(bytes, "%s", start);
     for (int i = 0; i < times; i++)
         size += sprintf(bytes + size, piece, i);
-    size += sprintf(bytes + size, "%s", end);
-    return (struct text){(const uint8_t *)bytes, (size_t)size};
+    sprintf(bytes + size, "%s", end);
+    return bytes;
 }
 
 /* A byte that stands at a place before the call. */
@@ -56,52 +96,108 @@ static const char *fault(const uint8_t *buffer, uint8_t got, size_t size, uint8_
     return NULL;
 }
 
-/* One call on a buffer with so much room; without a mapping it is scope. A refusal has the answer "". */
-static void expect(const char *label, struct text tree, const struct text *mapping, size_t room, uint8_t number,
-                   const char *answer) {
+/* One call on a buffer with so much room. A refusal has the answer "". */
+static void expect(const char *label, call *made, const char *const given[TEXTS], size_t room, uint8_t number, const char *answer) {
+    struct text texts[TEXTS];
+    for (int i = 0; i < TEXTS; i++) {
+        const char *bytes = given[i] ? given[i] : "";
+        texts[i] = (struct text){(const uint8_t *)bytes, strlen(bytes)};
+    }
     uint8_t buffer[BUFFER];
     for (size_t i = 0; i < BUFFER; i++)
         buffer[i] = before(i);
-    uint8_t *out = buffer + AROUND;
     size_t size = 12345;
-    uint8_t got = mapping
-        ? gandeuch_rename(tree.bytes, tree.size, mapping->bytes, mapping->size, out, room, &size)
-        : gandeuch_scope(tree.bytes, tree.size, out, room, &size);
+    uint8_t got = made(texts, buffer + AROUND, room, &size);
     const char *wrong = fault(buffer, got, size, number, answer);
     printf("%s\t%d\t%zu\t%s\n", label, got, size, wrong ? wrong : "ok");
     failures += wrong != NULL;
 }
 
+/* The texts of a call; those left out are empty. */
+#define TEXTS_OF(...) ((const char *const[TEXTS]){__VA_ARGS__})
+
+/* An answer in more room than it needs, in just as much, in one byte less and in none. */
+static void expect_in_rooms(const char *label, call *made, const char *const given[TEXTS], const char *answer) {
+    char longer[4][80];
+    const char *endings[4] = {"", "-exact-room", "-room-short-by-one", "-no-room"};
+    for (int i = 0; i < 4; i++)
+        snprintf(longer[i], sizeof longer[i], "%s%s", label, endings[i]);
+    expect(longer[0], made, given, ROOM, 0, answer);
+    expect(longer[1], made, given, strlen(answer), 0, answer);
+    expect(longer[2], made, given, strlen(answer) - 1, 6, "");
+    expect(longer[3], made, given, 0, 6, "");
+}
+
 static void scopes(void) {
-    struct text tree = text(TREE);
-    expect("scope", tree, NULL, ROOM, 0, SCOPE);
-    expect("scope-exact-room", tree, NULL, strlen(SCOPE), 0, SCOPE);
-    expect("scope-room-short-by-one", tree, NULL, strlen(SCOPE) - 1, 6, "");
-    expect("scope-no-room", tree, NULL, 0, 6, "");
-    expect("scope-no-text", text(""), NULL, ROOM, 1, "");
-    expect("scope-unended", text("bgp\t0"), NULL, ROOM, 1, "");
-    expect("scope-malformed-no-room", text("bgp\t1\n"), NULL, 0, 1, "");
-    expect("scope-text-at-bound", repeated("", "x", LONGEST, ""), NULL, ROOM, 1, "");
-    expect("scope-text-too-long", repeated("", "x", LONGEST + 1, ""), NULL, ROOM, 2, "");
-    expect("scope-columns-over", repeated("project", "\t?c%d", ENTRIES + 1, "\nbgp\t0\n"), NULL, ROOM, 2, "");
+    expect_in_rooms("scope", scope, TEXTS_OF(TREE), SCOPE);
+    expect("scope-no-text", scope, TEXTS_OF(""), ROOM, 1, "");
+    expect("scope-unended", scope, TEXTS_OF("bgp\t0"), ROOM, 1, "");
+    expect("scope-malformed-no-room", scope, TEXTS_OF(BAD), 0, 1, "");
+    expect("scope-text-at-bound", scope, TEXTS_OF(repeated("", "x", LONGEST, "")), ROOM, 1, "");
+    expect("scope-text-too-long", scope, TEXTS_OF(repeated("", "x", LONGEST + 1, "")), ROOM, 2, "");
+    expect("scope-columns-over", scope, TEXTS_OF(repeated("project", "\t?c%d", ENTRIES + 1, "\nbgp\t0\n")), ROOM, 2, "");
 }
 
 static void renames(void) {
-    struct text tree = text(TREE), bad_tree = text("bgp\t1\n"), none = text(""), swap = text(SWAP);
-    struct text repeats = text("?a\t?b\n?a\t?c\n"), many = repeated("", "?k%d\t?a\n", ENTRIES + 1, "");
-    expect("rename", tree, &swap, ROOM, 0, RENAMED);
-    expect("rename-empty-mapping", tree, &none, ROOM, 0, TREE);
-    expect("rename-exact-room", tree, &swap, strlen(RENAMED), 0, RENAMED);
-    expect("rename-room-short-by-one", tree, &swap, strlen(RENAMED) - 1, 6, "");
-    expect("rename-no-room", tree, &swap, 0, 6, "");
-    expect("rename-bad-tree", bad_tree, &swap, ROOM, 1, "");
-    expect("rename-from-repeated", tree, &repeats, ROOM, 1, "");
-    expect("rename-mapping-over", tree, &many, ROOM, 2, "");
-    expect("rename-bad-tree-first", bad_tree, &many, ROOM, 1, "");
+    const char *many = repeated("", "?k%d\t?a\n", ENTRIES + 1, "");
+    expect_in_rooms("rename", rename_tree, TEXTS_OF(TREE, SWAP), RENAMED);
+    expect("rename-empty-mapping", rename_tree, TEXTS_OF(TREE, ""), ROOM, 0, TREE);
+    expect("rename-bad-tree", rename_tree, TEXTS_OF(BAD, SWAP), ROOM, 1, "");
+    expect("rename-from-repeated", rename_tree, TEXTS_OF(TREE, "?a\t?b\n?a\t?c\n"), ROOM, 1, "");
+    expect("rename-mapping-over", rename_tree, TEXTS_OF(TREE, many), ROOM, 2, "");
+    expect("rename-bad-tree-first", rename_tree, TEXTS_OF(BAD, many), ROOM, 1, "");
+}
+
+static void merges_of_patterns(void) {
+    const char *over = repeated("project", "\t?c%d", ENTRIES + 1, "\nbgp\t0\n");
+    const char *joins = repeated("", "0\t%d\n", ENTRIES + 1, ""), *constants = repeated("", "%d\t<k>\n", ENTRIES + 1, "");
+    expect_in_rooms("merge", merge_patterns, TEXTS_OF(LEFT, RIGHT, JOIN), MERGED);
+    expect_in_rooms("merge-constants", merge_patterns, TEXTS_OF(LEFT, RIGHT, JOIN, "1\t<k>\n", "1\t\"b\"\n"), BOUND);
+    expect("merge-no-left", merge_patterns, TEXTS_OF("", RIGHT, JOIN), ROOM, 1, "");
+    expect("merge-left-first", merge_patterns, TEXTS_OF(over, BAD, "0\n"), ROOM, 2, "");
+    expect("merge-right-second", merge_patterns, TEXTS_OF(LEFT, over, "0\n"), ROOM, 2, "");
+    expect("merge-joins-third", merge_patterns, TEXTS_OF(DISTINCT, RIGHT, joins, "0\t?a\n"), ROOM, 2, "");
+    expect("merge-left-constants-fourth", merge_patterns, TEXTS_OF(DISTINCT, RIGHT, JOIN, "0\t?a\n", constants), ROOM, 1, "");
+    expect("merge-right-constants-fifth", merge_patterns, TEXTS_OF(DISTINCT, RIGHT, JOIN, "", constants), ROOM, 2, "");
+    expect("merge-no-project", merge_patterns, TEXTS_OF(DISTINCT, RIGHT, "9\t9\n"), 0, 4, "");
+    expect("merge-outside", merge_patterns, TEXTS_OF(LEFT, RIGHT, "2\t0\n"), 0, 3, "");
+    expect("merge-constant-outside", merge_patterns, TEXTS_OF(LEFT, RIGHT, JOIN, "", "2\t<k>\n"), 0, 3, "");
+}
+
+static void merges_of_queries(void) {
+    expect_in_rooms("merge-queries", merge_queries, TEXTS_OF(SELECT LEFT, SELECT RIGHT, JOIN), SELECT MERGED);
+    expect("merge-queries-ask", merge_queries, TEXTS_OF(ASK LEFT, ASK RIGHT, JOIN), ROOM, 0, ASK MERGED);
+    expect("merge-queries-tree", merge_queries, TEXTS_OF(LEFT, SELECT RIGHT, JOIN), ROOM, 1, "");
+    expect("merge-queries-joins", merge_queries, TEXTS_OF(SELECT DISTINCT, ASK RIGHT, "9\n"), ROOM, 1, "");
+    expect("merge-queries-heads", merge_queries, TEXTS_OF(SELECT DISTINCT, ASK RIGHT, "9\t9\n"), 0, 5, "");
+    expect("merge-queries-construct", merge_queries, TEXTS_OF(CONSTRUCT LEFT, CONSTRUCT RIGHT, JOIN), 0, 5, "");
+    expect("merge-queries-no-project", merge_queries, TEXTS_OF(SELECT LEFT, SELECT DISTINCT, "9\t9\n"), 0, 4, "");
+    expect("merge-queries-outside", merge_queries, TEXTS_OF(SELECT LEFT, SELECT RIGHT, "0\t2\n"), 0, 3, "");
+}
+
+static void pushes(void) {
+    expect_in_rooms("push", push_constants, TEXTS_OF(SELECT LEFT, "1\t<k>\n"), SELECT PUSHED);
+    expect("push-construct", push_constants, TEXTS_OF(CONSTRUCT LEFT, "9\t<k>\n"), ROOM, 0, CONSTRUCT LEFT);
+    expect("push-no-project", push_constants, TEXTS_OF(SELECT DISTINCT, "9\t<k>\n"), ROOM, 0, SELECT DISTINCT);
+    expect("push-bad-query", push_constants, TEXTS_OF(SELECT BAD, "1\t<k>\n"), ROOM, 1, "");
+    expect("push-repeated", push_constants, TEXTS_OF(SELECT LEFT, "1\t<k>\n1\t<l>\n"), ROOM, 1, "");
+    expect("push-outside", push_constants, TEXTS_OF(ASK LEFT, "2\t<k>\n"), 0, 3, "");
+}
+
+static void negations(void) {
+    expect_in_rooms("negate", negate, TEXTS_OF(SELECT DISTINCT), SELECT NEGATED);
+    expect("negate-describe", negate, TEXTS_OF("query\tdescribe\t-\t-\n" LEFT), ROOM, 0, "query\tdescribe\t-\t-\n" LEFT);
+    expect("negate-no-projection", negate, TEXTS_OF(SELECT "bgp\t0\n"), ROOM, 0, SELECT "bgp\t0\n");
+    expect("negate-tree", negate, TEXTS_OF(LEFT), 0, 1, "");
+    expect("negate-over", negate, TEXTS_OF(repeated(SELECT "project", "\t?c%d", ENTRIES + 1, "\nbgp\t0\n")), 0, 2, "");
 }
 
 int main(void) {
     scopes();
     renames();
+    merges_of_patterns();
+    merges_of_queries();
+    pushes();
+    negations();
     return failures ? EXIT_FAILURE : EXIT_SUCCESS;
 }

@@ -14,22 +14,22 @@ NODES = TERMS[:2]
 
 
 class Maker:
-    def __init__(self, rng):
-        self.rng = rng
+    def __init__(self, rng, names=VARS):
+        self.rng, self.names = rng, names
 
     def term(self):
-        return self.rng.choice(VARS if self.rng.random() < 0.6 else TERMS)
+        return self.rng.choice(self.names if self.rng.random() < 0.6 else TERMS)
 
     def node(self, rate):
-        return self.rng.choice(VARS) if self.rng.random() < rate else self.rng.choice(NODES)
+        return self.rng.choice(self.names) if self.rng.random() < rate else self.rng.choice(NODES)
 
     def triple(self):
-        o = self.rng.choice(VARS) if self.rng.random() < 0.6 else self.rng.choice(TERMS)
+        o = self.rng.choice(self.names) if self.rng.random() < 0.6 else self.rng.choice(TERMS)
         return (self.node(0.7), self.node(0.3), o)
 
     def expression(self, depth):
         k = self.rng.choice(['bound', 'same', 'same', 'and', 'or', 'not'] if depth else ['bound', 'same'])
-        if k == 'bound': return (k, self.rng.choice(VARS))
+        if k == 'bound': return (k, self.rng.choice(self.names))
         if k == 'same': return (k, self.term(), self.term())
         if k == 'not': return (k, self.expression(depth - 1))
         return (k, self.expression(depth - 1), self.expression(depth - 1))
@@ -37,7 +37,7 @@ class Maker:
     def leaf(self):
         if self.rng.random() < 0.7:
             return ('bgp', [self.triple() for _ in range(self.rng.choice([0, 1, 1, 1, 2]))])
-        cols = self.rng.sample(VARS, self.rng.choice([1, 1, 2]))
+        cols = self.rng.sample(self.names, self.rng.choice([1, 1, 2]))
         return ('values', cols, [[self.rng.choice(TERMS + ['-']) for _ in cols] for _ in range(self.rng.choice([0, 1, 2, 3]))])
 
     def tree(self, depth):
@@ -49,9 +49,9 @@ class Maker:
         if k == 'leftjoin': return (k, p, self.tree(depth - 1), self.expression(2) if self.rng.random() < 0.5 else None)
         if k == 'filter': return (k, p, self.expression(2))
         if k == 'extend':
-            fresh = [v for v in VARS if v not in in_scope(p)]
+            fresh = [v for v in self.names if v not in in_scope(p)]
             return (k, self.rng.choice(fresh), p, self.term()) if fresh else p
-        cols = self.rng.sample(VARS, self.rng.choice([1, 2, 3]))
+        cols = self.rng.sample(self.names, self.rng.choice([1, 2, 3]))
         return ('project', cols, p) if k == 'project' else ('distinct', ('project', cols, p))
 
     def triples(self):

@@ -1,0 +1,161 @@
+"""Inputs of merge, merge_queries, push and negate with answers written by hand from document 01."""
+from written_texts import BAR, LONG, MALFORMED, OVER, padded, refused, text
+
+SELECT = "query select - -/"
+
+
+def parted(*texts):
+    return BAR.join(written if isinstance(written, bytes) else text(written) for written in texts)
+
+
+def answer(expected):
+    return expected if isinstance(expected, bytes) else refused(expected) if isinstance(expected, int) else text(expected)
+
+
+def merge(name, expected, left, right, joins="", left_constants="", right_constants=""):
+    return "merge", name, parted(left, right, joins, left_constants, right_constants), answer(expected)
+
+
+def merge_queries(name, expected, left, right, joins="", left_constants="", right_constants=""):
+    return "merge_queries", name, parted(left, right, joins, left_constants, right_constants), answer(expected)
+
+
+def push(name, expected, query, constants=""):
+    return "push", name, parted(query, constants), answer(expected)
+
+
+def negate(name, expected, query):
+    return "negate", name, parted(query), answer(expected)
+
+
+EVENT = "project ?event ?relay/bgp 1/t ?event <by> ?relay"
+BAY = "project ?r ?bay/bgp 1/t ?r <in> ?bay"
+MERGED = "project ?l0 ?j0 ?r1/join/bgp 1/t ?l0 <by> ?j0/bgp 1/t ?j0 <in> ?r1"
+NO_PROJECT = "distinct/project ?a/bgp 0"
+BAD_JOIN, BAD_CONSTANT, TWICE = "0", "0 ?a", "0 <k>/0 <l>"
+MANY_JOINS = "/".join(["0 0"] * 65)
+MANY_CONSTANTS = "/".join("%d <k>" % i for i in range(65))
+OVER_QUERY = text(SELECT[:-1]) + OVER
+BAD_QUERY = text(SELECT[:-1]) + MALFORMED
+
+# "Cases to be proved", in document 01's order.
+CASES = [
+    merge("case-1", MERGED, EVENT, BAY, "1 0"),
+    merge("case-2", "project ?j0 ?j0Label ?j0Label/join/bgp 1/t ?j0 <l> ?j0Label/bgp 1/t ?j0 <m> ?j0Label",
+          "project ?s ?sLabel/bgp 1/t ?s <l> ?sLabel", "project ?t ?tLabel/bgp 1/t ?t <m> ?tLabel", "0 0"),
+    merge("case-3", "project ?j0 ?j1/join/bgp 1/t ?j0 <p> <o>/bgp 1/t ?j0 <q> ?j1",
+          "project ?a/bgp 1/t ?a <p> <o>", "project ?b ?c/bgp 1/t ?b <q> ?c", "0 0/0 1"),
+    merge("case-4", 3, EVENT, BAY, "2 0"),
+    merge("case-5", 4, "distinct/" + EVENT, BAY, "1 0"),
+    merge_queries("case-6", 5, SELECT + EVENT, "query ask - -/" + BAY, "1 0"),
+    push("case-7", SELECT + "project ?v1/join/bgp 1/t ?v0 <p> ?v1/values 1 1/cols ?v0/row <k>",
+         SELECT + "project ?a ?b/bgp 1/t ?a <p> ?b", "0 <k>"),
+    push("case-8", SELECT + "project ?v0Label ?v1/bgp 1/t ?v1 <p> ?v0Label", SELECT + "project ?xLabelLabel ?x/bgp 1/t ?x <p> ?xLabelLabel"),
+    push("case-9", SELECT + "project ?v0Label/bgp 1/t ?v0Label <p> ?v0Label", SELECT + "project ?Label/bgp 1/t ?Label <p> ?Label"),
+    merge("case-10", 1, "", BAY, "1 0"),
+]
+
+# Constants: by rising position, on a join column, one on each side.
+CONSTANTS = [
+    merge("constants", "project ?r1/join/join/bgp 1/t ?l0 <by> ?j0/values 2 1/cols ?l0 ?j0/row <e> <k>/bgp 1/t ?j0 <in> ?r1",
+          EVENT, BAY, "1 0", "1 <k>/0 <e>"),
+    merge("constants-of-both", "project ?l0/join/join/bgp 1/t ?l0 <by> ?j0/values 1 1/cols ?j0/row <k>/join/bgp 1/t ?j0 <in> ?r1/"
+          "values 2 1/cols ?j0 ?r1/row <l> \"b\"", EVENT, BAY, "1 0", "1 <k>", "1 \"b\"/0 <l>"),
+    push("constants-falling", SELECT + "project/join/bgp 0/values 2 1/cols ?v0 ?v1/row <k> <l>", SELECT + "project ?a ?b/bgp 0", "1 <l>/0 <k>"),
+    push("constant-of-twin", SELECT + "project ?v0/join/bgp 0/values 1 1/cols ?v0/row <l>", SELECT + "project ?a ?a/bgp 0", "1 <l>"),
+    push("no-columns", SELECT + "project/bgp 1/t ?v0 <p> ?v1", SELECT + "project/bgp 1/t ?a <p> ?b"),
+]
+
+# Roots and kinds: what is copied, and how far down a negation goes.
+COPIED = [SELECT + NO_PROJECT, "query construct - -/project ?a/bgp 0", "query describe d b/project ?a/bgp 0"]
+NEGATED = "filter/bgp 0/not/exists/bgp 1/t ?a <p> ?b"
+KINDS = [
+    merge_queries("select", SELECT + MERGED, SELECT + EVENT, SELECT + BAY, "1 0"),
+    merge_queries("ask", "query ask <d> <b>/" + MERGED, "query ask <d> <b>/" + EVENT, "query ask <d> <b>/" + BAY, "1 0"),
+    *[push("copied-%d" % i, query, query, "7 <k>") for i, query in enumerate(COPIED, 1)],
+    push("ask", "query ask - -/project ?v0/bgp 0", "query ask - -/project ?a/bgp 0"),
+    negate("project", SELECT + "project ?a/" + NEGATED, SELECT + "project ?a/bgp 1/t ?a <p> ?b"),
+    negate("ask", "query ask <d> -/project/" + NEGATED, "query ask <d> -/project/bgp 1/t ?a <p> ?b"),
+    negate("below", SELECT + "slice 0 5/orderby 1/distinct/group 1 1/cols ?a/reduced/project ?a/" + NEGATED + "/aggall ?n 0/asc/bound ?a",
+           SELECT + "slice 0 5/orderby 1/distinct/group 1 1/cols ?a/reduced/project ?a/bgp 1/t ?a <p> ?b/aggall ?n 0/asc/bound ?a"),
+    negate("inner-project", SELECT + "project ?a/filter/bgp 0/not/exists/project ?a/bgp 0", SELECT + "project ?a/project ?a/bgp 0"),
+    *[negate("copied-%d" % i, query, query) for i, query in enumerate(
+        [SELECT + "filter/project ?a/bgp 0/bound ?a", SELECT + "distinct/join/project ?a/bgp 0/bgp 0", *COPIED[1:]], 1)],
+]
+
+# Heads that differ in one field, and kinds that are not merged: 5 before 4 and 3.
+FIVE = [
+    merge_queries("five-%s" % name, 5, left + EVENT, right + BAY, "1 0")
+    for name, left, right in [
+        ("dataset", SELECT, "query select <d> -/"), ("base", SELECT, "query select - <b>/"),
+        ("fields-apart", "query select <d> -/", "query select - <d>/"), ("construct", "query construct - -/", "query construct - -/"),
+        ("describe", "query describe - -/", "query describe - -/"), ("kind", "query ask - -/", SELECT),
+    ]
+]
+
+# The order of the numbers: texts one by one, then 5, 4, 3.
+ORDER = [
+    merge("left-first", 2, OVER, MALFORMED, BAD_JOIN), merge("right-second", 2, NO_PROJECT, OVER, BAD_JOIN),
+    merge("joins-third", 2, NO_PROJECT, BAY, MANY_JOINS, BAD_CONSTANT), merge("left-constants-fourth", 2, NO_PROJECT, BAY, "9 9", MANY_CONSTANTS, BAD_CONSTANT),
+    merge("right-constants-fifth", 2, NO_PROJECT, BAY, "9 9", "", MANY_CONSTANTS), merge("constant-repeated", 1, NO_PROJECT, BAY, "9 9", "", TWICE),
+    merge("four-of-left", 4, NO_PROJECT, BAY, "9 9"), merge("four-of-right", 4, EVENT, NO_PROJECT, "9 9"), merge("four-of-constants", 4, EVENT, "bgp 0", "", "9 <k>"),
+    merge("three-left-join", 3, EVENT, BAY, "0 0/2 0"), merge("three-right-join", 3, EVENT, BAY, "0 0/0 2"),
+    merge("three-left-constant", 3, EVENT, BAY, "", "2 <k>"), merge("three-right-constant", 3, EVENT, BAY, "", "", "0 <k>/4294967295 <k>"),
+    merge("three-no-columns", 3, "project/bgp 0", BAY, "0 0"),
+    merge_queries("left-first", 2, OVER_QUERY, BAD_QUERY, BAD_JOIN), merge_queries("right-second", 2, SELECT + NO_PROJECT, OVER_QUERY, BAD_JOIN),
+    merge_queries("joins-third", 1, "query ask - -/" + NO_PROJECT, SELECT + BAY, BAD_JOIN, MANY_CONSTANTS),
+    merge_queries("constants-before-five", 1, "query ask - -/" + NO_PROJECT, SELECT + BAY, "9 9", "", BAD_CONSTANT),
+    merge_queries("five-before-four", 5, "query ask - -/" + NO_PROJECT, SELECT + BAY, "9 9"),
+    merge_queries("four-before-three", 4, SELECT + NO_PROJECT, SELECT + BAY, "9 9"), merge_queries("three", 3, SELECT + EVENT, SELECT + BAY, "9 9"),
+    merge_queries("tree-for-query", 1, EVENT, SELECT + BAY, "1 0"), merge("query-for-tree", 1, SELECT + EVENT, BAY, "1 0"),
+    push("query-first", 2, OVER_QUERY, BAD_CONSTANT), push("malformed-first", 1, BAD_QUERY, MANY_CONSTANTS), push("constants-second", 2, SELECT + EVENT, MANY_CONSTANTS),
+    push("constant-repeated", 1, SELECT + EVENT, TWICE), push("three", 3, SELECT + EVENT, "2 <k>"), push("three-ask", 3, "query ask - -/" + EVENT, "0 <k>/2 <k>"),
+    push("no-query", 1, "", "0 <k>"), negate("no-query", 1, ""), negate("malformed", 1, BAD_QUERY), negate("over-bound", 2, OVER_QUERY), negate("tree", 1, EVENT),
+]
+
+# Bars: their number is looked at before the texts.
+BARS = [
+    ("merge", "no-input", b"", refused(1)), ("merge", "no-texts", BAR * 4, refused(1)), ("merge", "three-bars", parted(OVER, BAY, "1 0", ""), refused(1)),
+    ("merge", "five-bars", parted(OVER, BAY, "1 0", "", "", ""), refused(1)), ("merge", "unended-fourth-bar", parted(OVER, BAY, "1 0", "") + b"--", refused(1)),
+    ("merge", "unended-fifth-bar", parted(OVER, BAY, "1 0", "", "") + b"--", refused(2)), ("merge", "unended-bar-behind", parted(EVENT, BAY, "1 0", "", "") + b"--", refused(1)),
+    ("merge_queries", "three-bars", parted(OVER_QUERY, SELECT + BAY, "1 0", ""), refused(1)), ("merge_queries", "five-bars", parted(OVER_QUERY, SELECT + BAY, "1 0", "", "", ""), refused(1)),
+    ("push", "no-bar", OVER_QUERY, refused(1)), ("push", "two-bars", parted(OVER_QUERY, "", ""), refused(1)),
+    ("negate", "bar-behind", OVER_QUERY + BAR, refused(1)), ("negate", "bar-before", BAR + OVER_QUERY, refused(1)), ("negate", "unended-bar", OVER_QUERY + b"--", refused(2)),
+    *[(program, "longest-input", padded(OVER, LONG), refused(1)) for program in ("merge_queries", "push")],
+    ("negate", "longest-input", padded(OVER, LONG), refused(2)),
+    *[(program, "too-long-input", padded(OVER + BAR * bars, LONG + 1), refused(2)) for program, bars in (("merge", 4), ("merge_queries", 4), ("push", 1), ("negate", 0))],
+]
+
+
+# An input of exactly 65,536 bytes whose answer has as many, and one with one more byte in the answer.
+
+TREE_BYTES = 16384
+
+
+def long_tree(once):
+    """A tree of 16,384 bytes, with a name of 5 bytes in three places and one of so many bytes in one place; and the path in it."""
+    start, end = "project ?nnnn ?nnnn/path ?nnnn ", " ?" + "m" * (once - 1)
+    path = "p" * (TREE_BYTES - len(text(start + end)))
+    return text(start + path + end), path
+
+
+def longest(once):
+    """A merge of two such trees, in 65,536 bytes, with a constant on a column of each side; and its answer. The name of column 0 and
+    1 has the numbers 0 and, where it is hidden, 1, so the other one has 2."""
+    (left, left_path), (right, right_path) = long_tree(once), long_tree(10)
+    room = LONG - len(parted(left, right, "", '0 ""', '1 ""'))
+    first, second = "a" * (room // 2), "b" * (room - room // 2)
+    given = parted(left, right, "", '0 "%s"' % first, '1 "%s"' % second)
+    side = 'join/path ?%s0 %s ?%s2/values 1 1/cols ?%s0/row "%s"'
+    sides = [side % (prefix, path, prefix, prefix, term) for prefix, path, term in (("l", left_path, first), ("r", right_path, second))]
+    return given, text("project ?l0 ?r0/join/" + "/".join(sides))
+
+
+def limits():
+    once = next(once for once in range(128, 1, -1) if len(longest(once)[1]) == LONG)
+    (given, written), (over, too_long) = longest(once), longest(once - 1)
+    assert len(given) == len(over) == LONG == len(written) == len(too_long) - 1
+    return [("merge", "longest-input-and-answer", given, written), ("merge", "answer-too-long", over, refused(6))]
+
+
+WRITTEN = CASES + CONSTANTS + KINDS + FIVE + ORDER + BARS + limits()
