@@ -9,6 +9,9 @@ use Rattle.parted.specs.Parted.{texts}
 use Rattle.answers.specs.Outcome.{Outcome, refused}
 use Rattle.gandeuch.specs.Scope.{scopeOutcome}
 use Rattle.gandeuch.specs.Rename.{renameOutcome}
+use Rattle.merging.specs.Merge.{mergePatternsOutcome, mergeQueriesOutcome}
+use Rattle.merging.specs.Push.{pushConstantsOutcome}
+use Rattle.merging.specs.Negate.{negateOutcome}
 
 -- "at most 65,536 bytes (else 2, first), parted by … lines `--` (else 1)": with n such lines there are n + 1 texts, and the call decides
 unfoldable pub inputOutcome : ℕ → (List Bytes → Outcome) → Bytes → Outcome
@@ -22,3 +25,19 @@ scopeInput = inputOutcome 0 (λ ts. scopeOutcome (getD ts 0 []))
 -- the program `rename` reads a tree and a mapping
 abbrev pub renameInput : Bytes → Outcome
 renameInput = inputOutcome 1 (λ ts. renameOutcome (getD ts 0 []) (getD ts 1 []))
+
+-- the program `merge` "reads left tree, right tree, join list, left and right constants"
+abbrev pub mergeInput : Bytes → Outcome
+mergeInput = inputOutcome 4 (λ ts. mergePatternsOutcome (getD ts 0 []) (getD ts 1 []) (getD ts 2 []) (getD ts 3 []) (getD ts 4 []))
+
+-- the program `merge_queries` reads the same with queries
+abbrev pub mergeQueriesInput : Bytes → Outcome
+mergeQueriesInput = inputOutcome 4 (λ ts. mergeQueriesOutcome (getD ts 0 []) (getD ts 1 []) (getD ts 2 []) (getD ts 3 []) (getD ts 4 []))
+
+-- the program `push` reads a query and constants
+abbrev pub pushInput : Bytes → Outcome
+pushInput = inputOutcome 1 (λ ts. pushConstantsOutcome (getD ts 0 []) (getD ts 1 []))
+
+-- the program `negate` reads a query
+abbrev pub negateInput : Bytes → Outcome
+negateInput = inputOutcome 0 (λ ts. negateOutcome (getD ts 0 []))

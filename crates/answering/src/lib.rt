@@ -3,12 +3,16 @@ use answers::Answer;
 use answers::number;
 use gandeuch::rename::rename;
 use gandeuch::scope::scope;
+use joining::merge::merge_patterns;
+use joining::merge::merge_queries;
+use joining::push::push_constants;
 use libc::STDOUT_FILENO;
+use negating::negate;
 use parted::bars;
 use parted::text_at;
 use text::piece;
 ghost use Rattle.answers.specs.Outcome.{Answered};
-ghost use Rattle.answering.specs.Answering.{scopeInput, renameInput};
+ghost use Rattle.answering.specs.Answering.{scopeInput, renameInput, mergeInput, mergeQueriesInput, pushInput, negateInput};
 
 // The bytes of the longest input, and of the longest answer.
 const LIMIT: usize = 65536;
@@ -37,6 +41,72 @@ pub fn answer_rename(input: &[u8], out: &mut [u8]) -> Answer
         return Answer::Malformed;
     }
     rename(text_at(input, 0), text_at(input, 1), out)
+}
+
+// The program `merge`: two trees, a join list, left and right constants.
+pub fn answer_merge(input: &[u8], out: &mut [u8]) -> Answer
+    ensures { λ r. ⌜ Answered (mergeInput (now (input .entry))) (now (out .entry)) (now (out .exit)) r ⌝ }
+{
+    if LIMIT < input.len() {
+        return Answer::OverBound;
+    }
+    if bars(input) != 4 {
+        return Answer::Malformed;
+    }
+    merge_patterns(
+        text_at(input, 0),
+        text_at(input, 1),
+        text_at(input, 2),
+        text_at(input, 3),
+        text_at(input, 4),
+        out,
+    )
+}
+
+// The program `merge_queries`: the same with queries.
+pub fn answer_merge_queries(input: &[u8], out: &mut [u8]) -> Answer
+    ensures { λ r. ⌜ Answered (mergeQueriesInput (now (input .entry))) (now (out .entry)) (now (out .exit)) r ⌝ }
+{
+    if LIMIT < input.len() {
+        return Answer::OverBound;
+    }
+    if bars(input) != 4 {
+        return Answer::Malformed;
+    }
+    merge_queries(
+        text_at(input, 0),
+        text_at(input, 1),
+        text_at(input, 2),
+        text_at(input, 3),
+        text_at(input, 4),
+        out,
+    )
+}
+
+// The program `push`: a query and constants.
+pub fn answer_push(input: &[u8], out: &mut [u8]) -> Answer
+    ensures { λ r. ⌜ Answered (pushInput (now (input .entry))) (now (out .entry)) (now (out .exit)) r ⌝ }
+{
+    if LIMIT < input.len() {
+        return Answer::OverBound;
+    }
+    if bars(input) != 1 {
+        return Answer::Malformed;
+    }
+    push_constants(text_at(input, 0), text_at(input, 1), out)
+}
+
+// The program `negate`: a query.
+pub fn answer_negate(input: &[u8], out: &mut [u8]) -> Answer
+    ensures { λ r. ⌜ Answered (negateInput (now (input .entry))) (now (out .entry)) (now (out .exit)) r ⌝ }
+{
+    if LIMIT < input.len() {
+        return Answer::OverBound;
+    }
+    if bars(input) != 0 {
+        return Answer::Malformed;
+    }
+    negate(text_at(input, 0), out)
 }
 
 // The answer's bytes, or the line `refused` with its number: whether all was written.

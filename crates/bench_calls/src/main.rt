@@ -1,41 +1,49 @@
-// Reads a tree from standard input, or a tree and a mapping, calls scope, or rename, as often as the first argument says and once
-// more, and writes the length of the answer and a mix of the lengths, which keeps every call in the compiled program.
+// Reads texts from standard input, parted by lines `--`, and makes a call of them as often as the first argument says and once
+// more, and writes the length of the answer and a mix of the lengths, which keeps every call in the compiled program. The second
+// argument is the call: 0 scope, 1 rename, 2 merge patterns, 3 merge queries, 4 push constants, 5 negate.
+use answering::answer_merge;
+use answering::answer_merge_queries;
+use answering::answer_negate;
+use answering::answer_push;
+use answering::answer_rename;
+use answering::answer_scope;
 use answers::size_of;
-use gandeuch::rename::rename;
-use gandeuch::scope::scope;
 use libc::STDIN_FILENO;
 use libc::STDOUT_FILENO;
-use parted::bars;
-use parted::text_at;
 use text::Number;
 use text::number_of;
 
-fn call(tree: &[u8], mapping: &[u8], renames: bool, out: &mut [u8]) -> usize {
-    if renames {
-        return size_of(rename(tree, mapping, out));
-    }
-    size_of(scope(tree, out))
+fn call(kind: u32, input: &[u8], out: &mut [u8]) -> usize {
+    let answer = match kind {
+        0 => answer_scope(input, out),
+        1 => answer_rename(input, out),
+        2 => answer_merge(input, out),
+        3 => answer_merge_queries(input, out),
+        4 => answer_push(input, out),
+        _ => answer_negate(input, out),
+    };
+    size_of(answer)
 }
 
-fn again(tree: &[u8], mapping: &[u8], renames: bool, out: &mut [u8], times: u32) -> usize {
+fn again(kind: u32, input: &[u8], out: &mut [u8], times: u32) -> usize {
     let mut mix: usize = 0;
     let mut k = times;
     while k > 0 {
-        mix = mix ^ call(tree, mapping, renames, out);
+        mix = mix ^ call(kind, input, out);
         k -= 1;
     }
     mix
 }
 
-fn run(input: &[u8], times: &[u8], out: &mut [u8]) {
+fn run(input: &[u8], times: &[u8], kind: &[u8], out: &mut [u8]) {
     let Number::Is(n) = number_of(times) else {
         return;
     };
-    let tree = text_at(input, 0);
-    let mapping = text_at(input, 1);
-    let renames = bars(input) != 0;
-    let mix = again(tree, mapping, renames, out, n);
-    let size = call(tree, mapping, renames, out);
+    let Number::Is(k) = number_of(kind) else {
+        return;
+    };
+    let mix = again(k, input, out, n);
+    let size = call(k, input, out);
     io::print_decimal(STDOUT_FILENO, size as u64);
     io::write_all(STDOUT_FILENO, b"\t");
     io::print_decimal(STDOUT_FILENO, mix as u64);
@@ -45,8 +53,10 @@ fn run(input: &[u8], times: &[u8], out: &mut [u8]) {
 fn main() {
     let mut word = [0u8; 16];
     let size = os::arg(1, &mut word);
+    let mut kind = [0u8; 16];
+    let kind_size = os::arg(2, &mut kind);
     let mut input = [0u8; 65536];
     let n = io::read_full(STDIN_FILENO, &mut input);
     let mut out = [0u8; 65536];
-    run(&input[..n], &word[..size], &mut out);
+    run(&input[..n], &word[..size], &kind[..kind_size], &mut out);
 }

@@ -3,12 +3,17 @@ use crate::rename::rename;
 use crate::scope::scope;
 use answers::number;
 use answers::size_of;
+use joining::merge::merge_patterns;
+use joining::merge::merge_queries;
+use joining::push::push_constants;
 use negating::negate;
 ghost use mathlib.Core.Path.{_≡_};
 ghost use Rattle.answers.specs.Outcome.{Reported};
 ghost use Rattle.gandeuch.specs.Scope.{scopeOutcome};
 ghost use Rattle.gandeuch.specs.Rename.{renameOutcome};
+ghost use Rattle.merging.specs.Merge.{mergePatternsOutcome, mergeQueriesOutcome};
 ghost use Rattle.merging.specs.Negate.{negateOutcome};
+ghost use Rattle.merging.specs.Push.{pushConstantsOutcome};
 
 // scope: tree to the lines `in` and `hid`.
 #[no_mangle]
@@ -41,6 +46,57 @@ pub extern "C" fn gandeuch_negate(query: &[u8], out: &mut [u8], size: &mut usize
     ensures { λ r. ⌜ Reported (negateOutcome (now (query .entry))) (now (out .entry)) (now (out .exit)) r (now (size .exit)) ⌝ }
 {
     let a = negate(query, out);
+    *size = size_of(a);
+    number(a)
+}
+
+// merge patterns: two trees, join list, left and right constants to tree.
+#[no_mangle]
+pub extern "C" fn gandeuch_merge_patterns(
+    left: &[u8],
+    right: &[u8],
+    joins: &[u8],
+    left_constants: &[u8],
+    right_constants: &[u8],
+    out: &mut [u8],
+    size: &mut usize,
+) -> u8
+    ensures { λ r. ⌜ Reported (mergePatternsOutcome (now (left .entry)) (now (right .entry)) (now (joins .entry)) (now («left_constants» .entry)) (now («right_constants» .entry))) (now (out .entry)) (now (out .exit)) r (now (size .exit)) ⌝ }
+{
+    let a = merge_patterns(left, right, joins, left_constants, right_constants, out);
+    *size = size_of(a);
+    number(a)
+}
+
+// merge queries: two queries, join list, left and right constants to query.
+#[no_mangle]
+pub extern "C" fn gandeuch_merge_queries(
+    left: &[u8],
+    right: &[u8],
+    joins: &[u8],
+    left_constants: &[u8],
+    right_constants: &[u8],
+    out: &mut [u8],
+    size: &mut usize,
+) -> u8
+    ensures { λ r. ⌜ Reported (mergeQueriesOutcome (now (left .entry)) (now (right .entry)) (now (joins .entry)) (now («left_constants» .entry)) (now («right_constants» .entry))) (now (out .entry)) (now (out .exit)) r (now (size .exit)) ⌝ }
+{
+    let a = merge_queries(left, right, joins, left_constants, right_constants, out);
+    *size = size_of(a);
+    number(a)
+}
+
+// push constants: query and constants to query.
+#[no_mangle]
+pub extern "C" fn gandeuch_push_constants(
+    query: &[u8],
+    constants: &[u8],
+    out: &mut [u8],
+    size: &mut usize,
+) -> u8
+    ensures { λ r. ⌜ Reported (pushConstantsOutcome (now (query .entry)) (now (constants .entry))) (now (out .entry)) (now (out .exit)) r (now (size .exit)) ⌝ }
+{
+    let a = push_constants(query, constants, out);
     *size = size_of(a);
     number(a)
 }

@@ -1,5 +1,9 @@
 // The programs' answers: for each record of the file `cases` a line of its label, then what the program writes for its text.
-// The kinds are 0 scope and 1 rename.
+// The kinds are 0 scope, 1 rename, 2 merge, 3 merge_queries, 4 push and 5 negate.
+use answering::answer_merge;
+use answering::answer_merge_queries;
+use answering::answer_negate;
+use answering::answer_push;
 use answering::answer_rename;
 use answering::answer_scope;
 use answering::write_answer;
@@ -14,7 +18,11 @@ ghost use Prim.Native.Nat.{_<_};
 fn answer_to(kind: u32, input: &[u8], out: &mut [u8]) -> Answer {
     match kind {
         0 => answer_scope(input, out),
-        _ => answer_rename(input, out),
+        1 => answer_rename(input, out),
+        2 => answer_merge(input, out),
+        3 => answer_merge_queries(input, out),
+        4 => answer_push(input, out),
+        _ => answer_negate(input, out),
     }
 }
 
@@ -28,7 +36,7 @@ fn turn(fd: i32, at: u64, window: &mut [u8], out: &mut [u8]) -> u64
     if r.kind == NONE {
         return next;
     }
-    if 1 < r.kind {
+    if 5 < r.kind {
         io::write_all(STDOUT_FILENO, b"bad record\n");
         return next;
     }

@@ -1,0 +1,12 @@
+// Reads two queries, a join list and constants of both from standard input, and writes the merged query.
+use answering::answer_merge_queries;
+use answering::write_answer;
+use libc::STDIN_FILENO;
+
+fn main() {
+    let mut input = [0u8; 65537];
+    let n = io::read_full(STDIN_FILENO, &mut input);
+    let mut out = [0u8; 65536];
+    let answer = answer_merge_queries(&input[..n], &mut out);
+    write_answer(answer, &out);
+}
