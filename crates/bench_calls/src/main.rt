@@ -7,22 +7,26 @@ use answering::answer_negate;
 use answering::answer_push;
 use answering::answer_rename;
 use answering::answer_scope;
+use answers::Answer;
 use answers::size_of;
 use libc::STDIN_FILENO;
 use libc::STDOUT_FILENO;
 use text::Number;
 use text::number_of;
 
-fn call(kind: u32, input: &[u8], out: &mut [u8]) -> usize {
-    let answer = match kind {
+fn answer_to(kind: u32, input: &[u8], out: &mut [u8]) -> Answer {
+    match kind {
         0 => answer_scope(input, out),
         1 => answer_rename(input, out),
         2 => answer_merge(input, out),
         3 => answer_merge_queries(input, out),
         4 => answer_push(input, out),
         _ => answer_negate(input, out),
-    };
-    size_of(answer)
+    }
+}
+
+fn call(kind: u32, input: &[u8], out: &mut [u8]) -> usize {
+    size_of(answer_to(kind, input, out))
 }
 
 fn again(kind: u32, input: &[u8], out: &mut [u8], times: u32) -> usize {
