@@ -1,0 +1,8 @@
+pub mod IfFound
+pub mod Values
+pub mod Bindings
+pub mod Functions
+pub mod Filters
+pub mod Cases
+pub mod Lines
+pub mod Leave
