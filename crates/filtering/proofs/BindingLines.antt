@@ -1,6 +1,6 @@
 -- The lines that bindings puts in: a `join` for each set in front of the inner pattern, the Values behind it, each line of them from one line of the sets' text. Assumes nothing.
 use mathlib.Core.Path.{_≡_, refl, sym, ap, ap₂, _∙_}
-use mathlib.Core.Bool.{Bool, true, false, cond, _&&_, _||_}
+use mathlib.Core.Bool.{Bool, true, false, _&&_, _||_}
 use mathlib.Core.List.{List, [], _∷_, _++_, map}
 use Prim.Native.Nat.{ℕ, zero, suc}
 use lib.ListN.{length}
@@ -20,13 +20,14 @@ use Rattle.negating.proofs.Found.{Outermost}
 use Rattle.negating.proofs.TreeLines.{downTo, behind, modified-lines}
 use Rattle.filtering.specs.Values.{groundTerm, groundTermFromDatavalue}
 use Rattle.filtering.specs.Bindings.{orNone, cellOf, positionsOf, boundVariables, valuesOf, joinedWithValues, patternWithBindings, positionsInside, valuesUsable}
-use Rattle.filtering.specs.Lines.{repeated, cellFrom, cellsFrom, valuesLine, atInside, noneComplex, rowUsable}
+use Rattle.filtering.specs.Terms.{formOf, termOf}
+use Rattle.filtering.specs.SetLines.{repeated, setsIn, isUsable, cellFrom, cellsFrom, valuesLine, atInside, allUsable, rowUsable}
 use Rattle.filtering.proofs.Valid.{bound-length}
 
 -- ---- values and rows
 
 cell-from : (d : Domain) (l x : Bytes) → cellFrom (spellV d) l x ≡ orNone (groundTerm d l x)
-unfolding cellFrom groundTerm same
+unfolding formOf termOf groundTerm same
 cell-from PlainString l x = refl
 cell-from LanguageTaggedString l x = refl
 cell-from Iri l x = refl
@@ -44,34 +45,34 @@ cell-from Tuple l x = refl
 cell-from Map l x = refl
 cell-from Other l x = refl
 
-usable-from : (d : Domain) (l x : Bytes) (b : Bool) → cond (same (spellV d) (bytes "Tuple") || same (spellV d) (bytes "Map")) false b ≡ (given (groundTerm d l x) && b)
-unfolding groundTerm same
-usable-from PlainString l x b = refl
-usable-from LanguageTaggedString l x b = refl
-usable-from Iri l x b = refl
-usable-from Float l x b = refl
-usable-from Double l x b = refl
-usable-from UnsignedLong l x b = refl
-usable-from NonNegativeLong l x b = refl
-usable-from UnsignedInt l x b = refl
-usable-from NonNegativeInt l x b = refl
-usable-from Long l x b = refl
-usable-from Int l x b = refl
-usable-from Boolean l x b = refl
-usable-from Null l x b = refl
-usable-from Tuple l x b = refl
-usable-from Map l x b = refl
-usable-from Other l x b = refl
+usable-from : (d : Domain) (l x : Bytes) → isUsable (spellV d) ≡ given (groundTerm d l x)
+unfolding formOf groundTerm same
+usable-from PlainString l x = refl
+usable-from LanguageTaggedString l x = refl
+usable-from Iri l x = refl
+usable-from Float l x = refl
+usable-from Double l x = refl
+usable-from UnsignedLong l x = refl
+usable-from NonNegativeLong l x = refl
+usable-from UnsignedInt l x = refl
+usable-from NonNegativeInt l x = refl
+usable-from Long l x = refl
+usable-from Int l x = refl
+usable-from Boolean l x = refl
+usable-from Null l x = refl
+usable-from Tuple l x = refl
+usable-from Map l x = refl
+usable-from Other l x = refl
 
 cells-from : (vs : List Value) → cellsFrom (putValues vs) ≡ map cellOf vs
 unfolding cellsFrom putValues
 cells-from [] = refl
 cells-from (v ∷ vs) = ap₂ _∷_ (cell-from (v .domain) (v .lexical) (v .extra)) (cells-from vs)
 
-none-complex : (vs : List Value) → noneComplex (putValues vs) ≡ all (λ v. given (groundTermFromDatavalue v)) vs
-unfolding noneComplex putValues all
-none-complex [] = refl
-none-complex (v ∷ vs) = usable-from (v .domain) (v .lexical) (v .extra) (noneComplex (putValues vs)) ∙ ap (λ (b : Bool). given (groundTermFromDatavalue v) && b) (none-complex vs)
+all-usable : (vs : List Value) → allUsable (putValues vs) ≡ all (λ v. given (groundTermFromDatavalue v)) vs
+unfolding allUsable putValues all
+all-usable [] = refl
+all-usable (v ∷ vs) = ap₂ _&&_ (usable-from (v .domain) (v .lexical) (v .extra)) (all-usable vs)
 
 columns-map : (cs : List Bytes) (ks : List Bytes) → columnsAt cs (map position ks) ≡ map (λ k. columnAt cs (position k)) ks
 unfolding columnsAt
@@ -172,4 +173,16 @@ unfolding putSets valuesUsable all rowUsable same
 usable-lines [] = refl
 usable-lines (x ∷ xs) =
     all-rows rowUsable (x .rows) (putSets xs [])
-    ∙ ap₂ _&&_ (all-same (λ r. rowUsable (bytes "row" ∷ putValues r)) (all (λ v. given (groundTermFromDatavalue v))) (x .rows) none-complex) (usable-lines xs)
+    ∙ ap₂ _&&_ (all-same (λ r. rowUsable (bytes "row" ∷ putValues r)) (all (λ v. given (groundTermFromDatavalue v))) (x .rows) all-usable) (usable-lines xs)
+
+-- ---- how many sets
+
+sets-in-rows : (rs : List (List Value)) (t : List Line) → setsIn (putValueRows rs t) ≡ setsIn t
+unfolding putValueRows setsIn same
+sets-in-rows [] t = refl
+sets-in-rows (r ∷ rs) t = sets-in-rows rs t
+
+pub sets-in : (xs : List BindingSet) → setsIn (putSets xs []) ≡ length xs
+unfolding putSets setsIn same
+sets-in [] = refl
+sets-in (x ∷ xs) = ap suc (sets-in-rows (x .rows) (putSets xs []) ∙ sets-in xs)

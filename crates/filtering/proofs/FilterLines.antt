@@ -18,13 +18,16 @@ use Rattle.algebra.specs.Word.{spellV, spellF, filterArity}
 use Rattle.algebra.specs.Valid.{Takes, ValidFilter, ValidParts, ValidFilters}
 use Rattle.algebra.specs.Layout.{putArity, put, putE, putEs, putValues, putFilter, putParts, putFilters}
 use Rattle.scoping.specs.Sets.{all}
-use Rattle.merging.specs.Request.{Projection, orZero}
+use Rattle.walking.specs.Walk.{orZero}
+use Rattle.merging.specs.Request.{Projection}
 use Rattle.negating.proofs.Found.{Outermost}
 use Rattle.negating.proofs.TreeLines.{downTo, behind, modified-lines}
 use Rattle.filtering.specs.Values.{expressionTerm}
 use Rattle.filtering.specs.Functions.{asTerm, referenced, tryExpressionFromUnary, tryExpressionFromBinary, tryExpressionFromFunction, if-some, tryExpressionFromTree, tryExpressionsFromParts, isConstantTrue}
 use Rattle.filtering.specs.Filters.{placedExpression, andThose, expressions, both, conjunction, filtered, patternWithFilters, referencesInside, partsInside}
-use Rattle.filtering.specs.Lines.{repeated, refInside, isTrueLine, partsBelow, leafLines, unaryLines, binaryLines, expressionLines, Walked, walked, inFront, andThen, severalParts, treeToExpression, Placed, oneMore, placedFilters}
+use Rattle.filtering.specs.SetLines.{repeated}
+use Rattle.filtering.specs.Terms.{formOf, termOf}
+use Rattle.filtering.specs.FilterLines.{refInside, isTrueLine, partsBelow, leafLines, unaryLines, binaryLines, expressionLines, Walked, walked, inFront, andThen, severalParts, treeToExpression, Placed, oneMore, placedFilters}
 use Rattle.filtering.proofs.BindingLines.{repeated-in}
 use Rattle.filtering.proofs.Valid.{if-some-gives}
 
@@ -102,7 +105,7 @@ asLines none = none
 asLines (some b) = some ((bytes "term" ∷ b ∷ []) ∷ [])
 
 leaf-from : (d : Domain) (l x : Bytes) → leafLines (spellV d) l x ≡ asLines (expressionTerm d l x)
-unfolding leafLines expressionTerm same
+unfolding leafLines formOf termOf expressionTerm same
 leaf-from PlainString l x = refl
 leaf-from LanguageTaggedString l x = refl
 leaf-from Iri l x = refl

@@ -7,4 +7,4 @@ pub mod Scope
 pub mod BindingLines
 pub mod FilterLines
 pub mod Refused
-pub mod Leaving
+pub mod Copying

@@ -1,14 +1,13 @@
--- When bindings and filters refuse by 3 and 7; and how many filters are not placed. Assumes nothing.
+-- When bindings and filters refuse by 3 and 7. Assumes nothing.
 use mathlib.Core.Path.{_≡_, refl, sym, ap, _∙_}
-use mathlib.Core.Bool.{Bool, true, false, cond, true≢false}
+use mathlib.Core.Bool.{Bool, true, false, true≢false}
 use mathlib.Core.List.{List, [], _∷_}
 use mathlib.Core.Option.{Option, none, some}
-use Prim.Native.Nat.{ℕ, suc, _+_, _≤_, _<_}
+use Prim.Native.Nat.{ℕ, _+_, _≤_, _<_}
 use native.Mathlib.Omega.{arith}
-use lib.ListN.{length}
 use Rattle.text.specs.Text.{Bytes}
 use Rattle.text.specs.Field.{given}
-use Rattle.algebra.specs.Tree.{Pattern, Expression}
+use Rattle.algebra.specs.Tree.{Pattern}
 use Rattle.algebra.specs.Query.{BindingSet, Filter}
 use Rattle.algebra.specs.Reader.{Outcome as Reading, malformed, overBound, reads, refuses}
 use Rattle.algebra.specs.Texts.{readTree, readSets, readFilters}
@@ -18,7 +17,7 @@ use Rattle.merging.specs.Request.{Projection}
 use Rattle.negating.specs.Projections.{outermostProjection}
 use Rattle.filtering.specs.IfFound.{ifFound}
 use Rattle.filtering.specs.Bindings.{positionsInside, valuesUsable, bindingsOutcome}
-use Rattle.filtering.specs.Filters.{placedExpression, andThose, expressions, referencesInside, filtersOutcome, notPlacedFrom, notPlaced}
+use Rattle.filtering.specs.Filters.{referencesInside, filtersOutcome}
 
 -- ---- a number of 3 or more comes from no text
 
@@ -131,20 +130,3 @@ filters-three tree filters e =
     let t = test-refused 3 (ifFound (outermostProjection (x .0)) (λ cs. all (referencesInside cs) (y .0))) _ (y .2) in
     let f = found-fails (outermostProjection (x .0)) (λ cs. all (referencesInside cs) (y .0)) t in
     record { pattern = x .0; list = y .0; projection = f .0; tree-read = x .1; filters-read = y .1; found = f .1; outside = f .2 }
-
--- ---- filters that are not placed, for L3
-
-not-placed-from : (i : ℕ) (cs : List Bytes) (fs : List Filter) → length (notPlacedFrom i cs fs) + length (expressions cs fs) ≡ length fs
-unfolding notPlacedFrom expressions
-not-placed-from i cs [] = refl
-not-placed-from i cs (f ∷ fs) = go (placedExpression cs f) (not-placed-from (suc i) cs fs)
-  where
-    go : (o : Option Expression) → length (notPlacedFrom (suc i) cs fs) + length (expressions cs fs) ≡ length fs
-        → length (cond (given o) (notPlacedFrom (suc i) cs fs) (i ∷ notPlacedFrom (suc i) cs fs)) + length (andThose o (expressions cs fs)) ≡ suc (length fs)
-    go none h = omega arith
-    go (some e) h = omega arith
-
--- each filter is placed or among the numbers
-pub not-placed-many : (x : Projection) (fs : List Filter) → length (notPlaced (some x) fs) + length (expressions (x .columns) fs) ≡ length fs
-unfolding notPlaced
-not-placed-many x fs = not-placed-from 0 (x .columns) fs

@@ -1,21 +1,19 @@
 -- The call filters: nemo's pattern_with_filters (queries.rs). Assumes nothing.
-use Prim.Native.Nat.{ℕ, suc}
+use Prim.Native.Nat.{ℕ}
 use mathlib.Core.Bool.{Bool, true, cond, _&&_}
 use mathlib.Core.List.{List, [], _∷_}
 use mathlib.Core.Option.{Option, none, some}
 use lib.ListN.{length}
 use lib.Dec.{ltb}
 use Rattle.text.specs.Text.{Bytes}
-use Rattle.text.specs.Field.{given}
 use Rattle.algebra.specs.Tree.{AND, Pattern, filter, Expression, apply, eend, econs}
 use Rattle.algebra.specs.Query.{Filter, leaf, ref, function, Filters, fend, fcons}
 use Rattle.algebra.specs.Texts.{readTree, readFilters}
 use Rattle.algebra.specs.Layout.{layout}
 use Rattle.answers.specs.Outcome.{Outcome, written, then, refusedUnless}
 use Rattle.scoping.specs.Sets.{all}
-use Rattle.merging.specs.Request.{Projection, position}
+use Rattle.merging.specs.Request.{position}
 use Rattle.merging.specs.Negate.{modifyOutermostProjection}
-use Rattle.merging.specs.Names.{from}
 use Rattle.negating.specs.Projections.{outermostProjection}
 use Rattle.filtering.specs.IfFound.{ifFound}
 use Rattle.filtering.specs.Functions.{tryExpressionFromTree, isConstantTrue}
@@ -85,16 +83,3 @@ filtersOutcome tree filters =
     then (readFilters filters) λ fs.
     refusedUnless 3 (ifFound (outermostProjection p) λ cs. all (referencesInside cs) fs)
     (written (layout (patternWithFilters p fs .pattern)))
-
--- ---- for request L3, which is not built yet: "the numbers of the filters it didn't place, counted from 0, rising"
-
-unfoldable pub notPlacedFrom : ℕ → List Bytes → List Filter → List ℕ
-unfolding placedExpression
-notPlacedFrom i cs [] = []
-notPlacedFrom i cs (f ∷ fs) = cond (given (placedExpression cs f)) (notPlacedFrom (suc i) cs fs) (i ∷ notPlacedFrom (suc i) cs fs)
-
--- "if no projection is found so is every filter"
-unfoldable pub notPlaced : Option Projection → List Filter → List ℕ
-unfolding notPlacedFrom from
-notPlaced none fs = from 0 (length fs)
-notPlaced (some x) fs = notPlacedFrom 0 (x .columns) fs

@@ -4,5 +4,7 @@ pub mod Bindings
 pub mod Functions
 pub mod Filters
 pub mod Cases
-pub mod Lines
-pub mod Leave
+pub mod Terms
+pub mod SetLines
+pub mod FilterLines
+pub mod Copying

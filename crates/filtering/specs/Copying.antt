@@ -1,4 +1,4 @@
--- Where a tree's lines end: a count of what is still to come, by the one table of words. For copying an inner pattern as it is. Assumes nothing.
+-- A tree's own lines among those that follow it: a count of what is still to come, by the one table of words. Assumes nothing.
 use Prim.Native.Nat.{ℕ, zero, suc}
 use mathlib.Core.List.{List, [], _∷_}
 use mathlib.Core.Option.{Option, none, some}
@@ -7,7 +7,7 @@ use Rattle.text.specs.Text.{Line}
 use Rattle.text.specs.Field.{numberOf}
 use Rattle.algebra.specs.Table.{Below, Row, table, rowIn}
 use Rattle.algebra.specs.Machine.{amountOf}
-use Rattle.merging.specs.Request.{orZero}
+use Rattle.walking.specs.Walk.{numberIn}
 use Rattle.negating.specs.Lines.{word}
 
 -- n and k
@@ -29,18 +29,7 @@ below (some r) = r .below
 -- how many lines of any sort stand directly below a line
 unfoldable pub toCome : Line → ℕ
 unfolding amounts table rowIn numberOf
-toCome l = amounts (below (rowIn table (word l))) (orZero (numberOf (getD l 1 [])) ∷ orZero (numberOf (getD l 2 [])) ∷ [])
-
--- line by line, while something is to come
-unfoldable pub leaving : List Line → ℕ → List Line
-unfolding plus toCome
-leaving [] k = []
-leaving (l ∷ ls) zero = l ∷ ls
-leaving (l ∷ ls) (suc k) = leaving ls (plus (toCome l) k)
-
--- the lines behind k trees, each with all that stands below it
-abbrev pub leave : ℕ → List Line → List Line
-leave k ls = leaving ls k
+toCome l = amounts (below (rowIn table (word l))) (numberIn (getD l 1 []) ∷ numberIn (getD l 2 []) ∷ [])
 
 -- the lines of k trees, in front of others
 unfoldable pub copying : List Line → ℕ → List Line → List Line

@@ -1,70 +1,18 @@
--- How code goes over the lines of binding sets and of filters, and which lines it writes; proofs/BindingLines and FilterLines say what that makes of the trees. Assumes nothing.
+-- How code goes over the lines of filters, and which lines it writes; proofs/FilterLines says what that makes of the filters. Assumes nothing.
 use Prim.Native.Nat.{ℕ, zero, suc}
-use mathlib.Core.Bool.{Bool, true, false, cond, not, _&&_, _||_}
-use mathlib.Core.List.{List, [], _∷_, _++_, map}
+use mathlib.Core.Bool.{Bool, true, false, cond, not, _&&_}
+use mathlib.Core.List.{List, [], _∷_, _++_}
 use mathlib.Core.Option.{Option, none, some}
-use lib.ListN.{length, getD, drop}
+use lib.ListN.{length, getD}
 use lib.Dec.{ltb}
 use Rattle.text.specs.Text.{Bytes, Line, same}
 use Rattle.text.specs.Word.{bytes}
 use Rattle.text.specs.Field.{numberOf}
-use Rattle.scoping.specs.Premises.{inside}
+use Rattle.walking.specs.Walk.{numberIn}
 use Rattle.merging.specs.Sides.{columnAt}
-use Rattle.merging.specs.Request.{orZero, position}
+use Rattle.merging.specs.Request.{position}
 use Rattle.negating.specs.Lines.{word}
-use Rattle.filtering.specs.Values.{simple, tagged, typed, named}
-
--- n lines of one word in front of others
-unfoldable pub repeated : ℕ → Bytes → List Line → List Line
-repeated zero w t = t
-repeated (suc n) w t = (w ∷ []) ∷ repeated n w t
-
--- ---- binding sets, line by line
-
--- the cell that a value's three fields become; none for Tuple and Map
-unfoldable pub cellFrom : Bytes → Bytes → Bytes → Bytes
-unfolding same
-cellFrom d l x =
-    cond (same d (bytes "PlainString")) (simple l)
-    (cond (same d (bytes "LanguageTaggedString")) (tagged l x)
-    (cond (same d (bytes "Iri")) (named l)
-    (cond (same d (bytes "Null")) (bytes "-")
-    (cond (same d (bytes "Tuple") || same d (bytes "Map")) [] (typed l x)))))
-
--- the values of a row, three fields each
-unfoldable pub cellsFrom : List Bytes → List Bytes
-unfolding cellFrom
-cellsFrom [] = []
-cellsFrom (d ∷ []) = []
-cellsFrom (d ∷ l ∷ []) = []
-cellsFrom (d ∷ l ∷ x ∷ fs) = cellFrom d l x ∷ cellsFrom fs
-
--- `set m k` becomes `values m k`, `at` the columns at its positions, `row` the cells of its values
-unfoldable pub valuesLine : List Bytes → Line → Line
-unfolding same position cellsFrom
-valuesLine cs l =
-    cond (same (word l) (bytes "set")) (bytes "values" ∷ drop 1 l)
-    (cond (same (word l) (bytes "at")) (bytes "cols" ∷ map (λ k. columnAt cs (position k)) (drop 1 l)) (bytes "row" ∷ cellsFrom (drop 1 l)))
-
--- an `at` line names only positions inside; 3 if one doesn't
-unfoldable pub atInside : List Bytes → Line → Bool
-unfolding same inside position
-atInside cs l = cond (same (word l) (bytes "at")) (inside cs (map position (drop 1 l))) true
-
--- no value of a row is Tuple or Map
-unfoldable pub noneComplex : List Bytes → Bool
-unfolding same
-noneComplex [] = true
-noneComplex (d ∷ []) = true
-noneComplex (d ∷ l ∷ []) = true
-noneComplex (d ∷ l ∷ x ∷ fs) = cond (same d (bytes "Tuple") || same d (bytes "Map")) false (noneComplex fs)
-
--- 7 if a `row` line has one
-unfoldable pub rowUsable : Line → Bool
-unfolding same noneComplex
-rowUsable l = cond (same (word l) (bytes "row")) (noneComplex (drop 1 l)) true
-
--- ---- filters, line by line
+use Rattle.filtering.specs.Terms.{formOf, isExpressed, termOf}
 
 -- a `ref` line names a position inside; 3 if one doesn't
 unfoldable pub refInside : List Bytes → Line → Bool
@@ -83,16 +31,12 @@ partsBelow l =
     cond (same (word l) (bytes "un")) 1
     (cond (same (word l) (bytes "bin")) 2
     (cond (same (word l) (bytes "tern")) 3
-    (cond (same (word l) (bytes "nary")) (orZero (numberOf (getD l 2 []))) 0)))
+    (cond (same (word l) (bytes "nary")) (numberIn (getD l 2 [])) 0)))
 
 -- the lines that a line of a filter becomes, or that it can't be expressed
 unfoldable pub leafLines : Bytes → Bytes → Bytes → Option (List Line)
-unfolding same
-leafLines d l x =
-    cond (same d (bytes "PlainString")) (some ((bytes "term" ∷ simple l ∷ []) ∷ []))
-    (cond (same d (bytes "LanguageTaggedString")) (some ((bytes "term" ∷ tagged l x ∷ []) ∷ []))
-    (cond (same d (bytes "Iri")) (some ((bytes "term" ∷ named l ∷ []) ∷ []))
-    (cond (same d (bytes "Null") || (same d (bytes "Tuple") || (same d (bytes "Map") || same d (bytes "Other")))) none (some ((bytes "term" ∷ typed l x ∷ []) ∷ [])))))
+unfolding formOf termOf
+leafLines d l x = cond (isExpressed (formOf d)) (some ((bytes "term" ∷ termOf (formOf d) l x ∷ []) ∷ [])) none
 
 unfoldable pub unaryLines : Bytes → Option (List Line)
 unfolding same

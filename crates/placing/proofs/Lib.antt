@@ -1,0 +1,4 @@
+pub mod Next
+pub mod Copied
+pub mod Listed
+pub mod Written
