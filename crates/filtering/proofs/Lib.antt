@@ -8,3 +8,4 @@ pub mod BindingLines
 pub mod FilterLines
 pub mod Refused
 pub mod Copying
+pub mod Read

@@ -7,19 +7,19 @@ use mathlib.Core.Option.{Option, none, some}
 use native.Mathlib.Numerals.{add-one}
 use native.Mathlib.Decide.{decLt}
 use native.Mathlib.Omega.{arith}
-use lib.ListN.{length, getD, take, drop, drop-of-length-le}
+use lib.ListN.{length, getD, drop, drop-of-length-le}
 use lib.Seq.{drop-cons}
-use Rattle.text.specs.Text.{Bytes, Line, same, ended, textOf, split, part, linesFrom, First}
+use Rattle.text.specs.Text.{Bytes, Line, same, ended, textOf, split, part, linesFrom}
 use Rattle.text.proofs.Texts.{Ended, glue-split, ended-glue}
 use Rattle.text.proofs.Places.{lines-next, lines-open, lines-end}
-use Rattle.parted.proofs.Laws.{part-join, part-line}
 use Rattle.algebra.specs.Table.{Sort, parts, Below, Row, Entry, sorts, rowsOf, entriesOf, table, rowIn, rowFor}
 use Rattle.words.specs.declared.Row.{Row as Code}
 use Rattle.words.specs.declared.Found.{Found}
 use Rattle.words.specs.declared.Found.the-variants.{Is, None}
 use Rattle.words.specs.Code.{sortAt, groupOf, rowOf, rowFound, noCode, Tidy}
-use Rattle.lines.specs.Stack.{amountIn}
 use Rattle.cursor.specs.Cursor.{left}
+use Rattle.parted.proofs.Laws.{part-join, part-line}
+use Rattle.lines.specs.Stack.{amountIn}
 use Rattle.walking.specs.Walk.{rowOr, numberIn}
 use Rattle.walking.specs.Code.{LineEnd}
 use Rattle.walking.proofs.Laws.{tidy-is}

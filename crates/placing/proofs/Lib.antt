@@ -2,3 +2,4 @@ pub mod Next
 pub mod Copied
 pub mod Listed
 pub mod Written
+pub mod Inner

@@ -2,18 +2,22 @@
 use Prim.Native.Nat.{ℕ, _+_, _-_, _≤_, _<_}
 use mathlib.Core.Path.{_≡_, refl, sym, ap, ap₂, _∙_}
 use mathlib.Core.List.{List, [], _∷_, _++_, append-assoc, append-nil}
+use mathlib.Core.Logic.{⊎-elim}
 use native.Mathlib.Numerals.{add-one}
 use native.Mathlib.Omega.{arith}
-use lib.ListN.{length, getD, set, List·getD-eq-default}
+use lib.ListN.{length, getD, set, drop, List·getD-eq-default}
 use lib.Seq.{getD-set-same}
-use Rattle.text.specs.Text.{Bytes, part, piece}
+use Rattle.text.specs.Text.{Bytes, Line, part, piece, linesFrom, First}
+use Rattle.text.proofs.Places.{lines-next}
 use Rattle.names.specs.Names.{listing}
 use Rattle.names.proofs.Laws.{listing-below, listing-long}
 use Rattle.cursor.specs.Cursor.{left}
 use Rattle.cursor.proofs.Laws.{left-none}
-use Rattle.walking.proofs.Laws.{listing-at}
+use Rattle.walking.specs.Code.{LineEnd}
+use Rattle.walking.proofs.Lines.{nothing-here}
+use Rattle.walking.proofs.Laws.{listing-at, line-split}
 use Rattle.placing.specs.declared.field.Field.{Field}
-use Rattle.placing.specs.Fields.{FieldIs}
+use Rattle.placing.specs.Fields.{FieldIs, columnsOn}
 
 pub columns-start : (s : Bytes) (a l : List ℕ) (cs : List Bytes) → listing s a l 0 ++ cs ≡ cs
 unfolding listing
@@ -47,3 +51,19 @@ column-none s a l n k h = sym (List·getD-eq-default (listing s a l n) [] (let z
 
 pub column-is : (s : Bytes) (a l : List ℕ) (n k x y : ℕ) → k < n → x ≡ getD a k 0 → y ≡ getD l k 0 → (r : Bytes) → r ≡ piece x y s → r ≡ getD (listing s a l n) k []
 column-is s a l n k x y h p q r e = e ∙ ap₂ (λ (i j : ℕ). piece i j s) p q ∙ sym (listing-at s a l k n h)
+
+-- the columns stand behind the word of the projection's line
+module _ (s : Bytes) (line end : ℕ) (l : LineEnd s line end) where
+  pub no-columns : (a b : List ℕ) → end ≡ length s → listing s a b 0 ≡ columnsOn s line
+  unfolding listing
+  no-columns a b e = ⊎-elim (λ (z : linesFrom s line ≡ []). rw z) (λ (z : linesFrom s line ≡ [] ∷ []). rw z) (nothing-here s line end l e)
+
+  module _ (more : end ≡ length s → ⊥) where
+    ends : end < length s
+    ends = let h = l .high in omega arith
+
+    pub line-low : line ≤ end
+    line-low = l .ends ends .low
+
+    pub columns-on : (w : ℕ) → First 9 s line end w → left s (w + 1) end ≡ columnsOn s line
+    columns-on w f = sym (ap (λ (ls : List Line). drop 1 (getD ls 0 [])) (lines-next s line end (l .ends ends) ends ∙ ap (λ (x : Line). x ∷ linesFrom s (end + 1)) (line-split s line end w ends line-low f)))

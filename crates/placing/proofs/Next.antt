@@ -1,15 +1,18 @@
 -- The next field of a line. Assumes nothing.
 use Prim.Native.Nat.{ℕ, _+_, _-_, _≤_, _<_}
-use mathlib.Core.Path.{_≡_, refl, _∙_}
+use mathlib.Core.Path.{_≡_, refl, sym, ap, _∙_}
 use mathlib.Core.List.{[], _∷_}
 use mathlib.Core.Option.{Option, none, some}
 use native.Mathlib.Omega.{arith}
 use lib.ListN.{length}
 use Rattle.text.specs.Text.{Bytes, First}
 use Rattle.text.specs.Field.{numberOf}
+use Rattle.text.specs.Code.{numberIn}
+use Rattle.text.specs.declared.Number.{Number}
+use Rattle.text.specs.declared.Number.the-variants.{Is, Not}
 use Rattle.cursor.proofs.Laws.{left-none, left-next}
 use Rattle.walking.specs.Walk as W
-use Rattle.merging.specs.Request as R
+use Rattle.merging.specs.Request.{orZero, position}
 use Rattle.placing.specs.Fields.{FieldIs}
 
 pub field-none : (s : Bytes) (at end : ℕ) → end < at → at ≤ end + 1 → FieldIs s at end (record { to = at; next = at })
@@ -43,11 +46,21 @@ field-here s at end e h k f =
       rest = rw n;
     }
 
--- a field's number is its position
-pub position-number : (f : Bytes) → R.position f ≡ W.numberIn f
-unfolding R.position
+-- a field's position
+module _ (f : Bytes) (r : Number) (e : numberIn r ≡ numberOf f) where
+  pub position-is : (v : ℕ) → r ≡ Is v → v ≡ position f
+  unfolding position
+  position-is v h = ap orZero (sym (ap numberIn h) ∙ e)
+
+  pub position-not : r ≡ Not → 0 ≡ position f
+  unfolding position
+  position-not h = ap orZero (sym (ap numberIn h) ∙ e)
+
+-- it is the number that the walk reads
+pub position-number : (f : Bytes) → position f ≡ W.numberIn f
+unfolding position
 position-number f = go (numberOf f)
   where
-    go : (o : Option ℕ) → R.orZero o ≡ W.orZero o
+    go : (o : Option ℕ) → orZero o ≡ W.orZero o
     go none = refl
     go (some n) = refl
