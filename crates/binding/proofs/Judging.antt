@@ -1,12 +1,12 @@
 -- What is asked of the lines of binding sets, field by field and line by line. Assumes nothing.
 use Prim.Native.Nat.{ℕ, suc, _+_, _≤_, _<_}
 use mathlib.Core.Path.{_≡_, refl, sym, ap, _∙_}
-use mathlib.Core.Bool.{Bool, true, false, cond, not, _&&_}
+use mathlib.Core.Bool.{Bool, true, false, cond, _&&_}
 use mathlib.Core.List.{List, [], _∷_}
 use mathlib.Core.Logic.{⊎-elim}
 use native.Mathlib.Omega.{arith}
 use lib.ListN.{length, getD, drop}
-use borrow.Author.Tests.{lt-ltb, le-ltb, eq-eqb, ne-eqb, not-true, not-false}
+use borrow.Author.Tests.{lt-ltb, le-ltb, eq-eqb, ne-eqb}
 use Rattle.text.specs.Text.{Bytes, Line, same, split, part, linesFrom, First}
 use Rattle.text.specs.Word.{bytes}
 use Rattle.text.proofs.Places.{lines-next, lines-end}
@@ -95,12 +95,6 @@ module _ (s : Bytes) (from end w : ℕ) (h : from ≤ end) (i : end < length s) 
 
     pub set-other : b ≡ false → n ≡ cond (same (getD (split 9 (part from end s)) 0 []) (bytes "set")) (n + 1) n
     set-other t = rw (fields, sym is ∙ t)
-
-pub both-true : (a b : Bool) → not a ≡ false → b ≡ (a && b)
-both-true a b h = rw (not-false a h)
-
-pub both-false : (a b : Bool) → not a ≡ true → false ≡ (a && b)
-both-false a b h = rw (not-true a h)
 
 -- ---- line by line
 

@@ -26,6 +26,7 @@ use Rattle.filtering.specs.Terms.{formOf, termOf}
 use Rattle.filtering.specs.SetLines.{cellFrom, cellsFrom, valuesLine}
 use Rattle.placing.specs.declared.field.Field.{Field}
 use Rattle.placing.specs.Fields.{FieldIs}
+use Rattle.placing.proofs.Copied.{behind-line}
 use Rattle.placing.proofs.Inner.{cancel}
 use Rattle.binding.specs.Bound.{boundFrom}
 
@@ -109,10 +110,6 @@ module _ (cs : List Bytes) (s : Bytes) (from end w : ℕ) (h : from ≤ end) (i 
       row-line t p q = rw (fields, sym is ∙ no, sym at ∙ t) (line-put (bytes "row") (cellsFrom Fields) e x y p q)
 
 -- ---- line by line
-
-behind-line : (l : Line) (ls : List Line) → Ended (l ∷ ls) → Ended ls
-behind-line [] ls e = absurd e
-behind-line (f ∷ fs) ls e = e
 
 abbrev pub ValuesText : List Bytes → List Line → Bytes
 ValuesText cs ls = textOf (map (valuesLine cs) ls)

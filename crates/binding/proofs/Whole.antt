@@ -1,5 +1,5 @@
 -- The call bindings, from places in its texts to the bytes. Assumes nothing.
-use Prim.Native.Nat.{ℕ, zero, suc, _-_, _≤_, _<_}
+use Prim.Native.Nat.{ℕ, _-_, _≤_, _<_}
 use mathlib.Core.Path.{_≡_, refl, sym, ap, ap₂, _∙_}
 use mathlib.Core.Bool.{Bool, true, false, cond, not, _&&_}
 use mathlib.Core.List.{List, [], _∷_, _++_, map}
@@ -9,7 +9,7 @@ use lib.ListN.{length, take, drop, length-drop}
 use lib.Seq.{take-all}
 use lib.Dec.{ltb}
 use borrow.Author.Tests.{not-true, not-false}
-use Rattle.text.specs.Text.{Bytes, Line, same, ended, textOf, part, linesFrom}
+use Rattle.text.specs.Text.{Bytes, Line, same, textOf, part, linesFrom}
 use Rattle.text.specs.Word.{bytes}
 use Rattle.algebra.specs.Tree.{Pattern}
 use Rattle.algebra.specs.Query.{BindingSet}
@@ -17,7 +17,7 @@ use Rattle.algebra.specs.Layout.{put, putSets, layout}
 use Rattle.algebra.specs.Reader.{reads, refuses, malformed, overBound}
 use Rattle.algebra.specs.Texts.{readTree, readSets}
 use Rattle.emit.specs.Emit.{Em, em, last, puts}
-use Rattle.emit.proofs.Laws.{puts-append, puts-nil}
+use Rattle.emit.proofs.Laws.{puts-append}
 use Rattle.answers.specs.declared.Answer.the-variants.{Written, Malformed, OverBound, Outside, TooShort, NotUsable}
 use Rattle.answers.specs.Outcome.{written, refused, refusedUnless, Reported, Answered}
 use Rattle.answers.proofs.Answers.{too-short, all-written, answered}
@@ -35,22 +35,11 @@ use Rattle.filtering.proofs.Theorem.{found-same, bindings-not-found}
 use Rattle.filtering.proofs.Read.{sets-at}
 use Rattle.placing.specs.Fields.{columnsOn}
 use Rattle.placing.specs.Ends.{EndsAt}
+use Rattle.placing.proofs.Repeated.{repeated-append}
 use Rattle.placing.proofs.Inner.{none-found, Found, is-found, way, columns-are, modified, inner-copied, rest-text}
 use Rattle.binding.specs.declared.judge.Judged.{Judged}
 use Rattle.binding.specs.Judged.{allBelow, atBelow, JudgedAll}
 use Rattle.binding.specs.Bound.{boundAt}
-
--- ---- the lines `join`
-
-pub joins-next : (k : ℕ) (e x : Em) → 0 < k → x ≡ puts (bytes "join\n") e → puts (textOf (repeated (k - 1) (bytes "join") [])) x ≡ puts (textOf (repeated k (bytes "join") [])) e
-unfolding repeated textOf ended
-joins-next zero e x h p = absurd (omega arith)
-joins-next (suc k) e x h p = let z : suc k - 1 ≡ k = omega arith in rw z (ap (puts (textOf (repeated k (bytes "join") []))) p ∙ sym (puts-append (bytes "join\n") (textOf (repeated k (bytes "join") [])) e))
-
-pub joins-done : (k : ℕ) (e : Em) → k ≤ 0 → puts (textOf (repeated k (bytes "join") [])) e ≡ e
-unfolding repeated textOf
-joins-done zero e h = puts-nil e
-joins-done (suc k) e h = absurd (omega arith)
 
 -- ---- the five pieces
 
@@ -72,11 +61,6 @@ bound-put s inner end joins cs ls e a b c d r p q u v w =
     ∙ puts-append Y (drop end s) _)
 
 -- ---- the outcome
-
-repeated-append : (n : ℕ) (w : Bytes) (t : List Line) → repeated n w t ≡ repeated n w [] ++ t
-unfolding repeated
-repeated-append zero w t = refl
-repeated-append (suc n) w t = ap (λ (l : List Line). (w ∷ []) ∷ l) (repeated-append n w t)
 
 -- positions are below the width exactly if they are inside
 fields-inside : (cs fs : List Bytes) → allBelow (length cs) fs ≡ inside cs (map position fs)

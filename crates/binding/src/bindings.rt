@@ -9,14 +9,14 @@ use negating::Outermost;
 use negating::outermost_projection;
 use placing::columns::read_columns;
 use placing::ends::pattern_end;
+use placing::steps::put_repeated;
 use reading::check_sets;
 use reading::check_tree;
 ghost use mathlib.Core.Path.{_≡_};
 ghost use Prim.Native.Nat.{_≤_};
-ghost use mathlib.Core.List.{List, []};
+ghost use mathlib.Core.List.{List};
 ghost use lib.ListN.{length};
-ghost use Rattle.text.specs.Text.{textOf, linesFrom};
-ghost use Rattle.text.specs.Word.{bytes};
+ghost use Rattle.text.specs.Text.{linesFrom};
 ghost use Rattle.text.proofs.Texts.{Ended};
 ghost use Rattle.algebra.specs.Tree.{Pattern};
 ghost use Rattle.algebra.specs.Query.{BindingSet};
@@ -25,24 +25,10 @@ ghost use Rattle.algebra.specs.Texts.{readTree, readSets};
 ghost use Rattle.names.specs.Names.{listing};
 ghost use Rattle.emit.specs.Emit.{em, puts};
 ghost use Rattle.answers.specs.Outcome.{Answered};
-ghost use Rattle.filtering.specs.SetLines.{repeated};
 ghost use Rattle.filtering.specs.Bindings.{bindingsOutcome};
 ghost use Rattle.binding.specs.Bound.{boundAt};
 
-const JOIN: [u8; 5] = *b"join\n";
-
-// So many lines `join`.
-fn put_joins(count: usize, out: &mut [u8], at: usize) -> usize
-    ensures { λ r. ⌜ em r (now (out .exit)) ≡ puts (textOf (repeated count (bytes "join") [])) (em at (now (out .entry))) ⌝ }
-{
-    let mut to = at;
-    let mut left = count;
-    while 0 < left {
-        to = put_all(out, to, &JOIN);
-        left -= 1;
-    }
-    to
-}
+const JOIN: [u8; 4] = *b"join";
 
 // pattern_with_bindings: the tree down to its projection, a join for each set, the inner pattern, the Values, the rest.
 fn put_bindings(
@@ -60,7 +46,7 @@ fn put_bindings(
     ensures { λ r. ⌜ em r (now (out .exit)) ≡ puts (boundAt (now (tree .entry)) inner end joins (listing (now (tree .entry)) (now (starts .entry)) (now (sizes .entry)) n) (linesFrom (now (sets .entry)) 0)) (em 0 (now (out .entry))) ⌝ }
 {
     let a = put_all(out, 0, &tree[..inner]);
-    let b = put_joins(joins, out, a);
+    let b = put_repeated(&JOIN, joins, out, a);
     let c = put_all(out, b, &tree[inner..end]);
     let d = put_values(tree, starts, sizes, n, sets, out, c);
     put_all(out, d, &tree[end..])

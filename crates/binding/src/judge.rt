@@ -1,13 +1,14 @@
 // What the lines of checked binding sets ask for: positions that are all inside, values that all become cells, and how many sets.
 use placing::field::field_at;
 use placing::field::position_of;
+use placing::steps::both;
 use placing::term::form_of;
 use text::equal;
 use text::find;
 use walking::line::line_end;
 ghost use mathlib.Core.Path.{_≡_};
 ghost use Prim.Native.Nat.{_+_, _≤_, _<_};
-ghost use mathlib.Core.Bool.{cond, _&&_};
+ghost use mathlib.Core.Bool.{cond};
 ghost use mathlib.Core.List.{[]};
 ghost use lib.ListN.{length, getD};
 ghost use Rattle.text.specs.Text.{same, part, split, linesFrom};
@@ -92,15 +93,6 @@ fn and_set(count: usize, sets: &[u8], from: usize, end: usize) -> usize
         return count + 1;
     }
     count
-}
-
-fn both(a: bool, b: bool) -> bool
-    ensures { λ r. ⌜ r ≡ (a && b) ⌝ }
-{
-    if !a {
-        return false;
-    }
-    b
 }
 
 // All positions are inside, all values become cells, and there are so many sets.

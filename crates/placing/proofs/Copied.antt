@@ -148,7 +148,7 @@ going-start s from n = (n, λ v. let z : from - from ≡ 0 = omega arith in rw z
 line-text : (p r : Bytes) → ended (split 9 p) r ≡ p ++ (10 ∷ r)
 line-text p r = ended-glue (split 9 p) r ∙ ap (λ (x : Bytes). x ++ (10 ∷ r)) (glue-split 9 p)
 
-behind-line : (l : Line) (ls : List Line) → Ended (l ∷ ls) → Ended ls
+pub behind-line : (l : Line) (ls : List Line) → Ended (l ∷ ls) → Ended ls
 behind-line [] ls e = absurd e
 behind-line (f ∷ fs) ls e = e
 

@@ -3,3 +3,4 @@ pub mod Copied
 pub mod Listed
 pub mod Written
 pub mod Inner
+pub mod Repeated

@@ -2,4 +2,5 @@
 pub mod columns;
 pub mod ends;
 pub mod field;
+pub mod steps;
 pub mod term;
