@@ -8,7 +8,7 @@ use lib.ListN.{length, drop}
 use Rattle.text.specs.Text.{Bytes}
 use Rattle.algebra.specs.Reader.{Outcome as Reading, reads, refuses, refusalNumber}
 use Rattle.answers.specs.declared.Answer.{Answer}
-use Rattle.answers.specs.declared.Answer.the-variants.{Written, Malformed, OverBound, Outside, NotProject, NotMergeable, TooShort}
+use Rattle.answers.specs.declared.Answer.the-variants.{Written, Malformed, OverBound, Outside, NotProject, NotMergeable, TooShort, NotUsable}
 
 -- ---- what is to come of the texts alone
 
@@ -34,7 +34,7 @@ refusedUnless n false o = refused n
 
 -- ---- what the call does
 
--- "1 malformed, 2 over a bound, 3 position outside, 4 root isn't Project, 5 heads differ or kind not mergeable, 6 output too short"; 0 where bytes were written
+-- "1 malformed, 2 over a bound, 3 position outside, 4 root isn't Project, 5 heads differ or kind not mergeable, 6 output too short, 7 value not usable"; 0 where bytes were written
 abbrev pub number : Answer → ℕ
 number (Written n) = 0
 number Malformed = 1
@@ -43,6 +43,7 @@ number Outside = 3
 number NotProject = 4
 number NotMergeable = 5
 number TooShort = 6
+number NotUsable = 7
 
 -- "A refusal returns its number and length 0"
 abbrev pub size : Answer → ℕ
@@ -53,6 +54,7 @@ size Outside = 0
 size NotProject = 0
 size NotMergeable = 0
 size TooShort = 0
+size NotUsable = 0
 
 -- number, length and every byte of the buffer. "Success returns the exact length; bytes past it are unchanged"; "6 only if the answer is longer than the buffer"
 unfoldable pub Reported : Outcome → Bytes → Bytes → ℕ → ℕ → Type 0

@@ -11,6 +11,7 @@ pub enum Answer {
     NotProject,
     NotMergeable,
     TooShort,
+    NotUsable,
 }
 
 // Document 01's number.
@@ -25,6 +26,7 @@ pub fn number(a: Answer) -> u8
         Answer::NotProject => 4,
         Answer::NotMergeable => 5,
         Answer::TooShort => 6,
+        Answer::NotUsable => 7,
     }
 }
 
@@ -40,5 +42,6 @@ pub fn size_of(a: Answer) -> usize
         Answer::NotProject => 0,
         Answer::NotMergeable => 0,
         Answer::TooShort => 0,
+        Answer::NotUsable => 0,
     }
 }

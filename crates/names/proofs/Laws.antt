@@ -71,7 +71,7 @@ module _ (f s : Bytes) (a l : List ℕ) where
       (⊎-elim (λ (q : i ≡ n). rw (subst (λ k. same f (nameAt s a l k) ≡ true) q e) (or-true (mem f (listing s a l n)))) (λ k. rw (listed i n k e)) (eq-or-lt-of-le (omega arith)))
 
 -- the names below an entry do not depend on it
-listing-below : (s : Bytes) (a l : List ℕ) (k v w n : ℕ) → n ≤ k → listing s (set a k v) (set l k w) n ≡ listing s a l n
+pub listing-below : (s : Bytes) (a l : List ℕ) (k v w n : ℕ) → n ≤ k → listing s (set a k v) (set l k w) n ≡ listing s a l n
 unfolding listing
 listing-below s a l k v w zero h = refl
 listing-below s a l k v w (suc n) h =

@@ -46,7 +46,8 @@ not-placed s from p t e w = go (outermostProjection p) refl (ap fromProject (sym
     go none h k = h
     go (some x) h k = let f = project-found (found p x h) t in let z : _≡_ {A = ℕ} 0 1 = cc in absurd (omega arith)
 
-ended-behind : (ls ms : List Line) → Ended (ls ++ ms) → Ended ms
+-- what stands behind lines that are ended is so
+pub ended-behind : (ls ms : List Line) → Ended (ls ++ ms) → Ended ms
 ended-behind [] ms e = e
 ended-behind ([] ∷ ls) ms e = absurd e
 ended-behind ((f ∷ fs) ∷ ls) ms e = ended-behind ls ms e

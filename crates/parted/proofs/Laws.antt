@@ -31,7 +31,7 @@ one-more p (x ∷ xs) = go (eqb x 10) (split 10 xs)
     go false (q ∷ ps) = refl
 
 -- two parts, one behind the other
-part-join : (s : Bytes) (from at to : ℕ) → from ≤ at → at ≤ to → part from at s ++ part at to s ≡ part from to s
+pub part-join : (s : Bytes) (from at to : ℕ) → from ≤ at → at ≤ to → part from at s ++ part at to s ≡ part from to s
 part-join s from at to h k =
     let e : from + (at - from) ≡ at = omega arith in
     let f : (at - from) + (to - at) ≡ to - from = omega arith in
@@ -40,7 +40,7 @@ part-join s from at to h k =
     ∙ ap (λ (n : ℕ). take n (drop from s)) f
 
 -- a line with its line end
-part-line : (s : Bytes) (at e : ℕ) → at ≤ e → e < length s → getD s e 0 ≡ 10 → part at e s ++ (10 ∷ []) ≡ part at (e + 1) s
+pub part-line : (s : Bytes) (at e : ℕ) → at ≤ e → e < length s → getD s e 0 ≡ 10 → part at e s ++ (10 ∷ []) ≡ part at (e + 1) s
 part-line s at e h k q =
     let one : e + 1 - e ≡ 1 = omega arith in
     ap (λ (l : Bytes). part at e s ++ l)

@@ -1,0 +1,160 @@
+-- What is asked of the lines of binding sets, field by field and line by line. Assumes nothing.
+use Prim.Native.Nat.{ℕ, suc, _+_, _≤_, _<_}
+use mathlib.Core.Path.{_≡_, refl, sym, ap, _∙_}
+use mathlib.Core.Bool.{Bool, true, false, cond, _&&_}
+use mathlib.Core.List.{List, [], _∷_}
+use mathlib.Core.Logic.{⊎-elim}
+use native.Mathlib.Omega.{arith}
+use lib.ListN.{length, getD, drop}
+use borrow.Author.Tests.{lt-ltb, le-ltb, eq-eqb, ne-eqb}
+use Rattle.text.specs.Text.{Bytes, Line, same, split, part, linesFrom, First}
+use Rattle.text.specs.Word.{bytes}
+use Rattle.text.proofs.Places.{lines-next, lines-end}
+use Rattle.cursor.specs.Cursor.{left}
+use Rattle.cursor.proofs.Laws.{left-none}
+use Rattle.scoping.specs.Sets.{all}
+use Rattle.walking.specs.Code.{LineEnd}
+use Rattle.walking.proofs.Lines.{nothing-here}
+use Rattle.walking.proofs.Laws.{line-split}
+use Rattle.merging.specs.Request.{position}
+use Rattle.filtering.specs.Terms.{formOf}
+use Rattle.filtering.specs.SetLines.{setsIn, isUsable, allUsable, rowUsable}
+use Rattle.placing.specs.declared.field.Field.{Field}
+use Rattle.placing.specs.Fields.{FieldIs}
+use Rattle.binding.specs.Judged.{allBelow, atBelow, JudgedAll}
+
+-- ---- the fields of a line
+
+module _ (w : ℕ) (s : Bytes) (next end : ℕ) where
+  module _ (h : next ≤ end) (f : Field) (i : FieldIs s next end f) (k : ℕ) (p : k ≡ position (part next (f .to) s)) where
+    pub below-stop : w ≤ k → false ≡ allBelow w (left s next end)
+    unfolding all
+    below-stop q = rw (i .here h, sym p, le-ltb k w q)
+
+    pub below-next : k < w → allBelow w (left s (f .next) end) ≡ allBelow w (left s next end)
+    unfolding all
+    below-next q = rw (i .here h, sym p, lt-ltb k w q)
+
+  pub below-done : end < next → true ≡ allBelow w (left s next end)
+  unfolding all
+  below-done h = rw (left-none s next end h)
+
+with-true : (b : Bool) → (b && true) ≡ b
+with-true true = refl
+with-true false = refl
+
+-- a value's domain, and what stands behind its three fields
+usable-cons : (d : Bytes) (gs : List Bytes) → allUsable (d ∷ gs) ≡ (isUsable d && allUsable (drop 1 (drop 1 gs)))
+unfolding allUsable
+usable-cons d [] = sym (with-true (isUsable d))
+usable-cons d (l ∷ []) = sym (with-true (isUsable d))
+usable-cons d (l ∷ x ∷ fs) = refl
+
+module _ (s : Bytes) (next end : ℕ) where
+  module _ (h : next ≤ end) (d : Field) (i : FieldIs s next end d) (m : ℕ) (p : m ≡ formOf (part next (d .to) s)) where
+    pub usable-stop : m ≡ 4 → false ≡ allUsable (left s next end)
+    usable-stop q = rw (i .here h, usable-cons (part next (d .to) s) (left s (d .next) end), sym p, eq-eqb m 4 q)
+
+    pub usable-next : (m ≡ 4 → ⊥) → (l x : Field) → FieldIs s (d .next) end l → FieldIs s (l .next) end x → allUsable (left s (x .next) end) ≡ allUsable (left s next end)
+    usable-next q l x j k = rw (i .here h, usable-cons (part next (d .to) s) (left s (d .next) end), sym p, ne-eqb m 4 q) (ap allUsable (k .rest ∙ ap (drop 1) (j .rest)))
+
+  pub usable-done : end < next → true ≡ allUsable (left s next end)
+  unfolding allUsable
+  usable-done h = rw (left-none s next end h)
+
+-- ---- one line
+
+module _ (s : Bytes) (from end w : ℕ) (h : from ≤ end) (i : end < length s) (f : First 9 s from end w) where
+  abbrev Fields : List Bytes
+  Fields = left s (w + 1) end
+
+  fields : split 9 (part from end s) ≡ part from w s ∷ Fields
+  fields = line-split s from end w i h f
+
+  module _ (b : Bool) (is : b ≡ same (part from w s) (bytes "at")) (width : ℕ) where
+    pub at-line : b ≡ true → (r : Bool) → r ≡ allBelow width Fields → r ≡ atBelow width (split 9 (part from end s))
+    unfolding atBelow
+    at-line t r e = rw (fields, sym is ∙ t) e
+
+    pub at-other : b ≡ false → true ≡ atBelow width (split 9 (part from end s))
+    unfolding atBelow
+    at-other t = rw (fields, sym is ∙ t)
+
+  module _ (b : Bool) (is : b ≡ same (part from w s) (bytes "row")) where
+    pub row-line : b ≡ true → (r : Bool) → r ≡ allUsable Fields → r ≡ rowUsable (split 9 (part from end s))
+    unfolding rowUsable
+    row-line t r e = rw (fields, sym is ∙ t) e
+
+    pub row-other : b ≡ false → true ≡ rowUsable (split 9 (part from end s))
+    unfolding rowUsable
+    row-other t = rw (fields, sym is ∙ t)
+
+  module _ (b : Bool) (is : b ≡ same (part from w s) (bytes "set")) (n : ℕ) where
+    pub set-line : b ≡ true → n + 1 ≡ cond (same (getD (split 9 (part from end s)) 0 []) (bytes "set")) (n + 1) n
+    set-line t = rw (fields, sym is ∙ t)
+
+    pub set-other : b ≡ false → n ≡ cond (same (getD (split 9 (part from end s)) 0 []) (bytes "set")) (n + 1) n
+    set-other t = rw (fields, sym is ∙ t)
+
+-- ---- line by line
+
+-- what was found so far, with what is still to be found
+pub record Going (w : ℕ) (s : Bytes) (from : ℕ) (inside usable : Bool) (count : ℕ) : Type 0 where
+  pub below : (inside && all (atBelow w) (linesFrom s from)) ≡ all (atBelow w) (linesFrom s 0)
+  pub cells : (usable && all rowUsable (linesFrom s from)) ≡ all rowUsable (linesFrom s 0)
+  pub sets : count + setsIn (linesFrom s from) ≡ setsIn (linesFrom s 0)
+  pub few : count ≤ from
+
+pub going-start : (w : ℕ) (s : Bytes) → Going w s 0 true true 0
+going-start w s = record { below = refl; cells = refl; sets = omega arith; few = omega arith }
+
+and-next : (a b t c x : Bool) → b ≡ (a && t) → (a && (t && c)) ≡ x → (b && c) ≡ x
+and-next true b t c x e h = ap (λ (y : Bool). y && c) e ∙ h
+and-next false b t c x e h = ap (λ (y : Bool). y && c) e ∙ h
+
+and-true : (b c x : Bool) → c ≡ true → (b && c) ≡ x → b ≡ x
+and-true true c x e h = sym e ∙ h
+and-true false c x e h = h
+
+module _ (w : ℕ) (s : Bytes) (from : ℕ) (a u : Bool) (n : ℕ) (g : Going w s from a u n) where
+  -- nothing is left
+  module _ (ls : List Line) (q : linesFrom s from ≡ ls) (x : all (atBelow w) ls ≡ true) (y : all rowUsable ls ≡ true) (z : setsIn ls ≡ 0) where
+    over : JudgedAll w (linesFrom s 0) (record { inside = a; usable = u; sets = n })
+    over = record {
+      inside = and-true a (all (atBelow w) (linesFrom s from)) _ (ap (all (atBelow w)) q ∙ x) (g .below);
+      usable = and-true u (all rowUsable (linesFrom s from)) _ (ap (all rowUsable) q ∙ y) (g .cells);
+      sets = let e = g .sets in let i = ap setsIn q ∙ z in omega arith;
+    }
+
+  pub going-done : length s ≤ from → JudgedAll w (linesFrom s 0) (record { inside = a; usable = u; sets = n })
+  unfolding all setsIn
+  going-done h = over [] (lines-end s from h) refl refl refl
+
+  module _ (end : ℕ) (l : LineEnd s from end) where
+    pub going-stop : end ≡ length s → JudgedAll w (linesFrom s 0) (record { inside = a; usable = u; sets = n })
+    unfolding all setsIn atBelow rowUsable same
+    going-stop e = ⊎-elim (λ q. over [] q refl refl refl) (λ q. over ([] ∷ []) q refl refl refl) (nothing-here s from end l e)
+
+    module _ (more : end ≡ length s → ⊥) where
+      ends : end < length s
+      ends = let h = l .high in omega arith
+
+      pub going-low : from ≤ end
+      going-low = l .ends ends .low
+
+      here : linesFrom s from ≡ split 9 (part from end s) ∷ linesFrom s (end + 1)
+      here = lines-next s from end (l .ends ends) ends
+
+      count-next : (b : Bool) (k m r x : ℕ) → m ≡ cond b (k + 1) k → k + cond b (suc r) r ≡ x → m + r ≡ x
+      count-next true k m r x e h = omega arith
+      count-next false k m r x e h = omega arith
+
+      pub going-next : (b v : Bool) (m : ℕ) → b ≡ (a && atBelow w (split 9 (part from end s))) → v ≡ (u && rowUsable (split 9 (part from end s)))
+          → (m ≡ cond (same (getD (split 9 (part from end s)) 0 []) (bytes "set")) (n + 1) n) × (m ≤ from + 1) → Going w s (end + 1) b v m
+      unfolding all setsIn
+      going-next b v m p q r = record {
+        below = and-next a b _ (all (atBelow w) (linesFrom s (end + 1))) _ p (ap (λ (ls : List Line). a && all (atBelow w) ls) (sym here) ∙ g .below);
+        cells = and-next u v _ (all rowUsable (linesFrom s (end + 1))) _ q (ap (λ (ls : List Line). u && all rowUsable ls) (sym here) ∙ g .cells);
+        sets = count-next (same (getD (split 9 (part from end s)) 0 []) (bytes "set")) n m (setsIn (linesFrom s (end + 1))) _ (r .0) (ap (λ (ls : List Line). n + setsIn ls) (sym here) ∙ g .sets);
+        few = let x = going-low in let y = r .1 in omega arith;
+      }

@@ -1,0 +1,21 @@
+-- `binding::bindings/bindings` meets its contract. Assumes nothing.
+use borrow.Author.Needs.{needs}
+use Rattle.reading.specs.Variables.{treeNames, setNames}
+use Rattle.reading.proofs.Said as Said
+use Rattle.binding.proofs.Whole as Wh
+use Rattle.binding.proofs.bindings.bindings.Statement.{statement}
+use Rattle.binding.proofs.bindings.bindings.Tie as tie
+
+pub bindings-spec : {M : Type 1} → statement M
+bindings-spec =
+    tie.close
+    (tie.spec
+    (λ c κs. search needs)
+    (λ c. search needs)
+    (λ c κs. let g = Said.said-good treeNames _ _ _ _ _ _ _ (c .before .before .before .check-tree .ensures) (c .before .enum-told .given .1) in (g .value, g .read))
+    (λ c. search needs)
+    (λ c. search needs)
+    (λ c. search needs)
+    (λ c. search needs)
+    (λ c. Wh.tree-malformed _ _ _ (Said.said-malformed treeNames _ _ _ _ _ _ (c .before .before .check-tree .ensures) (c .enum-told2 .given .1)))
+    (λ c. Wh.tree-over _ _ _ (Said.said-over treeNames _ _ _ _ _ _ (c .before .before .check-tree .ensures) (c .enum-told3 .given .1))))

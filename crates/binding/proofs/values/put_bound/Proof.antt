@@ -1,0 +1,43 @@
+-- `binding::values/put_bound` meets its contract. Assumes nothing.
+use borrow.Author.Needs.{needs}
+use Prim.Native.Nat.{ℕ, _+_, _-_, _*_, _^_, _≤_, _<_}
+use mathlib.Core.Path.{_≡_, refl, sym, ap, _∙_}
+use native.Mathlib.Omega.{arith}
+use lib.ListN.{length, getD, take, drop, length-set}
+use Rattle.cursor.specs.Cursor.{left as fieldsLeft}
+use Rattle.emit.specs.Emit.{em, puts}
+use Rattle.walking.specs.Walk.{tabbed}
+use Rattle.names.specs.Names.{listing}
+use Rattle.filtering.specs.SetLines.{cellsFrom, valuesLine}
+use Rattle.binding.specs.Bound.{boundFrom}
+use Rattle.binding.proofs.Valued as Vd
+use Rattle.binding.proofs.values.put_bound.Statement.{statement}
+use Rattle.binding.proofs.values.put_bound.Tie as tie
+
+abbrev Inv-loop : tie.InvT-loop
+Inv-loop tree starts sizes n sets from end out₀ at to₀ next₀ out to next =
+    (length out ≡ length out₀) × (next ≤ end + 1) × (puts (tabbed (boundFrom (listing tree starts sizes n) (fieldsLeft sets next end))) (em to out) ≡ puts (tabbed (boundFrom (listing tree starts sizes n) (fieldsLeft sets from end))) (em at out₀))
+
+abbrev μ-loop : tie.MeasureT-loop
+μ-loop tree starts sizes n sets from end out₀ at to₀ next₀ out to next =
+    end + 1 - next
+
+pub put-bound-spec : {M : Type 1} → statement M
+put-bound-spec =
+    tie.close
+    (tie.spec
+    Inv-loop
+    μ-loop
+    (λ c. (refl, c .before .before .before .pre .2, refl))
+    (λ c κs. (c .before .before .before .before .before .pre .1, c .before .loop .inv .1))
+    (λ c κs. search needs)
+    (λ c. let h = c .before .before .before .before .before .field-at .ensures .high in let w = c .before .before .before .before .before .field-at .ensures .low in let v = c .before .before .before .before .before .field-at .ensures .last in let u = c .before .before .before .before .before .field-at .ensures .more (c .before .before .before .before .before .before .loop-test .taken) in let z = c .before .before .before .before .before .field-at .ensures .after in omega arith)
+    (λ c. let h = c .before .before .before .before .before .field-at .ensures .high in let w = c .before .before .before .before .before .field-at .ensures .low in let v = c .before .before .before .before .before .field-at .ensures .last in let u = c .before .before .before .before .before .field-at .ensures .more (c .before .before .before .before .before .before .loop-test .taken) in let z = c .before .before .before .before .before .field-at .ensures .after in omega arith)
+    (λ c. let h = c .before .before .before .before .before .field-at .ensures .high in let w = c .before .before .before .before .before .field-at .ensures .low in let v = c .before .before .before .before .before .field-at .ensures .last in let u = c .before .before .before .before .before .field-at .ensures .more (c .before .before .before .before .before .before .loop-test .taken) in let z = c .before .before .before .before .before .field-at .ensures .after in omega arith)
+    (λ c κs. search needs)
+    (λ c κs. search needs)
+    (λ c κs. search needs)
+    (λ c. let h = c .before .before .before .before .before .before .before .before .before .before .before .field-at .ensures .high in let w = c .before .before .before .before .before .before .before .before .before .before .before .field-at .ensures .low in let v = c .before .before .before .before .before .before .before .before .before .before .before .field-at .ensures .last in let u = c .before .before .before .before .before .before .before .before .before .before .before .field-at .ensures .more (c .before .before .before .before .before .before .before .before .before .before .before .before .loop-test .taken) in let z = c .before .before .before .before .before .before .before .before .before .before .before .field-at .ensures .after in omega arith)
+    (λ c. (search needs, c .before .before .before .before .before .before .before .before .before .before .before .field-at .ensures .last, Vd.bound-next (listing (c .before .before .before .before .before .before .before .before .before .before .before .before .before .before .before .before .before .args .tree .now) (c .before .before .before .before .before .before .before .before .before .before .before .before .before .before .before .before .before .args .starts .now) (c .before .before .before .before .before .before .before .before .before .before .before .before .before .before .before .before .before .args .sizes .now) (c .before .before .before .before .before .before .before .before .before .before .before .before .before .before .before .before .before .args .n)) _ _ _ (c .before .before .before .before .before .before .before .before .before .before .before .before .loop-test .taken) _ (c .before .before .before .before .before .before .before .before .before .before .before .field-at .ensures) _ (c .before .before .before .before .position-of .ensures .0) _ (c .before .before .before .column-at .ensures) _ _ _ (c .before .before .before .before .before .before .before .before .before .put .ensures) (c .before .before .put-all .ensures) ∙ c .before .before .before .before .before .before .before .before .before .before .before .before .before .loop .inv .2))
+    (λ c. c .before .loop .inv .0)
+    (λ c. sym (Vd.bound-done (listing (c .before .before .before .before .before .args .tree .now) (c .before .before .before .before .before .args .starts .now) (c .before .before .before .before .before .args .sizes .now) (c .before .before .before .before .before .args .n)) _ _ _ (c .loop-test .left) _) ∙ c .before .loop .inv .2))

@@ -1,0 +1,120 @@
+// The call bindings: tree and binding sets to tree.
+use crate::judge::judge;
+use crate::values::put_values;
+use algebra::Answer as Check;
+use answers::Answer;
+use emit::put_all;
+use heads::copy;
+use negating::Outermost;
+use negating::outermost_projection;
+use placing::columns::read_columns;
+use placing::ends::pattern_end;
+use placing::steps::put_repeated;
+use reading::check_sets;
+use reading::check_tree;
+ghost use mathlib.Core.Path.{_≡_};
+ghost use Prim.Native.Nat.{_≤_};
+ghost use mathlib.Core.List.{List};
+ghost use lib.ListN.{length};
+ghost use Rattle.text.specs.Text.{linesFrom};
+ghost use Rattle.text.proofs.Texts.{Ended};
+ghost use Rattle.algebra.specs.Tree.{Pattern};
+ghost use Rattle.algebra.specs.Query.{BindingSet};
+ghost use Rattle.algebra.specs.Reader.{reads};
+ghost use Rattle.algebra.specs.Texts.{readTree, readSets};
+ghost use Rattle.names.specs.Names.{listing};
+ghost use Rattle.emit.specs.Emit.{em, puts};
+ghost use Rattle.answers.specs.Outcome.{Answered};
+ghost use Rattle.filtering.specs.Bindings.{bindingsOutcome};
+ghost use Rattle.binding.specs.Bound.{boundAt};
+
+const JOIN: [u8; 4] = *b"join";
+
+// pattern_with_bindings: the tree down to its projection, a join for each set, the inner pattern, the Values, the rest.
+fn put_bindings(
+    tree: &[u8],
+    inner: usize,
+    end: usize,
+    starts: &[u16; 64],
+    sizes: &[u16; 64],
+    n: usize,
+    sets: &[u8],
+    joins: usize,
+    out: &mut [u8],
+) -> usize
+    requires { ⌜ (inner ≤ end) × (end ≤ length (now tree)) × (n ≤ 64) × Ended (linesFrom (now sets) 0) ⌝ }
+    ensures { λ r. ⌜ em r (now (out .exit)) ≡ puts (boundAt (now (tree .entry)) inner end joins (listing (now (tree .entry)) (now (starts .entry)) (now (sizes .entry)) n) (linesFrom (now (sets .entry)) 0)) (em 0 (now (out .entry))) ⌝ }
+{
+    let a = put_all(out, 0, &tree[..inner]);
+    let b = put_repeated(&JOIN, joins, out, a);
+    let c = put_all(out, b, &tree[inner..end]);
+    let d = put_values(tree, starts, sizes, n, sets, out, c);
+    put_all(out, d, &tree[end..])
+}
+
+// For texts that were checked.
+fn bindings_of(tree: &[u8], sets: &[u8], out: &mut [u8]) -> Answer
+    requires { ⌜ ((p : Pattern) × (readTree (now tree) ≡ reads p)) × ((xs : List BindingSet) × (readSets (now sets) ≡ reads xs)) ⌝ }
+    ensures { λ r. ⌜ Answered (bindingsOutcome (now (tree .entry)) (now (sets .entry))) (now (out .entry)) (now (out .exit)) r ⌝ }
+{
+    let Outermost::At(line, inner) = outermost_projection(tree, 0) else {
+        return copy(tree, out);
+    };
+    let mut starts = [0u16; 64];
+    let mut sizes = [0u16; 64];
+    let n = read_columns(tree, line, &mut starts, &mut sizes);
+    let judged = judge(sets, n);
+    if !judged.inside {
+        return Answer::Outside;
+    }
+    if !judged.usable {
+        return Answer::NotUsable;
+    }
+    let end = pattern_end(tree, inner);
+    let mut none = [0u8; 0];
+    let size = put_bindings(
+        tree,
+        inner,
+        end,
+        &starts,
+        &sizes,
+        n,
+        sets,
+        judged.sets,
+        &mut none,
+    );
+    if out.len() < size {
+        return Answer::TooShort;
+    }
+    let put = put_bindings(tree, inner, end, &starts, &sizes, n, sets, judged.sets, out);
+    Answer::Written(put)
+}
+
+// For a tree that was checked.
+fn bindings_by(tree: &[u8], sets: &[u8], out: &mut [u8]) -> Answer
+    requires { ⌜ ((p : Pattern) × (readTree (now tree) ≡ reads p)) ⌝ }
+    ensures { λ r. ⌜ Answered (bindingsOutcome (now (tree .entry)) (now (sets .entry))) (now (out .entry)) (now (out .exit)) r ⌝ }
+{
+    let mut starts = [0u16; 1024];
+    let mut sizes = [0u16; 1024];
+    let mut hints = [0u16; 4096];
+    match check_sets(sets, &mut starts, &mut sizes, &mut hints) {
+        Check::Good(_) => bindings_of(tree, sets, out),
+        Check::Malformed => Answer::Malformed,
+        Check::OverBound => Answer::OverBound,
+    }
+}
+
+// bindings: tree and binding sets to tree.
+pub fn bindings(tree: &[u8], sets: &[u8], out: &mut [u8]) -> Answer
+    ensures { λ r. ⌜ Answered (bindingsOutcome (now (tree .entry)) (now (sets .entry))) (now (out .entry)) (now (out .exit)) r ⌝ }
+{
+    let mut starts = [0u16; 1024];
+    let mut sizes = [0u16; 1024];
+    let mut hints = [0u16; 4096];
+    match check_tree(tree, &mut starts, &mut sizes, &mut hints) {
+        Check::Good(_) => bindings_by(tree, sets, out),
+        Check::Malformed => Answer::Malformed,
+        Check::OverBound => Answer::OverBound,
+    }
+}

@@ -1,0 +1,142 @@
+// The lines of the Values, each from one line of the sets.
+use emit::put;
+use emit::put_all;
+use placing::columns::column_at;
+use placing::field::field_at;
+use placing::field::position_of;
+use placing::term::form_of;
+use placing::term::put_term;
+use text::equal;
+use text::find;
+use walking::line::line_end;
+ghost use mathlib.Core.Path.{_≡_};
+ghost use Prim.Native.Nat.{_+_, _≤_, _<_};
+ghost use mathlib.Core.List.{[], _∷_, map};
+ghost use lib.ListN.{length};
+ghost use Rattle.text.specs.Text.{part, split, ended, textOf, linesFrom};
+ghost use Rattle.text.proofs.Texts.{Ended};
+ghost use Rattle.cursor.specs.Cursor.{left};
+ghost use Rattle.emit.specs.Emit.{em, puts};
+ghost use Rattle.walking.specs.Walk.{tabbed};
+ghost use Rattle.names.specs.Names.{listing};
+ghost use Rattle.filtering.specs.SetLines.{cellsFrom, valuesLine};
+ghost use Rattle.binding.specs.Bound.{boundFrom};
+
+const SET: [u8; 3] = *b"set";
+
+const AT: [u8; 2] = *b"at";
+
+const VALUES: [u8; 6] = *b"values";
+
+const COLS: [u8; 4] = *b"cols";
+
+const ROW: [u8; 3] = *b"row";
+
+// The columns at the positions from here to the line's end, each after a tab.
+fn put_bound(
+    tree: &[u8],
+    starts: &[u16; 64],
+    sizes: &[u16; 64],
+    n: usize,
+    sets: &[u8],
+    from: usize,
+    end: usize,
+    out: &mut [u8],
+    at: usize,
+) -> usize
+    requires { ⌜ (n ≤ 64) × (end < length (now sets)) × (from ≤ end + 1) ⌝ }
+    ensures { λ r. ⌜ em r (now (out .exit)) ≡ puts (tabbed (boundFrom (listing (now (tree .entry)) (now (starts .entry)) (now (sizes .entry)) n) (left (now (sets .entry)) from end))) (em at (now (out .entry))) ⌝ }
+{
+    let mut to = at;
+    let mut next = from;
+    while next <= end {
+        let field = field_at(sets, next, end);
+        let e = field.to;
+        to = put(out, to, 9);
+        to = put_all(
+            out,
+            to,
+            column_at(tree, starts, sizes, n, position_of(&sets[next..e])),
+        );
+        next = field.next;
+    }
+    to
+}
+
+// The cells of the values from here to the line's end, each after a tab.
+fn put_cells(sets: &[u8], from: usize, end: usize, out: &mut [u8], at: usize) -> usize
+    requires { ⌜ (end < length (now sets)) × (from ≤ end + 1) ⌝ }
+    ensures { λ r. ⌜ em r (now (out .exit)) ≡ puts (tabbed (cellsFrom (left (now (sets .entry)) from end))) (em at (now (out .entry))) ⌝ }
+{
+    let mut to = at;
+    let mut next = from;
+    while next <= end {
+        let domain = field_at(sets, next, end);
+        let a = domain.to;
+        let b = domain.next;
+        let lexical = field_at(sets, b, end);
+        let c = lexical.to;
+        let d = lexical.next;
+        let extra = field_at(sets, d, end);
+        let e = extra.to;
+        to = put(out, to, 9);
+        to = put_term(form_of(&sets[next..a]), &sets[b..c], &sets[d..e], out, to);
+        next = extra.next;
+    }
+    to
+}
+
+// The line that the line of the sets from here to its end becomes, without its end.
+fn put_fields(
+    tree: &[u8],
+    starts: &[u16; 64],
+    sizes: &[u16; 64],
+    n: usize,
+    sets: &[u8],
+    from: usize,
+    end: usize,
+    out: &mut [u8],
+    at: usize,
+) -> usize
+    requires { ⌜ (n ≤ 64) × (from ≤ end) × (end < length (now sets)) ⌝ }
+    ensures { λ r. ⌜ puts (10 ∷ []) (em r (now (out .exit))) ≡ puts (ended (valuesLine (listing (now (tree .entry)) (now (starts .entry)) (now (sizes .entry)) n) (split 9 (part from end (now (sets .entry))))) []) (em at (now (out .entry))) ⌝ }
+{
+    let word = find(sets, from, end, 9);
+    if equal(&sets[from..word], &SET) {
+        let a = put_all(out, at, &VALUES);
+        return put_all(out, a, &sets[word..end]);
+    }
+    if equal(&sets[from..word], &AT) {
+        let b = put_all(out, at, &COLS);
+        return put_bound(tree, starts, sizes, n, sets, word + 1, end, out, b);
+    }
+    let c = put_all(out, at, &ROW);
+    put_cells(sets, word + 1, end, out, c)
+}
+
+// The lines of the Values of all sets.
+pub fn put_values(
+    tree: &[u8],
+    starts: &[u16; 64],
+    sizes: &[u16; 64],
+    n: usize,
+    sets: &[u8],
+    out: &mut [u8],
+    at: usize,
+) -> usize
+    requires { ⌜ (n ≤ 64) × Ended (linesFrom (now sets) 0) ⌝ }
+    ensures { λ r. ⌜ em r (now (out .exit)) ≡ puts (textOf (map (valuesLine (listing (now (tree .entry)) (now (starts .entry)) (now (sizes .entry)) n)) (linesFrom (now (sets .entry)) 0))) (em at (now (out .entry))) ⌝ }
+{
+    let mut to = at;
+    let mut from = 0;
+    while from < sets.len() {
+        let end = line_end(sets, from);
+        if end == sets.len() {
+            return to;
+        }
+        to = put_fields(tree, starts, sizes, n, sets, from, end, out, to);
+        to = put(out, to, 10);
+        from = end + 1;
+    }
+    to
+}

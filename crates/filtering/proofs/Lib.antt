@@ -1,0 +1,11 @@
+pub mod Worked
+pub mod Terms
+pub mod FoundValid
+pub mod Valid
+pub mod Theorem
+pub mod Scope
+pub mod BindingLines
+pub mod FilterLines
+pub mod Refused
+pub mod Copying
+pub mod Read

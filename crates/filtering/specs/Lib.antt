@@ -1,0 +1,10 @@
+pub mod IfFound
+pub mod Values
+pub mod Bindings
+pub mod Functions
+pub mod Filters
+pub mod Cases
+pub mod Terms
+pub mod SetLines
+pub mod FilterLines
+pub mod Copying

@@ -1,0 +1,213 @@
+-- Where a pattern ends: the row of a word whatever its sort, what is to come below a line, and the lines copied one by one. Assumes nothing.
+use Prim.Native.Nat.{ℕ, zero, suc, _+_, _-_, _*_, _≤_, _<_}
+use mathlib.Core.Path.{_≡_, refl, sym, ap, ap₂, subst, _∙_}
+use mathlib.Core.Bool.{Bool, true, false, cond}
+use mathlib.Core.List.{List, [], _∷_, _++_, append-assoc}
+use mathlib.Core.Option.{Option, none, some}
+use native.Mathlib.Numerals.{add-one}
+use native.Mathlib.Decide.{decLt}
+use native.Mathlib.Omega.{arith}
+use lib.ListN.{length, getD, drop, drop-of-length-le}
+use lib.Seq.{drop-cons}
+use Rattle.text.specs.Text.{Bytes, Line, same, ended, textOf, split, part, linesFrom}
+use Rattle.text.proofs.Texts.{Ended, glue-split, ended-glue}
+use Rattle.text.proofs.Places.{lines-next, lines-open, lines-end}
+use Rattle.algebra.specs.Table.{Sort, parts, Below, Row, Entry, sorts, rowsOf, entriesOf, table, rowIn, rowFor}
+use Rattle.words.specs.declared.Row.{Row as Code}
+use Rattle.words.specs.declared.Found.{Found}
+use Rattle.words.specs.declared.Found.the-variants.{Is, None}
+use Rattle.words.specs.Code.{sortAt, groupOf, rowOf, rowFound, noCode, Tidy}
+use Rattle.cursor.specs.Cursor.{left}
+use Rattle.parted.proofs.Laws.{part-join, part-line}
+use Rattle.lines.specs.Stack.{amountIn}
+use Rattle.walking.specs.Walk.{rowOr, numberIn}
+use Rattle.walking.specs.Code.{LineEnd}
+use Rattle.walking.proofs.Laws.{tidy-is}
+use Rattle.filtering.specs.Copying.{plus, amounts, below, toCome, copying}
+use Rattle.filtering.proofs.Copying.{plus-is}
+use Rattle.placing.specs.Ends.{Small, EndsAt}
+
+-- ---- the row of a word
+
+module _ (f : Bytes) where
+  found-first : (a b : List Entry) (r : Row) → rowIn a f ≡ some r → rowIn (a ++ b) f ≡ some r
+  unfolding rowIn
+  found-first [] b r h = let z : _≡_ {A = ℕ} 0 1 = cc in absurd (omega arith)
+  found-first (e ∷ es) b r h = go (same f (e .word)) (found-first es b r) h
+    where
+      go : (c : Bool) → (rowIn es f ≡ some r → rowIn (es ++ b) f ≡ some r) → cond c (some (e .row)) (rowIn es f) ≡ some r → cond c (some (e .row)) (rowIn (es ++ b) f) ≡ some r
+      go true k h = h
+      go false k h = k h
+
+  found-later : (a b : List Entry) → rowIn a f ≡ none → rowIn (a ++ b) f ≡ rowIn b f
+  unfolding rowIn
+  found-later [] b h = refl
+  found-later (e ∷ es) b h = go (same f (e .word)) (found-later es b) h
+    where
+      go : (c : Bool) → (rowIn es f ≡ none → rowIn (es ++ b) f ≡ rowIn b f) → cond c (some (e .row)) (rowIn es f) ≡ none → cond c (some (e .row)) (rowIn (es ++ b) f) ≡ rowIn b f
+      go true k h = let z : _≡_ {A = ℕ} 0 1 = cc in absurd (omega arith)
+      go false k h = k h
+
+  -- the words of the sorts from a number on
+  abbrev pub rowFrom : ℕ → Option Row
+  rowFrom k = rowIn (entriesOf (drop k sorts)) f
+
+  sort-next : (k : ℕ) → k < 12 → entriesOf (drop k sorts) ≡ rowsOf (sortAt k) ++ entriesOf (drop (k + 1) sorts)
+  sort-next k h = rw (add-one, drop-cons sorts k parts h)
+
+  pub row-start : rowFrom 0 ≡ rowIn table f
+  unfolding table
+  row-start = refl
+
+  module _ (k : ℕ) (h : k < 12) (t : Found) (e : rowFound t ≡ rowFor (sortAt k) f) (so : rowFrom k ≡ rowIn table f) where
+    pub row-hit : (c : Code) → t ≡ Is c → rowOf c ≡ rowOr (rowIn table f)
+    row-hit c i =
+        let r : rowFor (sortAt k) f ≡ some (rowOf c) = sym e ∙ ap rowFound i in
+        ap rowOr (sym (found-first (rowsOf (sortAt k)) (entriesOf (drop (k + 1) sorts)) (rowOf c) r) ∙ ap (λ (l : List Entry). rowIn l f) (sym (sort-next k h)) ∙ so)
+
+    pub row-miss : t ≡ None → rowFrom (k + 1) ≡ rowIn table f
+    row-miss i =
+        let r : rowFor (sortAt k) f ≡ none = sym e ∙ ap rowFound i in
+        sym (found-later (rowsOf (sortAt k)) (entriesOf (drop (k + 1) sorts)) r) ∙ ap (λ (l : List Entry). rowIn l f) (sym (sort-next k h)) ∙ so
+
+  pub row-none : (k : ℕ) → 12 ≤ k → rowFrom k ≡ rowIn table f → rowOf noCode ≡ rowOr (rowIn table f)
+  unfolding rowIn
+  row-none k h so = ap rowOr (sym (ap (λ (l : List Sort). rowIn (entriesOf l) f) (drop-of-length-le sorts h)) ∙ so)
+
+pub row-small : (k : ℕ) (t : Found) (c : Code) → Tidy k t → t ≡ Is c → Small c
+row-small k t c d i = tidy-is k t c d i .1
+
+-- ---- what is to come below a line
+
+amounts-cons : (b : Below) (bs : List Below) (ns : List ℕ) → amounts (b ∷ bs) ns ≡ amounts (b ∷ []) ns + amounts bs ns
+unfolding amounts
+amounts-cons b [] ns = omega arith
+amounts-cons b (c ∷ bs) ns = plus-is _ _
+
+-- a group in front of others
+group-amount : (n k : ℕ) (s : Sort) (a b : ℕ) (bs : List Below) → amounts (groupOf n k s ++ bs) (a ∷ b ∷ []) ≡ amountIn n k a b + amounts bs (a ∷ b ∷ [])
+unfolding amounts
+group-amount zero zero s a b bs = omega arith
+group-amount (suc n) zero s a b bs = amounts-cons _ bs (a ∷ b ∷ [])
+group-amount n (suc zero) s a b bs = amounts-cons _ bs (a ∷ b ∷ [])
+group-amount n (suc (suc zero)) s a b bs = amounts-cons _ bs (a ∷ b ∷ [])
+group-amount n (suc (suc (suc zero))) s a b bs = amounts-cons _ bs (a ∷ b ∷ [])
+group-amount n (suc (suc (suc (suc zero)))) s a b bs = amounts-cons _ bs (a ∷ b ∷ [])
+group-amount n (suc (suc (suc (suc (suc k))))) s a b bs = omega arith
+
+last-amount : (n k : ℕ) (s : Sort) (a b : ℕ) → amounts (groupOf n k s) (a ∷ b ∷ []) ≡ amountIn n k a b
+unfolding amounts
+last-amount zero zero s a b = refl
+last-amount (suc n) zero s a b = refl
+last-amount n (suc zero) s a b = refl
+last-amount n (suc (suc zero)) s a b = refl
+last-amount n (suc (suc (suc zero))) s a b = refl
+last-amount n (suc (suc (suc (suc zero)))) s a b = refl
+last-amount n (suc (suc (suc (suc (suc k))))) s a b = refl
+
+row-amount : (c : Code) (a b : ℕ) → amounts (rowOf c .below) (a ∷ b ∷ []) ≡ amountIn (c .7) (c .8) a b + amountIn (c .10) (c .11) a b + amountIn (c .13) (c .14) a b
+row-amount c a b =
+    let x = group-amount (c .7) (c .8) (sortAt (c .9)) a b (groupOf (c .10) (c .11) (sortAt (c .12)) ++ groupOf (c .13) (c .14) (sortAt (c .15))) in
+    let y = group-amount (c .10) (c .11) (sortAt (c .12)) a b (groupOf (c .13) (c .14) (sortAt (c .15))) in
+    let z = last-amount (c .13) (c .14) (sortAt (c .15)) a b in
+    omega arith
+
+below-row : (o : Option Row) → below o ≡ rowOr o .below
+below-row none = refl
+below-row (some r) = refl
+
+pub come-is : (s : Bytes) (from end w a b : ℕ) (c : Code) (x y z : ℕ) → split 9 (part from end s) ≡ part from w s ∷ left s (w + 1) end → rowOf c ≡ rowOr (rowIn table (part from w s))
+    → a ≡ numberIn (getD (left s (w + 1) end) 0 []) → b ≡ numberIn (getD (left s (w + 1) end) 1 [])
+    → x ≡ amountIn (c .7) (c .8) a b → y ≡ amountIn (c .10) (c .11) a b → z ≡ amountIn (c .13) (c .14) a b
+    → x + y + z ≡ toCome (split 9 (part from end s))
+unfolding toCome
+come-is s from end w a b c x y z l r p q i j k =
+    ap₂ _+_ (ap₂ _+_ i j) k
+    ∙ sym (row-amount c a b)
+    ∙ ap₂ (λ (g : List Below) (ns : List ℕ). amounts g ns) (ap (λ (o : Row). o .below) r ∙ sym (below-row (rowIn table (part from w s)))) (ap₂ (λ (m n : ℕ). m ∷ n ∷ []) p q)
+    ∙ ap (λ (m : Line). amounts (below (rowIn table (getD m 0 []))) (numberIn (getD m 1 []) ∷ numberIn (getD m 2 []) ∷ [])) (sym l)
+
+-- a group is small if the row and the numbers are
+pub amount-fits : (n k a b r : ℕ) → r ≡ amountIn n k a b → n ≤ 3 → a < 4294967296 → b < 4294967296 → r ≤ 4294967298
+amount-fits n zero a b r e h i j = omega arith
+amount-fits n (suc zero) a b r e h i j = omega arith
+amount-fits n (suc (suc zero)) a b r e h i j = omega arith
+amount-fits n (suc (suc (suc zero))) a b r e h i j = omega arith
+amount-fits n (suc (suc (suc (suc zero)))) a b r e h i j = omega arith
+amount-fits n (suc (suc (suc (suc (suc k))))) a b r e h i j = omega arith
+
+-- ---- line by line
+
+-- so much is to come at a place, and the lines from the start down to it were copied
+abbrev pub Going : Bytes → ℕ → ℕ → ℕ → Type 0
+Going s from at k = Ended (linesFrom s from) → Ended (linesFrom s at) × ((v : List Line) → textOf (copying (linesFrom s from) 1 v) ≡ part from at s ++ textOf (copying (linesFrom s at) k v))
+
+pub going-start : (s : Bytes) (from : ℕ) → Going s from from 1
+going-start s from n = (n, λ v. let z : from - from ≡ 0 = omega arith in rw z)
+
+line-text : (p r : Bytes) → ended (split 9 p) r ≡ p ++ (10 ∷ r)
+line-text p r = ended-glue (split 9 p) r ∙ ap (λ (x : Bytes). x ++ (10 ∷ r)) (glue-split 9 p)
+
+pub behind-line : (l : Line) (ls : List Line) → Ended (l ∷ ls) → Ended ls
+behind-line [] ls e = absurd e
+behind-line (f ∷ fs) ls e = e
+
+pub none-copied : (t u : List Line) → copying t 0 u ≡ u
+unfolding copying
+none-copied [] u = refl
+none-copied (l ∷ ls) u = refl
+
+-- nothing is to come
+pub going-done : (s : Bytes) (from at k : ℕ) → from ≤ at → at ≤ length s → Going s from at k → k ≤ 0 → EndsAt s from at
+going-done s from at k low high g h = record {
+  low = low;
+  high = high;
+  copied = λ n v. let z : k ≡ 0 = omega arith in g n .1 v ∙ ap (λ (m : ℕ). part from at s ++ textOf (copying (linesFrom s at) m v)) z ∙ ap (λ (ls : List Line). part from at s ++ textOf ls) (none-copied (linesFrom s at) v);
+}
+
+module _ (s : Bytes) (from at end k : ℕ) (low : from ≤ at) (high : at ≤ length s) (g : Going s from at k) (l : LineEnd s at end) where
+  -- no line is left: there is none that isn't ended
+  pub going-stop : end ≡ length s → EndsAt s from end
+  unfolding copying
+  going-stop e = record { low = omega arith; high = l .high; copied = λ n v. go n v (decLt at (length s)) }
+    where
+      go : Ended (linesFrom s from) → (v : List Line) → Dec (at < length s) → textOf (copying (linesFrom s from) 1 v) ≡ part from end s ++ textOf v
+      go n v (yes h) = absurd (subst Ended (lines-open s at end h (l .none e (let x : length s ≤ at → ⊥ = omega arith in x)) e) (g n .0))
+      go n v (no h) =
+          let q : at ≡ end = omega arith in
+          g n .1 v ∙ ap (λ (m : ℕ). part from m s ++ textOf (copying (linesFrom s at) k v)) q ∙ ap (λ (ls : List Line). part from end s ++ textOf (copying ls k v)) (lines-end s at (omega arith))
+
+  module _ (more : 0 < k) (ends : end ≡ length s → ⊥) where
+    inside : end < length s
+    inside = let h = l .high in omega arith
+
+    pub going-low : at ≤ end
+    going-low = l .ends inside .low
+
+    copied-line : (b : ℕ) → b ≡ toCome (split 9 (part at end s)) → (v : List Line) → copying (linesFrom s at) k v ≡ split 9 (part at end s) ∷ copying (linesFrom s (end + 1)) (k - 1 + b) v
+    unfolding copying
+    copied-line b c v =
+        let j : k ≡ suc (k - 1) = omega arith in
+        let p = plus-is (toCome (split 9 (part at end s))) (k - 1) in
+        let q : plus (toCome (split 9 (part at end s))) (k - 1) ≡ k - 1 + b = omega arith in
+        ap₂ (λ (ls : List Line) (m : ℕ). copying ls m v) (lines-next s at end (l .ends inside) inside) j
+        ∙ ap (λ (m : ℕ). split 9 (part at end s) ∷ copying (linesFrom s (end + 1)) m v) q
+
+    joined : (t : Bytes) → part from at s ++ (part at end s ++ (10 ∷ t)) ≡ part from (end + 1) s ++ t
+    joined t =
+        let k = going-low in
+        sym (append-assoc (part from at s) (part at end s) (10 ∷ t))
+        ∙ ap (λ (x : Bytes). x ++ (10 ∷ t)) (part-join s from at end low k)
+        ∙ sym (append-assoc (part from end s) (10 ∷ []) t)
+        ∙ ap (λ (x : Bytes). x ++ t) (part-line s from end (omega arith) inside (l .ends inside .here inside))
+
+    pub going-next : (b : ℕ) → b ≡ toCome (split 9 (part at end s)) → Going s from (end + 1) (k - 1 + b)
+    unfolding textOf
+    going-next b c n = (
+      behind-line (split 9 (part at end s)) (linesFrom s (end + 1)) (subst Ended (lines-next s at end (l .ends inside) inside) (g n .0)),
+      λ v.
+          g n .1 v
+          ∙ ap (λ (ls : List Line). part from at s ++ textOf ls) (copied-line b c v)
+          ∙ ap (λ (x : Bytes). part from at s ++ x) (line-text (part at end s) (textOf (copying (linesFrom s (end + 1)) (k - 1 + b) v)))
+          ∙ joined (textOf (copying (linesFrom s (end + 1)) (k - 1 + b) v)),
+    )

@@ -1,0 +1,6 @@
+pub mod Next
+pub mod Copied
+pub mod Listed
+pub mod Written
+pub mod Inner
+pub mod Repeated

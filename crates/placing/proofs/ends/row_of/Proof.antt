@@ -1,0 +1,33 @@
+-- `placing::ends/row_of` meets its contract. Assumes nothing.
+use borrow.Author.Needs.{needs}
+use Prim.Native.Nat.{ℕ, _+_, _-_, _*_, _^_, _≤_, _<_}
+use mathlib.Core.Path.{_≡_, refl, sym, ap, _∙_}
+use native.Mathlib.Omega.{arith}
+use Rattle.algebra.specs.Table.{table, rowIn}
+use Rattle.placing.proofs.Copied as C
+use Rattle.placing.proofs.ends.row_of.Statement.{statement}
+use Rattle.placing.proofs.ends.row_of.Tie as tie
+
+abbrev Inv-loop : tie.InvT-loop
+Inv-loop word sort₀ sort =
+    (sort ≤ 12) × (C.rowFrom word sort ≡ rowIn table word)
+
+abbrev μ-loop : tie.MeasureT-loop
+μ-loop word sort₀ sort =
+    12 - sort
+
+pub row-of-spec : {M : Type 1} → statement M
+row-of-spec =
+    tie.close
+    (tie.spec
+    Inv-loop
+    μ-loop
+    (λ c. (omega arith, C.row-start _))
+    (λ c κs. search needs)
+    (λ c. search needs)
+    (λ c. (C.row-hit _ _ (c .before .before .before .before .loop-test .taken) _ (c .before .before .before .lookup .ensures .0) (c .before .before .before .before .before .loop .inv .1) _ (c .before .row .given .1), C.row-small _ _ _ (c .before .before .before .lookup .ensures .1) (c .before .row .given .1)))
+    (λ c. search needs)
+    (λ c. search needs)
+    (λ c. search needs)
+    (λ c. (omega arith, C.row-miss _ _ (c .before .before .before .loop-test .taken) _ (c .before .before .lookup .ensures .0) (c .before .before .before .before .loop .inv .1) (c .enum-told .given .1)))
+    (λ c. (C.row-none _ _ (c .loop-test .left) (c .before .loop .inv .1), (omega arith, omega arith, omega arith))))

@@ -1,0 +1,63 @@
+// Where a pattern ends: line by line while something is to come, by the one table of words.
+use lines::stack::amount;
+use text::find;
+use walking::line::count_at;
+use walking::line::line_end;
+use words::Found;
+use words::Row;
+use words::lookup;
+ghost use mathlib.Core.Path.{_≡_};
+ghost use Prim.Native.Nat.{_+_, _≤_, _<_};
+ghost use lib.ListN.{length};
+ghost use Rattle.text.specs.Text.{part, split, linesFrom};
+ghost use Rattle.algebra.specs.Table.{table, rowIn};
+ghost use Rattle.walking.specs.Walk.{rowOr};
+ghost use Rattle.words.specs.Code.{rowOf};
+ghost use Rattle.filtering.specs.Copying.{toCome};
+ghost use Rattle.placing.specs.Ends.{Small, EndsAt};
+
+// The row of a word, whatever its sort; one without lines below where it is none.
+fn row_of(word: &[u8]) -> Row
+    ensures { λ r. ⌜ (rowOf r ≡ rowOr (rowIn table (now (word .entry)))) × Small r ⌝ }
+{
+    let mut sort = 0;
+    while sort < 12 {
+        if let Found::Is(row) = lookup(sort, word) {
+            return row;
+        }
+        sort += 1;
+    }
+    Row(0, 0, 0, 0, 0, 0, 0, 0, 0, 0, 0, 0, 0, 0, 0, 0)
+}
+
+// How many lines stand directly below a line.
+fn lines_below(text: &[u8], from: usize, end: usize) -> u64
+    requires { ⌜ (from ≤ end) × (end < length (now text)) ⌝ }
+    ensures { λ r. ⌜ (r ≡ toCome (split 9 (part from end (now (text .entry))))) × (r ≤ 17179869183) ⌝ }
+{
+    let word = find(text, from, end, 9);
+    let row = row_of(&text[from..word]);
+    let a = count_at(text, word + 1, end);
+    let b = count_at(text, a.next, end);
+    amount(row.7, row.8, a.number, b.number)
+        + amount(row.10, row.11, a.number, b.number)
+        + amount(row.13, row.14, a.number, b.number)
+}
+
+// Where the pattern that starts here ends.
+pub fn pattern_end(text: &[u8], from: usize) -> usize
+    requires { ⌜ (from ≤ length (now text)) × (length (now text) ≤ 16384) ⌝ }
+    ensures { λ r. ⌜ EndsAt (now (text .entry)) from r ⌝ }
+{
+    let mut left: u64 = 1;
+    let mut at = from;
+    while 0 < left {
+        let end = line_end(text, at);
+        if end == text.len() {
+            return end;
+        }
+        left = left - 1 + lines_below(text, at, end);
+        at = end + 1;
+    }
+    at
+}
