@@ -73,7 +73,7 @@ unfolding conjunction repeated putExpressions putE putArity
 conjunction-lines e [] t = refl
 conjunction-lines e (d ∷ ds) t = conjunction-lines (both e d) ds t ∙ repeated-in (length ds) (bytes "and") (putE e (putE d (putExpressions ds t)))
 
-placed-lines : (e : Expression) (es : List Expression) (q : Pattern) (u : List Line) → put (filtered (e ∷ es) q) u ≡ (bytes "filter" ∷ []) ∷ put q (repeated (length es) (bytes "and") (putExpressions (e ∷ es) u))
+pub placed-lines : (e : Expression) (es : List Expression) (q : Pattern) (u : List Line) → put (filtered (e ∷ es) q) u ≡ (bytes "filter" ∷ []) ∷ put q (repeated (length es) (bytes "and") (putExpressions (e ∷ es) u))
 unfolding filtered put putExpressions
 placed-lines e es q u = ap (λ (l : List Line). (bytes "filter" ∷ []) ∷ put q l) (conjunction-lines e es u)
 
@@ -326,9 +326,9 @@ placed-given cs f = go (isConstantTrue f)
     go false = refl
 
 -- what is placed of a list of filters
-record PlacedAs (x : Placed) (es : List Expression) : Type 0 where
-  many : x .many ≡ length es
-  lines : (u : List Line) → x .lines ++ u ≡ putExpressions es u
+pub record PlacedAs (x : Placed) (es : List Expression) : Type 0 where
+  pub many : x .many ≡ length es
+  pub lines : (u : List Line) → x .lines ++ u ≡ putExpressions es u
 
 module _ (cs : List Bytes) where
   one-placed : (b : Bool) (o : Option Expression) (w : Walked) (s : List Line) (x : Placed) (es : List Expression) → Made w o s → PlacedAs x es
@@ -354,7 +354,8 @@ module _ (cs : List Bytes) where
   open-filters n (ref k) t = refl
   open-filters n (function w m fs) t = refl
 
-  filters-placed : (fs : List Filter) (n : ℕ) → ValidFilters fs → length (putFilters fs []) ≤ n → PlacedAs (placedFilters cs n (putFilters fs [])) (expressions cs fs)
+  -- with as many lines left as there are, or more
+  pub filters-placed : (fs : List Filter) (n : ℕ) → ValidFilters fs → length (putFilters fs []) ≤ n → PlacedAs (placedFilters cs n (putFilters fs [])) (expressions cs fs)
   unfolding putFilters ValidFilters expressions placedExpression
   filters-placed [] n w h = nothing-placed n
   filters-placed (f ∷ fs) n w h = deeper (length (putFilters fs [])) n (omega (arith, filter-long f (putFilters fs []))) (λ (d : ℕ). length (putFilter f (putFilters fs [])) ≤ d → PlacedAs (placedFilters cs d (putFilter f (putFilters fs []))) (expressions cs (f ∷ fs)))
@@ -367,11 +368,3 @@ module _ (cs : List Bytes) where
       (one-placed (isConstantTrue f) (tryExpressionFromTree cs f) (treeToExpression cs (suc k) (putFilter f t)) t _ (expressions cs fs) m
       (subst (λ (l : List Line). PlacedAs (placedFilters cs k l) (expressions cs fs)) (sym (m .left)) r))))
       h
-
-  -- as many as there are expressions
-  pub placed-many : (fs : List Filter) → ValidFilters fs → placedFilters cs (length (putFilters fs [])) (putFilters fs []) .many ≡ length (expressions cs fs)
-  placed-many fs w = filters-placed fs (length (putFilters fs [])) w (omega arith) .many
-
-  -- and their lines in order
-  pub placed-expressions : (fs : List Filter) → ValidFilters fs → (u : List Line) → placedFilters cs (length (putFilters fs [])) (putFilters fs []) .lines ++ u ≡ putExpressions (expressions cs fs) u
-  placed-expressions fs w u = filters-placed fs (length (putFilters fs [])) w (omega arith) .lines u

@@ -5,13 +5,13 @@ use mathlib.Core.List.{List, []}
 use native.Mathlib.Omega.{arith}
 use lib.ListN.{length}
 use Rattle.text.specs.Text.{Bytes, linesOf, linesFrom}
-use Rattle.text.proofs.Texts.{Ended, neat-ended, lines-back}
+use Rattle.text.proofs.Texts.{Ended, neat-ended, lines-back, text-length}
 use Rattle.text.proofs.Places.{lines-start}
 use Rattle.algebra.specs.Tree.{Pattern}
 use Rattle.algebra.specs.Query.{BindingSet, Filter}
 use Rattle.algebra.specs.Layout.{put, layout, putSets, putFilters}
 use Rattle.algebra.specs.Tally.{Tally, bounds, start, noted, headed, tally}
-use Rattle.algebra.specs.Valid.{Valid}
+use Rattle.algebra.specs.Valid.{Valid, ValidFilters}
 use Rattle.algebra.specs.Bounded.{layoutSets, layoutFilters}
 use Rattle.algebra.specs.Reader.{reads}
 use Rattle.algebra.specs.Texts.{readTree, readSets, readFilters}
@@ -27,6 +27,9 @@ module _ (s : Bytes) (p : Pattern) (e : readTree s ≡ reads p) where
   pub tree-at : linesFrom s 0 ≡ put p []
   unfolding layout
   tree-at = let x = tree-exactly s p .0 e in sym (lines-start s) ∙ ap linesOf (sym (x .0)) ∙ lines-back (put p []) (neat p [] (x .1) tt)
+
+  pub tree-text : layout p ≡ s
+  tree-text = tree-exactly s p .0 e .0
 
   pub tree-valid : Valid p
   tree-valid = tree-exactly s p .0 e .1
@@ -50,8 +53,13 @@ module _ (s : Bytes) (fs : List Filter) (e : readFilters s ≡ reads fs) where
   unfolding layoutFilters
   filters-at = let x = filters-exactly s fs .0 e in sym (lines-start s) ∙ ap linesOf (sym (x .0)) ∙ lines-back (putFilters fs []) (filters-neat fs [] (x .1) tt)
 
-  pub filters-ended : Ended (linesFrom s 0)
-  filters-ended = subst Ended (sym filters-at) (neat-ended (putFilters fs []) (filters-neat fs [] (filters-exactly s fs .0 e .1) tt))
+  pub filters-valid : ValidFilters fs
+  filters-valid = filters-exactly s fs .0 e .1
+
+  -- a line has a byte at least
+  pub filters-long : length (putFilters fs []) ≤ length s
+  unfolding layoutFilters
+  filters-long = subst (λ (b : Bytes). length (putFilters fs []) ≤ length b) (filters-exactly s fs .0 e .0) (text-length (putFilters fs []) .0)
 
 -- ---- the projection's columns are few
 

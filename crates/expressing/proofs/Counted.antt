@@ -1,0 +1,179 @@
+-- The filters one after the other: their references, and those that are placed. Assumes nothing.
+use Prim.Native.Nat.{ℕ, zero, suc, _+_, _-_, _≤_, _<_}
+use mathlib.Core.Path.{_≡_, refl, sym, ap, ap₂, _∙_}
+use mathlib.Core.Bool.{Bool, true, false, cond, not, _&&_}
+use mathlib.Core.List.{List, [], _∷_, _++_}
+use mathlib.Core.Logic.{⊎-elim}
+use native.Mathlib.Omega.{arith}
+use lib.ListN.{length}
+use lib.Dec.{ltb}
+use borrow.Author.Tests.{not-true, not-false}
+use Rattle.text.specs.Text.{Bytes, Line, same, textOf, split, part, linesFrom, First}
+use Rattle.text.specs.Word.{bytes}
+use Rattle.text.proofs.Places.{lines-next, lines-end}
+use Rattle.cursor.specs.Cursor.{left}
+use Rattle.emit.specs.Emit.{Em, puts}
+use Rattle.emit.proofs.Laws.{puts-append, puts-nil}
+use Rattle.scoping.specs.Sets.{all}
+use Rattle.walking.specs.Code.{LineEnd}
+use Rattle.walking.proofs.Lines.{nothing-here}
+use Rattle.walking.proofs.Laws.{line-split}
+use Rattle.merging.specs.Request.{position}
+use Rattle.heads.proofs.Cut.{text-append}
+use Rattle.filtering.specs.FilterLines.{isTrueLine, partsBelow, expressionLines, Walked, severalParts, treeToExpression, Placed, oneMore, placedFilters}
+use Rattle.placing.specs.declared.field.Field.{Field}
+use Rattle.placing.specs.Fields.{FieldIs}
+use Rattle.expressing.specs.declared.place.Placed.{Placed as Said}
+use Rattle.expressing.specs.Walks.{Places}
+use Rattle.expressing.specs.Filtered.{refBelow}
+
+-- ---- references
+
+module _ (s : Bytes) (from end w : ℕ) (h : from ≤ end) (i : end < length s) (f : First 9 s from end w) (width : ℕ) (b : Bool) (is : b ≡ same (part from w s) (bytes "ref")) where
+  fields : split 9 (part from end s) ≡ part from w s ∷ left s (w + 1) end
+  fields = line-split s from end w i h f
+
+  pub ref-other : not b ≡ true → true ≡ refBelow width (split 9 (part from end s))
+  unfolding refBelow
+  ref-other t = rw (fields, sym is ∙ not-true b t)
+
+  pub ref-is : not b ≡ false → (n : Field) → FieldIs s (w + 1) end n → (k : ℕ) → k ≡ position (part (w + 1) (n .to) s) → ltb k width ≡ refBelow width (split 9 (part from end s))
+  unfolding refBelow
+  ref-is t n j k p = rw (fields, sym is ∙ not-false b t, sym (j .is)) (ap (λ (m : ℕ). ltb m width) p)
+
+module _ (t : Line → Bool) (s : Bytes) (from : ℕ) where
+  pub refs-done : length s ≤ from → true ≡ all t (linesFrom s from)
+  unfolding all
+  refs-done h = rw (lines-end s from h)
+
+  module _ (end : ℕ) (l : LineEnd s from end) where
+    pub refs-stop : t [] ≡ true → end ≡ length s → true ≡ all t (linesFrom s from)
+    unfolding all
+    refs-stop n q = ⊎-elim (λ (z : linesFrom s from ≡ []). rw z) (λ (z : linesFrom s from ≡ [] ∷ []). rw (z, n)) (nothing-here s from end l q)
+
+    module _ (more : end ≡ length s → ⊥) where
+      ends : end < length s
+      ends = let h = l .high in omega arith
+
+      pub refs-low : from ≤ end
+      refs-low = l .ends ends .low
+
+      module _ (b : Bool) (is : b ≡ t (split 9 (part from end s))) where
+        pub refs-out : not b ≡ true → false ≡ all t (linesFrom s from)
+        unfolding all
+        refs-out h = rw (lines-next s from end (l .ends ends) ends, sym is ∙ not-true b h)
+
+        pub refs-next : not b ≡ false → all t (linesFrom s (end + 1)) ≡ all t (linesFrom s from)
+        unfolding all
+        refs-next h = rw (lines-next s from end (l .ends ends) ends, sym is ∙ not-false b h)
+
+pub no-ref : (width : ℕ) → refBelow width [] ≡ true
+unfolding refBelow same
+no-ref width = refl
+
+-- ---- one filter
+
+pub not-put : (b : Bool) (e x : Em) → not b ≡ true → e ≡ cond b x e
+not-put b e x h = rw (not-true b h)
+
+pub was-put : (b : Bool) (e x y : Em) → not b ≡ false → y ≡ x → y ≡ cond b x e
+was-put b e x y h p = rw (not-false b h) p
+
+pub more-is : (b : Bool) (n : ℕ) → b ≡ true → n + 1 ≡ cond b (n + 1) n
+more-is b n h = rw h
+
+pub same-is : (b : Bool) (n : ℕ) → b ≡ false → n ≡ cond b (n + 1) n
+same-is b n h = rw h
+
+-- ---- filter by filter
+
+-- those placed so far in front of those that are left are the whole
+pub record Going (cs : List Bytes) (s : Bytes) (k from many : ℕ) (e : Em) (whole : Placed) (start : Em) : Type 0 where
+  pub count : many + placedFilters cs k (linesFrom s from) .many ≡ whole .many
+  pub lines : puts (textOf (placedFilters cs k (linesFrom s from) .lines)) e ≡ puts (textOf (whole .lines)) start
+
+pub going-start : (cs : List Bytes) (s : Bytes) (k : ℕ) (e : Em) → Going cs s k 0 0 e (placedFilters cs k (linesFrom s 0)) e
+going-start cs s k e = record { count = omega arith; lines = refl }
+
+module _ (cs : List Bytes) (s : Bytes) (k from many : ℕ) (e : Em) (whole : Placed) (start : Em) (g : Going cs s k from many e whole start) where
+  -- none is left
+  nothing : placedFilters cs k (linesFrom s from) ≡ record { many = 0; lines = [] } → (r : Said) → r .many ≡ many → Places whole start e r
+  unfolding textOf
+  nothing z r q = record {
+    many = q ∙ (let a = g .count in let b = ap (λ (x : Placed). x .many) z in omega arith);
+    lines = sym (puts-nil e) ∙ ap (λ (x : Placed). puts (textOf (x .lines)) e) (sym z) ∙ g .lines;
+  }
+
+  pub going-done : k ≤ 0 → (r : Said) → r .many ≡ many → Places whole start e r
+  unfolding placedFilters
+  going-done h r q = let z : k ≡ 0 = omega arith in nothing (ap (λ (n : ℕ). placedFilters cs n (linesFrom s from)) z) r q
+
+  module _ (more : 0 < k) (end : ℕ) (l : LineEnd s from end) where
+    pub going-stop : end ≡ length s → (r : Said) → r .many ≡ many → Places whole start e r
+    unfolding placedFilters treeToExpression expressionLines partsBelow severalParts isTrueLine same
+    going-stop q r p = nothing (⊎-elim (λ (z : linesFrom s from ≡ []). none z) (λ (z : linesFrom s from ≡ [] ∷ []). open-line z) (nothing-here s from end l q)) r p
+      where
+        empty : (n : ℕ) → placedFilters cs n [] ≡ record { many = 0; lines = [] }
+        empty zero = refl
+        empty (suc n) = refl
+
+        none : linesFrom s from ≡ [] → placedFilters cs k (linesFrom s from) ≡ record { many = 0; lines = [] }
+        none z = ap (placedFilters cs k) z ∙ empty k
+
+        open-line : linesFrom s from ≡ [] ∷ [] → placedFilters cs k (linesFrom s from) ≡ record { many = 0; lines = [] }
+        open-line z = let j : k ≡ suc (k - 1) = omega arith in ap₂ (placedFilters cs) j z ∙ empty (k - 1)
+
+    module _ (more-lines : end ≡ length s → ⊥) where
+      inside : end < length s
+      inside = let h = l .high in omega arith
+
+      pub going-low : from ≤ end
+      going-low = l .ends inside .low
+
+      abbrev Tried : Walked
+      Tried = treeToExpression cs k (linesFrom s from)
+
+      abbrev Rest : Placed
+      Rest = placedFilters cs (k - 1) (Tried .left)
+
+      opened : placedFilters cs k (linesFrom s from) ≡ oneMore (not (isTrueLine (split 9 (part from end s))) && Tried .expressed) (Tried .lines) Rest
+      unfolding placedFilters
+      opened =
+          let j : k ≡ suc (k - 1) = omega arith in
+          let n = lines-next s from end (l .ends inside) inside in
+          ap₂ (placedFilters cs) j n
+          ∙ (λ i. oneMore (not (isTrueLine (split 9 (part from end s))) && treeToExpression cs (sym j i) (sym n i) .expressed) (treeToExpression cs (sym j i) (sym n i) .lines) (placedFilters cs (k - 1) (treeToExpression cs (sym j i) (sym n i) .left)))
+
+      pub going-next : (t x b : Bool) (next m : ℕ) (e′ : Em) → t ≡ isTrueLine (split 9 (part from end s)) → x ≡ Tried .expressed → b ≡ (not t && x) → linesFrom s next ≡ Tried .left
+          → e′ ≡ cond b (puts (textOf (Tried .lines)) e) e → m ≡ cond b (many + 1) many → Going cs s (k - 1) next m e′ whole start
+      going-next t x b next m e′ p q r n u v = go b refl
+        where
+          is : b ≡ (not (isTrueLine (split 9 (part from end s))) && Tried .expressed)
+          is = r ∙ ap₂ (λ (c d : Bool). not c && d) p q
+
+          at : placedFilters cs (k - 1) (linesFrom s next) ≡ Rest
+          at = ap (placedFilters cs (k - 1)) n
+
+          go : (c : Bool) → b ≡ c → Going cs s (k - 1) next m e′ whole start
+          go true y =
+              let o = opened ∙ ap (λ (d : Bool). oneMore d (Tried .lines) Rest) (sym is ∙ y) in
+              record {
+                count = (let a = g .count in let d = ap (λ (z : Placed). z .many) o in let f = ap (λ (z : Placed). z .many) at in let h = v ∙ ap (λ (d : Bool). cond d (many + 1) many) y in omega arith);
+                lines =
+                    ap₂ (λ (z : Placed) (w : Em). puts (textOf (z .lines)) w) at (u ∙ ap (λ (d : Bool). cond d (puts (textOf (Tried .lines)) e) e) y)
+                    ∙ sym (puts-append (textOf (Tried .lines)) (textOf (Rest .lines)) e)
+                    ∙ ap (λ (z : Bytes). puts z e) (sym (text-append (Tried .lines) (Rest .lines)))
+                    ∙ ap (λ (z : Placed). puts (textOf (z .lines)) e) (sym o)
+                    ∙ g .lines;
+              }
+          go false y =
+              let o = opened ∙ ap (λ (d : Bool). oneMore d (Tried .lines) Rest) (sym is ∙ y) in
+              record {
+                count = (let a = g .count in let d = ap (λ (z : Placed). z .many) o in let f = ap (λ (z : Placed). z .many) at in let h = v ∙ ap (λ (d : Bool). cond d (many + 1) many) y in omega arith);
+                lines = ap₂ (λ (z : Placed) (w : Em). puts (textOf (z .lines)) w) (at ∙ sym o) (u ∙ ap (λ (d : Bool). cond d (puts (textOf (Tried .lines)) e) e) y) ∙ g .lines;
+              }
+
+-- there are no more than there are lines
+pub count-fits : (b : Bool) (n m k top : ℕ) → 0 < k → m ≡ cond b (n + 1) n → n + k ≤ top → m + (k - 1) ≤ top
+count-fits true n m k top h e i = omega arith
+count-fits false n m k top h e i = omega arith

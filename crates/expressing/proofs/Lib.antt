@@ -1,0 +1,4 @@
+pub mod Headed
+pub mod Expressed
+pub mod Counted
+pub mod Whole

@@ -1,0 +1,21 @@
+-- `expressing::filters/filters` meets its contract. Assumes nothing.
+use borrow.Author.Needs.{needs}
+use Rattle.reading.specs.Variables.{treeNames, filterNames}
+use Rattle.reading.proofs.Said as Said
+use Rattle.expressing.proofs.Whole as Wh
+use Rattle.expressing.proofs.filters.filters.Statement.{statement}
+use Rattle.expressing.proofs.filters.filters.Tie as tie
+
+pub filters-spec : {M : Type 1} → statement M
+filters-spec =
+    tie.close
+    (tie.spec
+    (λ c κs. search needs)
+    (λ c. search needs)
+    (λ c κs. let g = Said.said-good treeNames _ _ _ _ _ _ _ (c .before .before .before .check-tree .ensures) (c .before .enum-told .given .1) in (g .value, g .read))
+    (λ c. search needs)
+    (λ c. search needs)
+    (λ c. search needs)
+    (λ c. search needs)
+    (λ c. Wh.tree-malformed _ _ _ (Said.said-malformed treeNames _ _ _ _ _ _ (c .before .before .check-tree .ensures) (c .enum-told2 .given .1)))
+    (λ c. Wh.tree-over _ _ _ (Said.said-over treeNames _ _ _ _ _ _ (c .before .before .check-tree .ensures) (c .enum-told3 .given .1))))

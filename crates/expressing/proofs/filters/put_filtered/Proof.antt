@@ -1,0 +1,30 @@
+-- `expressing::filters/put_filtered` meets its contract. Assumes nothing.
+use borrow.Author.Needs.{needs}
+use mathlib.Core.Path.{_≡_, refl, sym, ap, _∙_}
+use native.Mathlib.Omega.{arith}
+use lib.Seq.{length-take-le}
+use Rattle.expressing.proofs.Whole as Wh
+use Rattle.expressing.proofs.filters.put_filtered.Statement.{statement}
+use Rattle.expressing.proofs.filters.put_filtered.Tie as tie
+
+pub put-filtered-spec : {M : Type 1} → statement M
+put-filtered-spec =
+    tie.close
+    (tie.spec
+    (λ c. let a = c .before .before .before .before .before .pre .0 in let b = c .before .before .before .before .before .pre .1 in sym (length-take-le _ _ (omega arith)))
+    (λ c κs. search needs)
+    (λ c. search needs)
+    (λ c κs. search needs)
+    (λ c. let a = c .before .before .before .before .before .before .before .before .before .before .before .before .before .before .pre .0 in let b = c .before .before .before .before .before .before .before .before .before .before .before .before .before .before .pre .1 in omega arith)
+    (λ c. let a = c .before .before .before .before .before .before .before .before .before .before .before .before .before .before .pre .0 in let b = c .before .before .before .before .before .before .before .before .before .before .before .before .before .before .pre .1 in omega arith)
+    (λ c. let a = c .before .before .before .before .before .before .before .before .before .before .before .before .before .before .pre .0 in let b = c .before .before .before .before .before .before .before .before .before .before .before .before .before .before .pre .1 in omega arith)
+    (λ c κs. search needs)
+    (λ c. search needs)
+    (λ c κs. search needs)
+    (λ c κs. c .before .before .before .before .before .before .before .before .before .before .before .before .before .before .before .before .before .before .before .before .before .before .before .before .pre .2)
+    (λ c. let a = c .before .before .before .before .before .before .before .before .before .before .before .before .before .before .before .before .before .before .before .before .before .before .before .before .before .before .before .before .pre .0 in let b = c .before .before .before .before .before .before .before .before .before .before .before .before .before .before .before .before .before .before .before .before .before .before .before .before .before .before .before .before .pre .1 in omega arith)
+    (λ c. let a = c .before .before .before .before .before .before .before .before .before .before .before .before .before .before .before .before .before .before .before .before .before .before .before .before .before .before .before .before .pre .0 in let b = c .before .before .before .before .before .before .before .before .before .before .before .before .before .before .before .before .before .before .before .before .before .before .before .before .before .before .before .before .pre .1 in omega arith)
+    (λ c. let a = c .before .before .before .before .before .before .before .before .before .before .before .before .before .before .before .before .before .before .before .before .before .before .before .before .before .before .before .before .pre .0 in let b = c .before .before .before .before .before .before .before .before .before .before .before .before .before .before .before .before .before .before .before .before .before .before .before .before .before .before .before .before .pre .1 in omega arith)
+    (λ c κs. search needs)
+    (λ c. search needs)
+    (λ c. Wh.filtered-put _ _ _ _ _ _ _ _ _ _ _ _ (c .before .before .before .before .before .before .before .before .before .before .before .before .before .before .before .before .before .before .before .before .before .before .before .before .before .before .put-all .ensures) (c .before .before .before .before .before .before .before .before .before .before .before .before .before .before .before .before .before .before .before .before .before .put-all2 .ensures) (c .before .before .before .before .before .before .before .before .before .before .before .before .before .before .before .before .put-all3 .ensures) (c .before .before .before .before .before .before .before .before .before .before .before .put-repeated .ensures) (c .before .before .before .before .before .before .before .put-filters .ensures .lines) (c .before .before .put-all4 .ensures)))

@@ -1,0 +1,67 @@
+// From a filter to an expression: a filter calls itself on its parts, the lines left falling.
+use crate::head::parts_below;
+use crate::head::put_head;
+use placing::steps::both;
+use walking::line::line_end;
+ghost use Prim.Native.Nat.{_≤_};
+ghost use Rattle.text.specs.Text.{linesFrom};
+ghost use Rattle.emit.specs.Emit.{em};
+ghost use Rattle.names.specs.Names.{listing};
+ghost use Rattle.filtering.specs.FilterLines.{treeToExpression};
+ghost use Rattle.expressing.specs.Walks.{Walks};
+
+// Whether all of a filter is expressed, and where its text and the output go on.
+pub struct Walked {
+    pub expressed: bool,
+    pub from: usize,
+    pub at: usize,
+}
+
+// try_expression_from_tree: the filter that starts here, of which at most so many lines are left.
+pub fn tree_to_expression(
+    tree: &[u8],
+    starts: &[u16; 64],
+    sizes: &[u16; 64],
+    n: usize,
+    filters: &[u8],
+    from: usize,
+    left: usize,
+    out: &mut [u8],
+    at: usize,
+) -> Walked
+    requires { ⌜ n ≤ 64 ⌝ }
+    ensures { λ r. ⌜ Walks (now (filters .entry)) (treeToExpression (listing (now (tree .entry)) (now (starts .entry)) (now (sizes .entry)) n) left (linesFrom (now (filters .entry)) from)) (em at (now (out .entry))) (em (r .at) (now (out .exit))) r ⌝ }
+{
+    if left == 0 {
+        return Walked {
+            expressed: false,
+            from,
+            at,
+        };
+    }
+    let end = line_end(filters, from);
+    if end == filters.len() {
+        return Walked {
+            expressed: false,
+            from: end,
+            at,
+        };
+    }
+    let head = put_head(tree, starts, sizes, n, filters, from, end, out, at);
+    let mut expressed = head.expressed;
+    let mut to = head.at;
+    let mut next = end + 1;
+    let mut parts = parts_below(filters, from, end);
+    while 0 < parts {
+        let part = tree_to_expression(tree, starts, sizes, n, filters, next, left - 1, out, to);
+        expressed = both(expressed, part.expressed);
+        to = part.at;
+        next = part.from;
+        parts -= 1;
+    }
+    Walked {
+        expressed,
+        from: next,
+        at: to,
+    }
+}

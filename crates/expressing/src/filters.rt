@@ -1,0 +1,164 @@
+// The call filters: tree and filters to tree.
+use crate::place::put_filters;
+use algebra::Answer as Check;
+use answers::Answer;
+use emit::put_all;
+use heads::copy;
+use negating::Outermost;
+use negating::outermost_projection;
+use placing::columns::read_columns;
+use placing::ends::pattern_end;
+use placing::field::field_at;
+use placing::field::position_of;
+use placing::steps::put_repeated;
+use reading::check_filters;
+use reading::check_tree;
+use text::equal;
+use text::find;
+use walking::line::line_end;
+ghost use mathlib.Core.Path.{_≡_};
+ghost use Prim.Native.Nat.{_≤_, _<_};
+ghost use mathlib.Core.List.{List};
+ghost use lib.ListN.{length};
+ghost use Rattle.text.specs.Text.{part, split, linesFrom};
+ghost use Rattle.algebra.specs.Tree.{Pattern};
+ghost use Rattle.algebra.specs.Query.{Filter};
+ghost use Rattle.algebra.specs.Reader.{reads};
+ghost use Rattle.algebra.specs.Texts.{readTree, readFilters};
+ghost use Rattle.names.specs.Names.{listing};
+ghost use Rattle.emit.specs.Emit.{em, puts};
+ghost use Rattle.answers.specs.Outcome.{Answered};
+ghost use Rattle.scoping.specs.Sets.{all};
+ghost use Rattle.filtering.specs.FilterLines.{placedFilters};
+ghost use Rattle.filtering.specs.Filters.{filtersOutcome};
+ghost use Rattle.expressing.specs.Filtered.{refBelow, filteredAt};
+
+const REF: [u8; 3] = *b"ref";
+
+const FILTER: [u8; 7] = *b"filter\n";
+
+const AND: [u8; 3] = *b"and";
+
+// The line from here to its end is no reference past the width.
+fn is_inside(filters: &[u8], from: usize, end: usize, width: usize) -> bool
+    requires { ⌜ (from ≤ end) × (end < length (now filters)) ⌝ }
+    ensures { λ r. ⌜ r ≡ refBelow width (split 9 (part from end (now (filters .entry)))) ⌝ }
+{
+    let word = find(filters, from, end, 9);
+    if !equal(&filters[from..word], &REF) {
+        return true;
+    }
+    let first = word + 1;
+    let field = field_at(filters, first, end);
+    let to = field.to;
+    position_of(&filters[first..to]) < width
+}
+
+// Each reference is below the width.
+fn are_inside(filters: &[u8], width: usize) -> bool
+    ensures { λ r. ⌜ r ≡ all (refBelow width) (linesFrom (now (filters .entry)) 0) ⌝ }
+{
+    let mut from = 0;
+    while from < filters.len() {
+        let end = line_end(filters, from);
+        if end == filters.len() {
+            return true;
+        }
+        if !is_inside(filters, from, end, width) {
+            return false;
+        }
+        from = end + 1;
+    }
+    true
+}
+
+// pattern_with_filters: the tree down to its projection, `filter`, the inner pattern, the lines `and`, the expressions, the rest.
+fn put_filtered(
+    tree: &[u8],
+    inner: usize,
+    end: usize,
+    starts: &[u16; 64],
+    sizes: &[u16; 64],
+    n: usize,
+    filters: &[u8],
+    ands: usize,
+    out: &mut [u8],
+) -> usize
+    requires { ⌜ (inner ≤ end) × (end ≤ length (now tree)) × (n ≤ 64) ⌝ }
+    ensures { λ r. ⌜ em r (now (out .exit)) ≡ puts (filteredAt (now (tree .entry)) inner end ands (placedFilters (listing (now (tree .entry)) (now (starts .entry)) (now (sizes .entry)) n) (length (now (filters .entry))) (linesFrom (now (filters .entry)) 0) .lines)) (em 0 (now (out .entry))) ⌝ }
+{
+    let a = put_all(out, 0, &tree[..inner]);
+    let b = put_all(out, a, &FILTER);
+    let c = put_all(out, b, &tree[inner..end]);
+    let d = put_repeated(&AND, ands, out, c);
+    let placed = put_filters(tree, starts, sizes, n, filters, out, d);
+    put_all(out, placed.at, &tree[end..])
+}
+
+// For texts that were checked.
+fn filters_of(tree: &[u8], filters: &[u8], out: &mut [u8]) -> Answer
+    requires { ⌜ ((p : Pattern) × (readTree (now tree) ≡ reads p)) × ((fs : List Filter) × (readFilters (now filters) ≡ reads fs)) ⌝ }
+    ensures { λ r. ⌜ Answered (filtersOutcome (now (tree .entry)) (now (filters .entry))) (now (out .entry)) (now (out .exit)) r ⌝ }
+{
+    let Outermost::At(line, inner) = outermost_projection(tree, 0) else {
+        return copy(tree, out);
+    };
+    let mut starts = [0u16; 64];
+    let mut sizes = [0u16; 64];
+    let n = read_columns(tree, line, &mut starts, &mut sizes);
+    if !are_inside(filters, n) {
+        return Answer::Outside;
+    }
+    let mut none = [0u8; 0];
+    let placed = put_filters(tree, &starts, &sizes, n, filters, &mut none, 0);
+    if placed.many == 0 {
+        return copy(tree, out);
+    }
+    let ands = placed.many - 1;
+    let end = pattern_end(tree, inner);
+    let size = put_filtered(
+        tree,
+        inner,
+        end,
+        &starts,
+        &sizes,
+        n,
+        filters,
+        ands,
+        &mut none,
+    );
+    if out.len() < size {
+        return Answer::TooShort;
+    }
+    let put = put_filtered(tree, inner, end, &starts, &sizes, n, filters, ands, out);
+    Answer::Written(put)
+}
+
+// For a tree that was checked.
+fn filters_by(tree: &[u8], filters: &[u8], out: &mut [u8]) -> Answer
+    requires { ⌜ ((p : Pattern) × (readTree (now tree) ≡ reads p)) ⌝ }
+    ensures { λ r. ⌜ Answered (filtersOutcome (now (tree .entry)) (now (filters .entry))) (now (out .entry)) (now (out .exit)) r ⌝ }
+{
+    let mut starts = [0u16; 1024];
+    let mut sizes = [0u16; 1024];
+    let mut hints = [0u16; 4096];
+    match check_filters(filters, &mut starts, &mut sizes, &mut hints) {
+        Check::Good(_) => filters_of(tree, filters, out),
+        Check::Malformed => Answer::Malformed,
+        Check::OverBound => Answer::OverBound,
+    }
+}
+
+// filters: tree and filters to tree.
+pub fn filters(tree: &[u8], filters: &[u8], out: &mut [u8]) -> Answer
+    ensures { λ r. ⌜ Answered (filtersOutcome (now (tree .entry)) (now (filters .entry))) (now (out .entry)) (now (out .exit)) r ⌝ }
+{
+    let mut starts = [0u16; 1024];
+    let mut sizes = [0u16; 1024];
+    let mut hints = [0u16; 4096];
+    match check_tree(tree, &mut starts, &mut sizes, &mut hints) {
+        Check::Good(_) => filters_by(tree, filters, out),
+        Check::Malformed => Answer::Malformed,
+        Check::OverBound => Answer::OverBound,
+    }
+}
