@@ -28,7 +28,8 @@ use Rattle.negating.proofs.TreeLines.{behind}
 use Rattle.filtering.specs.SetLines.{repeated}
 use Rattle.filtering.specs.FilterLines.{refInside, Placed, placedFilters}
 use Rattle.filtering.specs.Filters.{expressions, filtered, patternWithFilters, referencesInside, filtersOutcome}
-use Rattle.filtering.proofs.FilterLines.{putExpressions, placed-lines, references-lines, PlacedAs, filters-placed}
+use Rattle.filtering.proofs.FilterLines.{references-lines}
+use Rattle.filtering.proofs.PlacedLines.{putExpressions, placed-lines, PlacedAs, filters-placed}
 use Rattle.filtering.proofs.Theorem.{found-same, filters-not-found}
 use Rattle.filtering.proofs.Read.{tree-text, filters-at, filters-valid, filters-long}
 use Rattle.placing.specs.Fields.{columnsOn}

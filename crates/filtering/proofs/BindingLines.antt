@@ -14,12 +14,10 @@ use Rattle.algebra.specs.Layout.{putRows, put, putValues, putValueRows, putSets
 use Rattle.scoping.specs.Premises.{columnsAt, inside}
 use Rattle.scoping.specs.Sets.{all}
 use Rattle.merging.specs.Sides.{columnAt}
-use Rattle.merging.specs.Request.{Projection, position}
+use Rattle.merging.specs.Request.{position}
 use Rattle.merging.proofs.Lists.{map-length}
-use Rattle.negating.proofs.Found.{Outermost}
-use Rattle.negating.proofs.TreeLines.{downTo, behind, modified-lines}
 use Rattle.filtering.specs.Values.{groundTerm, groundTermFromDatavalue}
-use Rattle.filtering.specs.Bindings.{orNone, cellOf, positionsOf, boundVariables, valuesOf, joinedWithValues, patternWithBindings, positionsInside, valuesUsable}
+use Rattle.filtering.specs.Bindings.{orNone, cellOf, positionsOf, boundVariables, valuesOf, joinedWithValues, positionsInside, valuesUsable}
 use Rattle.filtering.specs.Terms.{formOf, termOf}
 use Rattle.filtering.specs.SetLines.{repeated, setsIn, isUsable, cellFrom, cellsFrom, valuesLine, atInside, allUsable, rowUsable}
 use Rattle.filtering.proofs.Valid.{bound-length}
@@ -127,16 +125,6 @@ pub joined-lines : (cs : List Bytes) (p : Pattern) (xs : List BindingSet) (t : L
 unfolding joinedWithValues repeated putAllValues put
 joined-lines cs p [] t = refl
 joined-lines cs p (x ∷ xs) t = joined-lines cs (join p (valuesOf cs x)) xs t ∙ repeated-in (length xs) (bytes "join") (put p (put (valuesOf cs x) (putAllValues cs xs t)))
-
--- all lines that bindings writes where a projection is found and a set is given
-pub bindings-lines : {p : Pattern} {x : Projection} (o : Outermost p x) (s : BindingSet) (xs : List BindingSet) (t : List Line)
-    → put (patternWithBindings p (s ∷ xs)) t
-    ≡ downTo o ++ repeated (length (s ∷ xs)) (bytes "join") (put (x .inner) (map (valuesLine (x .columns)) (putSets (s ∷ xs) []) ++ behind o t))
-unfolding patternWithBindings
-bindings-lines {p} {x} o s xs t =
-    modified-lines (λ cs inner. joinedWithValues cs inner (s ∷ xs)) o t
-    ∙ ap (λ (l : List Line). downTo o ++ l)
-    (joined-lines (x .columns) (x .inner) (s ∷ xs) (behind o t) ∙ ap (λ (l : List Line). repeated (length (s ∷ xs)) (bytes "join") (put (x .inner) l)) (values-lines (x .columns) (s ∷ xs) (behind o t)))
 
 -- ---- 3 and 7, line by line
 

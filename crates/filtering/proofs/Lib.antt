@@ -4,8 +4,10 @@ pub mod FoundValid
 pub mod Valid
 pub mod Theorem
 pub mod Scope
+pub mod Named
 pub mod BindingLines
 pub mod FilterLines
+pub mod PlacedLines
 pub mod Refused
 pub mod Copying
 pub mod Read
