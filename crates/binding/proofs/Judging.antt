@@ -21,6 +21,7 @@ use Rattle.filtering.specs.Terms.{formOf}
 use Rattle.filtering.specs.SetLines.{setsIn, isUsable, allUsable, rowUsable}
 use Rattle.placing.specs.declared.field.Field.{Field}
 use Rattle.placing.specs.Fields.{FieldIs}
+use Rattle.placing.proofs.Repeated.{with-true, and-next}
 use Rattle.binding.specs.Judged.{allBelow, atBelow, JudgedAll}
 
 -- ---- the fields of a line
@@ -38,10 +39,6 @@ module _ (w : ℕ) (s : Bytes) (next end : ℕ) where
   pub below-done : end < next → true ≡ allBelow w (left s next end)
   unfolding all
   below-done h = rw (left-none s next end h)
-
-with-true : (b : Bool) → (b && true) ≡ b
-with-true true = refl
-with-true false = refl
 
 -- a value's domain, and what stands behind its three fields
 usable-cons : (d : Bytes) (gs : List Bytes) → allUsable (d ∷ gs) ≡ (isUsable d && allUsable (drop 1 (drop 1 gs)))
@@ -107,10 +104,6 @@ pub record Going (w : ℕ) (s : Bytes) (from : ℕ) (inside usable : Bool) (coun
 
 pub going-start : (w : ℕ) (s : Bytes) → Going w s 0 true true 0
 going-start w s = record { below = refl; cells = refl; sets = omega arith; few = omega arith }
-
-and-next : (a b t c x : Bool) → b ≡ (a && t) → (a && (t && c)) ≡ x → (b && c) ≡ x
-and-next true b t c x e h = ap (λ (y : Bool). y && c) e ∙ h
-and-next false b t c x e h = ap (λ (y : Bool). y && c) e ∙ h
 
 and-true : (b c x : Bool) → c ≡ true → (b && c) ≡ x → b ≡ x
 and-true true c x e h = sym e ∙ h

@@ -15,6 +15,7 @@ use Rattle.walking.specs.Code.{LineEnd}
 use Rattle.walking.proofs.Lines.{nothing-here}
 use Rattle.heads.proofs.Cut.{text-append}
 use Rattle.filtering.specs.FilterLines.{partsBelow, expressionLines, Walked, inFront, andThen, severalParts, treeToExpression}
+use Rattle.placing.proofs.Repeated.{with-true, and-next}
 use Rattle.expressing.specs.declared.express.Walked.{Walked as Said}
 use Rattle.expressing.specs.Heads.{Heads}
 use Rattle.expressing.specs.Walks.{Walks}
@@ -50,14 +51,6 @@ pub record Going (f : List Line → Walked) (parts : ℕ) (ls : List Line) (b : 
 pub going-start : (f : List Line → Walked) (parts : ℕ) (ls : List Line) (b : Bool) (e : Em) → Going f parts ls b e (severalParts f parts ls) b e
 going-start f parts ls b e = record { expressed = refl; left = refl; lines = refl }
 
-and-next : (a b t c x : Bool) → b ≡ (a && t) → (a && (t && c)) ≡ x → (b && c) ≡ x
-and-next true b t c x e h = ap (λ (y : Bool). y && c) e ∙ h
-and-next false b t c x e h = ap (λ (y : Bool). y && c) e ∙ h
-
-with-true : (b : Bool) → (b && true) ≡ b
-with-true true = refl
-with-true false = refl
-
 module _ (f : List Line → Walked) (s : Bytes) (parts next : ℕ) (b : Bool) (e : Em) (whole : Walked) (ok : Bool) (start : Em) (g : Going f parts (linesFrom s next) b e whole ok start) where
   open-parts : 0 < parts → severalParts f parts (linesFrom s next) ≡ andThen (f (linesFrom s next)) (severalParts f (parts - 1) (f (linesFrom s next) .left))
   unfolding severalParts
@@ -70,7 +63,7 @@ module _ (f : List Line → Walked) (s : Bytes) (parts next : ℕ) (b : Bool) (e
       let at = ap (severalParts f (parts - 1)) (w .left) in
       record {
         expressed = ap (λ (x : Walked). c && x .expressed) at ∙ and-next b c (f (linesFrom s next) .expressed) (rest .expressed) _ (q ∙ ap (λ (x : Bool). b && x) (w .expressed)) (ap (λ (x : Walked). b && x .expressed) (sym o) ∙ g .expressed);
-        left = ap (λ (x : Walked). x .left) (at ∙ sym (ap (λ (x : Walked). x) refl)) ∙ (ap (λ (x : Walked). x .left) (sym o) ∙ g .left);
+        left = ap (λ (x : Walked). x .left) at ∙ ap (λ (x : Walked). x .left) (sym o) ∙ g .left;
         lines =
             ap₂ (λ (x : Walked) (y : Em). puts (textOf (x .lines)) y) at (w .lines)
             ∙ sym (puts-append (textOf (f (linesFrom s next) .lines)) (textOf (rest .lines)) e)

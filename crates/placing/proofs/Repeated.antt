@@ -16,6 +16,15 @@ both-true a b h = rw (not-false a h)
 pub both-false : (a b : Bool) → not a ≡ true → false ≡ (a && b)
 both-false a b h = rw (not-true a h)
 
+pub with-true : (b : Bool) → (b && true) ≡ b
+with-true true = refl
+with-true false = refl
+
+-- one test more, in front of those that are left
+pub and-next : (a b t c x : Bool) → b ≡ (a && t) → (a && (t && c)) ≡ x → (b && c) ≡ x
+and-next true b t c x e h = ap (λ (y : Bool). y && c) e ∙ h
+and-next false b t c x e h = ap (λ (y : Bool). y && c) e ∙ h
+
 module _ (w : Bytes) where
   pub repeated-next : (k : ℕ) (e x y : Em) → 0 < k → x ≡ puts w e → y ≡ puts (10 ∷ []) x → puts (textOf (repeated (k - 1) w [])) y ≡ puts (textOf (repeated k w [])) e
   unfolding repeated textOf ended
