@@ -6,7 +6,8 @@
 //!
 //! MODE is `scope` (a tree), `rename` (a tree, a mapping), `standardize PREFIX` (a tree), `copy` (a tree, read and
 //! written back), `merge` or `merge_queries` (two trees or queries, a join list, two constant lists), `push` (a query, a
-//! constant list) or `negate` (a query). The texts are parted by lines `--`.
+//! constant list), `negate` (a query), `bindings` (a tree, binding sets) or `filters` (a tree, filters). The texts are
+//! parted by lines `--`.
 //!
 //! Where nemo's function gives None the answer is a line `none`, where it panics a line `panicked`.
 
@@ -33,6 +34,8 @@ enum Mode {
     MergeQueries,
     Push,
     Negate,
+    Bindings,
+    Filters,
 }
 
 fn main() {
@@ -61,6 +64,8 @@ fn mode(arguments: &mut impl Iterator<Item = String>) -> Mode {
         "merge_queries" => Mode::MergeQueries,
         "push" => Mode::Push,
         "negate" => Mode::Negate,
+        "bindings" => Mode::Bindings,
+        "filters" => Mode::Filters,
         other => panic!("{other} is no mode"),
     }
 }
@@ -117,6 +122,16 @@ fn work(mode: &Mode, texts: &[&str], out: &mut String) {
         }
         (Mode::Negate, [query]) => {
             write::query(out, &queries::negate_query(&read::query(query)));
+        }
+        (Mode::Bindings, [tree, sets]) => {
+            let bound = queries::pattern_with_bindings(&read::tree(tree), &read::sets(sets));
+            write::pattern(out, &bound);
+        }
+        (Mode::Filters, [tree, filters]) => {
+            let (filtered, remaining) =
+                queries::pattern_with_filters(&read::tree(tree), &read::filters(filters));
+            assert!(remaining.is_empty());
+            write::pattern(out, &filtered);
         }
         _ => panic!("another number of texts"),
     }

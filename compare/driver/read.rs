@@ -3,6 +3,14 @@
 use std::collections::HashMap;
 use std::str::{Split, SplitTerminator};
 
+use nemo_physical::datasources::bindings::Bindings;
+use nemo_physical::datavalues::{AnyDataValue, ValueDomain};
+use nemo_physical::function::definitions::{
+    BinaryFunctionEnum, NaryFunctionEnum, TernaryFunctionEnum, UnaryFunctionEnum,
+};
+use nemo_physical::function::tree::{FunctionLeaf, FunctionTree};
+use nemo_physical::tabular::filters::FilterTransformPattern;
+use nemo_physical::tabular::operations::OperationColumnMarker;
 use oxrdf::{BlankNode, Literal, NamedNode, Variable};
 use spargebra::Query;
 use spargebra::algebra::{
@@ -101,6 +109,125 @@ pub fn constants(text: &str) -> HashMap<usize, GroundTerm> {
             )
         })
         .collect()
+}
+
+pub fn sets(text: &str) -> Vec<Bindings> {
+    let mut reader = Reader::new(text, None);
+    let mut result = Vec::new();
+    while let Some(line) = reader.lines.next() {
+        let mut fields = line.split('\t');
+        assert_eq!(fields.next(), Some("set"));
+        let (_, rows) = (number(&mut fields), number(&mut fields));
+        let positions = reader
+            .after("at")
+            .map(|field| field.parse().expect("a number"))
+            .collect();
+        let rows = (0..rows)
+            .map(|_| {
+                let fields: Vec<_> = reader.after("row").collect();
+                fields
+                    .chunks(3)
+                    .map(|value| data_value(value[0], value[1], value[2]))
+                    .collect()
+            })
+            .collect();
+        result.push(Bindings::new(positions, rows));
+    }
+    result
+}
+
+pub fn filters(text: &str) -> Vec<FilterTransformPattern> {
+    let mut reader = Reader::new(text, None);
+    let mut result = Vec::new();
+    while let Some(line) = reader.lines.next() {
+        result.push(FilterTransformPattern::new(reader.filter(line)));
+    }
+    result
+}
+
+fn data_value(domain: &str, lexical: &str, extra: &str) -> AnyDataValue {
+    use ValueDomain::*;
+    let domain = match domain {
+        "PlainString" => PlainString,
+        "LanguageTaggedString" => LanguageTaggedString,
+        "Iri" => Iri,
+        "Float" => Float,
+        "Double" => Double,
+        "UnsignedLong" => UnsignedLong,
+        "NonNegativeLong" => NonNegativeLong,
+        "UnsignedInt" => UnsignedInt,
+        "NonNegativeInt" => NonNegativeInt,
+        "Long" => Long,
+        "Int" => Int,
+        "Boolean" => Boolean,
+        "Null" => Null,
+        "Tuple" => Tuple,
+        "Map" => Map,
+        "Other" => Other,
+        other => panic!("{other} is no domain"),
+    };
+    let extra = extra
+        .strip_prefix('<')
+        .and_then(|rest| rest.strip_suffix('>'))
+        .unwrap_or(extra);
+    AnyDataValue {
+        domain,
+        lexical: lexical.to_string(),
+        extra: extra.to_string(),
+    }
+}
+
+impl<'t> Reader<'t> {
+    fn filter(&mut self, line: &'t str) -> FunctionTree<OperationColumnMarker> {
+        let fields: Vec<_> = line.split('\t').collect();
+        match fields[0] {
+            "leaf" => FunctionTree::Leaf(FunctionLeaf::Constant(data_value(
+                fields[1], fields[2], fields[3],
+            ))),
+            "ref" => FunctionTree::Leaf(FunctionLeaf::Reference(OperationColumnMarker(
+                fields[1].parse().expect("a number"),
+            ))),
+            "un" => {
+                let function = match fields[1] {
+                    "Datatype" => UnaryFunctionEnum::Datatype(()),
+                    "LanguageTag" => UnaryFunctionEnum::LanguageTag(()),
+                    other => UnaryFunctionEnum::Other(other.to_string()),
+                };
+                FunctionTree::Unary(function, self.filter_part())
+            }
+            "bin" => {
+                let function = match fields[1] {
+                    "Equals" => BinaryFunctionEnum::Equals(()),
+                    "Unequals" => BinaryFunctionEnum::Unequals(()),
+                    other => BinaryFunctionEnum::Other(other.to_string()),
+                };
+                FunctionTree::Binary {
+                    function,
+                    left: self.filter_part(),
+                    right: self.filter_part(),
+                }
+            }
+            "tern" => FunctionTree::Ternary {
+                function: TernaryFunctionEnum(fields[1].to_string()),
+                first: self.filter_part(),
+                second: self.filter_part(),
+                third: self.filter_part(),
+            },
+            "nary" => {
+                let count: usize = fields[2].parse().expect("a number");
+                FunctionTree::Nary {
+                    function: NaryFunctionEnum(fields[1].to_string()),
+                    parameters: (0..count).map(|_| *self.filter_part()).collect(),
+                }
+            }
+            other => panic!("{other} is no filter"),
+        }
+    }
+
+    fn filter_part(&mut self) -> Box<FunctionTree<OperationColumnMarker>> {
+        let line = self.lines.next().expect("a line");
+        Box::new(self.filter(line))
+    }
 }
 
 fn pairs(text: &str) -> impl Iterator<Item = (&str, &str)> {
