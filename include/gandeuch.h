@@ -10,9 +10,10 @@
  *   4  a root isn't project
  *   5  the heads of two queries differ, or their kind can't be merged
  *   6  the answer is longer than `out_size`
+ *   7  a value can't be used
  *
  * Where the number isn't 0, `*size` is 0 and `out` is unchanged. Texts are checked in the order of the parameters (1, 2); then
- * 5, 4, 3, 6 in this order, as far as a call has them.
+ * 5, 4, 3, 7, 6 in this order, as far as a call has them.
  *
  * Every text is allowed. What a caller owes is what C asks of any such call, as nothing in C can test it:
  *
@@ -70,6 +71,19 @@ uint8_t gandeuch_push_constants(const uint8_t *query, size_t query_size,
  * has no such projection. Numbers 1, 2, 6. */
 uint8_t gandeuch_negate(const uint8_t *query, size_t query_size,
                         uint8_t *out, size_t out_size, size_t *size);
+
+/* bindings: the tree with the pattern below its outermost projection joined with the Values of each binding set, at the columns of its line
+ * `at`. It is copied if there is no set or no such projection. Numbers 1, 2, 3, 7, 6; 3 for a position outside the projection, 7 for
+ * a value of the domains Tuple and Map. */
+uint8_t gandeuch_bindings(const uint8_t *tree, size_t tree_size,
+                          const uint8_t *sets, size_t sets_size,
+                          uint8_t *out, size_t out_size, size_t *size);
+
+/* filters: the tree with those filters that can be expressed in SPARQL put below its outermost projection. It is copied if there is none, or no
+ * such projection. Numbers 1, 2, 3, 6; 3 for any reference outside the projection, also in a filter that can't be expressed. */
+uint8_t gandeuch_filters(const uint8_t *tree, size_t tree_size,
+                         const uint8_t *filters, size_t filters_size,
+                         uint8_t *out, size_t out_size, size_t *size);
 
 #ifdef __cplusplus
 }

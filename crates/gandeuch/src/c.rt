@@ -3,12 +3,16 @@ use crate::rename::rename;
 use crate::scope::scope;
 use answers::number;
 use answers::size_of;
+use binding::bindings::bindings;
+use expressing::filters;
 use joining::merge::merge_patterns;
 use joining::merge::merge_queries;
 use joining::push::push_constants;
 use negating::negate;
 ghost use mathlib.Core.Path.{_≡_};
 ghost use Rattle.answers.specs.Outcome.{Reported};
+ghost use Rattle.filtering.specs.Bindings.{bindingsOutcome};
+ghost use Rattle.filtering.specs.Filters.{filtersOutcome};
 ghost use Rattle.gandeuch.specs.Scope.{scopeOutcome};
 ghost use Rattle.gandeuch.specs.Rename.{renameOutcome};
 ghost use Rattle.merging.specs.Merge.{mergePatternsOutcome, mergeQueriesOutcome};
@@ -97,6 +101,36 @@ pub extern "C" fn gandeuch_push_constants(
     ensures { λ r. ⌜ Reported (pushConstantsOutcome (now (query .entry)) (now (constants .entry))) (now (out .entry)) (now (out .exit)) r (now (size .exit)) ⌝ }
 {
     let a = push_constants(query, constants, out);
+    *size = size_of(a);
+    number(a)
+}
+
+// bindings: tree and binding sets to tree.
+#[no_mangle]
+pub extern "C" fn gandeuch_bindings(
+    tree: &[u8],
+    sets: &[u8],
+    out: &mut [u8],
+    size: &mut usize,
+) -> u8
+    ensures { λ r. ⌜ Reported (bindingsOutcome (now (tree .entry)) (now (sets .entry))) (now (out .entry)) (now (out .exit)) r (now (size .exit)) ⌝ }
+{
+    let a = bindings(tree, sets, out);
+    *size = size_of(a);
+    number(a)
+}
+
+// filters: tree and filters to tree.
+#[no_mangle]
+pub extern "C" fn gandeuch_filters(
+    tree: &[u8],
+    filters: &[u8],
+    out: &mut [u8],
+    size: &mut usize,
+) -> u8
+    ensures { λ r. ⌜ Reported (filtersOutcome (now (tree .entry)) (now (filters .entry))) (now (out .entry)) (now (out .exit)) r (now (size .exit)) ⌝ }
+{
+    let a = filters::filters(tree, filters, out);
     *size = size_of(a);
     number(a)
 }
