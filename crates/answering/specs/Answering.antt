@@ -7,8 +7,8 @@ use lib.Dec.{leb, eqb}
 use Rattle.text.specs.Text.{Bytes}
 use Rattle.parted.specs.Parted.{texts}
 use Rattle.answers.specs.Outcome.{Outcome, refused}
-use Rattle.gandeuch.specs.Scope.{scopeOutcome}
-use Rattle.gandeuch.specs.Rename.{renameOutcome}
+use Rattle.renaming.specs.Scope.{scopeOutcome}
+use Rattle.renaming.specs.Rename.{renameOutcome}
 use Rattle.merging.specs.Merge.{mergePatternsOutcome, mergeQueriesOutcome}
 use Rattle.merging.specs.Push.{pushConstantsOutcome}
 use Rattle.merging.specs.Negate.{negateOutcome}
