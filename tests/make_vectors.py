@@ -6,7 +6,8 @@
 writes OUTDIR/cases and OUTDIR/expected, the same bytes each time. First come
 the cases of vectors/, whose answers are those of nemo's Rust, then the inputs
 below, in written_merges.py and written_placings.py, whose answers are written by hand from document
-01 and the recorded readings of its open corners.
+01 and the recorded readings of its open corners, then the calls of
+docs/SPECIFICATION.md. It stops where second_calls.py writes another answer.
 
 vectors/NAME.txt: a head, then the cases; a line ==== follows each of them. A
 case is what the program NAME reads, a line ->, and what it must write. `%` and
@@ -21,6 +22,8 @@ import os
 import sys
 import urllib.parse
 
+import second_calls
+import specification
 import written_merges
 import written_placings
 from written_texts import BAR, LONG, MALFORMED, OVER, padded, refused, text
@@ -84,12 +87,15 @@ def records():
             yield program, "%s-%d" % (program, number), given, answer
     for program, name, given, answer in WRITTEN + written_merges.WRITTEN + written_placings.WRITTEN:
         yield program, "%s-%s" % (program, name), given, answer
+    for program, name, given, answer in specification.calls():
+        yield program, "%s-%s" % (program, name), given, answer
 
 
 def main(outdir):
     os.makedirs(outdir, exist_ok=True)
     with open(os.path.join(outdir, "cases"), "wb") as cases, open(os.path.join(outdir, "expected"), "wb") as expected:
         for program, label, given, answer in records():
+            assert second_calls.answer(program, given) == answer, label
             cases.write(b"%d\t%d\t%s\n" % (PROGRAMS.index(program), len(given), label.encode()))
             cases.write(given + b"\n")
             expected.write(label.encode() + b"\n" + answer)
