@@ -137,24 +137,23 @@ def hold_variants():
     assert len(wanted) > 50 and wanted <= named, wanted - named
 
 
-def headings(name):
-    return {re.sub(r"^[0-9]+\. ", "", title) for title in re.findall(r"(?m)^##+ (.*)$", page(name))}
+def citations():
+    """The titles that files cite behind the page's name, and those that the page itself quotes, with the file."""
+    for folder, folders, files in os.walk(ROOT):
+        folders[:] = [name for name in folders if not name.startswith(".") and name not in ("target", "data")]
+        for path in (os.path.join(folder, name) for name in files):
+            with open(path, encoding="utf-8", errors="replace") as file:
+                for run in re.findall(r'SPECIFICATION\.md((?:,?\s+(?:and\s+)?"[A-Z][^"]*")+)', file.read()):
+                    yield from ((path, title) for title in re.findall('"([^"]*)"', run))
+    for title in re.findall(r'"([A-Z][a-z]+(?: [a-z0-9]+)*)"', re.sub(r"(?s)```.*?```|`[^`]*`", "", page("SPECIFICATION"))):
+        yield "the page", title
 
 
 def hold_citations():
-    """Every section that a file cites as SPECIFICATION.md, "TITLE", or that the page itself quotes, is there."""
-    there, count = headings("SPECIFICATION"), 0
-    for folder, folders, files in os.walk(ROOT):
-        folders[:] = [name for name in folders if not name.startswith(".") and name not in ("target", "data")]
-        for name in files:
-            with open(os.path.join(folder, name), encoding="utf-8", errors="replace") as file:
-                for cited in re.findall(r'SPECIFICATION\.md,\s+"([A-Z][^"]*)"', file.read() if name != "specification.py" else ""):
-                    assert cited in there, "%s cites %s" % (os.path.join(folder, name), cited)
-                    count += 1
-    for cited in re.findall(r'"([A-Z][a-z]+(?: [a-z0-9]+)*)"', re.sub(r"(?s)```.*?```|`[^`]*`", "", page("SPECIFICATION"))):
-        assert cited in there, "the page quotes " + cited
-        count += 1
-    return count
+    there = {re.sub(r"^[0-9]+\. ", "", title) for title in re.findall(r"(?m)^##+ (.*)$", page("SPECIFICATION"))}
+    for path, title in citations():
+        assert title in there, "%s cites %s" % (path, title)
+    return len(list(citations()))
 
 
 def main():
