@@ -3,18 +3,20 @@
 
     python3 -B tests/specification.py
 
-holds every text in them to second_reader.py and every call to second_calls.py,
-and what a call writes to the reader too; that each word of the layout has an
-example, and each row that names a line one with it; that each variant that
-nemo's files name has a row; and that every section that is cited is there.
-make_texts.py and make_vectors.py take the examples from here, so that the
-proved checks and programs are run on them.
+holds every text in them to second_reader.py, every call to second_calls.py and
+what it writes to the reader too, every answer's rows to counting/semantics.py;
+that each word of the layout has an example, and each row that names a line one
+with it; that each variant that nemo's files name has a row; and that every
+section that is cited is there. make_texts.py and make_vectors.py take the
+examples from here, so that the proved checks and programs are run on them.
 
 A fenced block headed `KIND` or `KIND NUMBER` is a text, one headed `call
-PROGRAM` what a program reads, a line ->, and what it writes. In a table a
-column headed so has one example a cell, with a space for a tab and ` / `
+PROGRAM` what a program reads, a line ->, and what it writes, one headed `rows`
+an evaluation as counting/evaluations.py has it. In a table a column headed by
+a kind or a call has one example a cell, with a space for a tab and ` / `
 between lines; the answer of a call stands in the column `->`.
 """
+import collections
 import os
 import re
 import sys
@@ -24,9 +26,14 @@ from second_calls import TEXTS, answer
 from second_reader import KINDS, number
 
 HERE = os.path.dirname(os.path.abspath(__file__))
+sys.path.append(os.path.join(HERE, "counting"))
+
+from layout import tree
+from semantics import evaluate
+
 ROOT = os.path.dirname(HERE)
 PAGES = ["SPECIFICATION", "VARIANTS"]
-HEAD = re.compile("(%s)( [12])?|call (%s)" % ("|".join(KINDS), "|".join(TEXTS)))
+HEAD = re.compile("(%s)( [12])?|call (%s)|rows" % ("|".join(KINDS), "|".join(TEXTS)))
 CODE = re.compile("`([^`]+)`")
 
 
@@ -60,7 +67,7 @@ def examples(name):
     text = page(name)
     for info, body in re.findall(r"(?ms)^```([^\n]+)\n(.*?)^```$", text):
         assert HEAD.fullmatch(info), "%s: a block headed %s" % (name, info)
-        given, _, written = ("\n" + body).partition("\n->\n") if info.startswith("call") else ("\n" + body, "", "")
+        given, _, written = ("\n" + body).partition("\n->\n") if info.startswith("call") or info == "rows" else ("\n" + body, "", "")
         given = given[1:] if given.endswith("\n") or given == "" else given[1:] + "\n"
         yield info, given.encode(), written.encode()
     for head, rows in tables(text):
@@ -75,7 +82,7 @@ def examples(name):
 def texts():
     """The texts of both pages: label, kind, bytes, number."""
     for name in PAGES:
-        found = [(info, given) for info, given, _ in examples(name) if not info.startswith("call")]
+        found = [(info, given) for info, given, _ in examples(name) if info.split()[0] in KINDS]
         for count, (info, given) in enumerate(found, 1):
             kind, _, refused = info.partition(" ")
             yield "%s-%d" % (name.lower(), count), kind, given, int(refused or 0)
@@ -101,6 +108,19 @@ def hold_calls():
         assert found == written, "%s: %r on the page, %r by the second calls" % (label, written, found)
         if program != "scope" and not written.startswith(b"refused"):
             assert number(TEXTS[program][0], written) == 0, "%s: %r" % (label, written)
+
+
+def hold_rows():
+    """Each evaluated tree is well formed, and its rows are those of the counting definitions; returns how many there are."""
+    found = [(given, written.decode()) for name in PAGES for info, given, written in examples(name) if info == "rows"]
+    for given, written in found:
+        pattern, triples = given.split(b"--\n")
+        assert number("tree", pattern) == 0, pattern
+        columns, *rows = (line.split("\t") for line in written.splitlines())
+        store = {tuple(line.split("\t")) for line in triples.decode().splitlines()}
+        counts = collections.Counter(tuple(row.get(name, "-") for name in columns) for row in evaluate(store, tree(pattern.decode())))
+        assert counts == {tuple(cells): int(count) for count, *cells in rows}, "%r: %r" % (given, counts)
+    return len(found)
 
 
 def hold_words():
@@ -159,11 +179,13 @@ def hold_citations():
 def main():
     hold_texts()
     hold_calls()
+    rows = hold_rows()
     hold_words()
     hold_lines()
     hold_variants()
     cited = hold_citations()
-    print("documented examples: %d texts, %d calls; %d citations of sections" % (len(list(texts())), len(list(calls())), cited))
+    counts = len(list(texts())), len(list(calls())), rows, cited
+    print("documented examples: %d texts, %d calls, %d answers with rows; %d citations of sections" % counts)
 
 
 if __name__ == "__main__":
