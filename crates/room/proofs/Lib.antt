@@ -1,0 +1,4 @@
+pub mod Enough
+pub mod Sizes
+pub mod Modified
+pub mod Negate
