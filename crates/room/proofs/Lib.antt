@@ -6,3 +6,4 @@ pub mod Negate
 pub mod Names
 pub mod Spread
 pub mod Scope
+pub mod Grown
