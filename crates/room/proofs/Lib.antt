@@ -7,3 +7,5 @@ pub mod Names
 pub mod Spread
 pub mod Scope
 pub mod Grown
+pub mod Fields
+pub mod Rename
