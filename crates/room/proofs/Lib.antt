@@ -9,3 +9,5 @@ pub mod Scope
 pub mod Grown
 pub mod Fields
 pub mod Rename
+pub mod Added
+pub mod Values
