@@ -11,3 +11,4 @@ pub mod Fields
 pub mod Rename
 pub mod Added
 pub mod Values
+pub mod Bindings
