@@ -12,3 +12,4 @@ pub mod Rename
 pub mod Added
 pub mod Values
 pub mod Bindings
+pub mod Expressed

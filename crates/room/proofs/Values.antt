@@ -38,3 +38,23 @@ cell-short Null l x = omega arith
 cell-short Tuple l x = omega arith
 cell-short Map l x = omega arith
 cell-short Other l x = typed-short l x 5 (omega arith)
+
+-- the same of the term of an expression
+pub term-short : (d : Domain) (l x : Bytes) → suc (length (orNone (expressionTerm d l x))) ≤ width (spellV d ∷ l ∷ x ∷ [])
+unfolding expressionTerm width
+term-short PlainString l x = omega (arith, quoted-length l [])
+term-short LanguageTaggedString l x = omega (arith, quoted-length l (64 ∷ x))
+term-short Iri l x = omega (arith, length-append l (62 ∷ []))
+term-short Float l x = typed-short l x 5 (omega arith)
+term-short Double l x = typed-short l x 6 (omega arith)
+term-short UnsignedLong l x = typed-short l x 12 (omega arith)
+term-short NonNegativeLong l x = typed-short l x 15 (omega arith)
+term-short UnsignedInt l x = typed-short l x 11 (omega arith)
+term-short NonNegativeInt l x = typed-short l x 14 (omega arith)
+term-short Long l x = typed-short l x 4 (omega arith)
+term-short Int l x = typed-short l x 3 (omega arith)
+term-short Boolean l x = typed-short l x 7 (omega arith)
+term-short Null l x = omega arith
+term-short Tuple l x = omega arith
+term-short Map l x = omega arith
+term-short Other l x = omega arith
