@@ -13,3 +13,4 @@ pub mod Added
 pub mod Values
 pub mod Bindings
 pub mod Expressed
+pub mod Filters
