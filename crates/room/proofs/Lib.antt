@@ -14,3 +14,6 @@ pub mod Values
 pub mod Bindings
 pub mod Expressed
 pub mod Filters
+pub mod Generated
+pub mod Constants
+pub mod Side
