@@ -17,3 +17,5 @@ pub mod Filters
 pub mod Generated
 pub mod Constants
 pub mod Side
+pub mod Merge
+pub mod Push
