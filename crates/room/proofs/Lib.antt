@@ -19,3 +19,4 @@ pub mod Constants
 pub mod Side
 pub mod Merge
 pub mod Push
+pub mod Theorem
