@@ -20,3 +20,4 @@ pub mod Side
 pub mod Merge
 pub mod Push
 pub mod Theorem
+pub mod Most

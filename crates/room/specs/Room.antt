@@ -3,6 +3,7 @@ use Prim.Native.Nat.{ℕ, _+_, _*_, _≤_}
 use mathlib.Core.Path.{_≡_}
 use lib.ListN.{length}
 use Rattle.text.specs.Text.{Bytes}
+use Rattle.algebra.specs.Tally.{bounds}
 use Rattle.answers.specs.Outcome.{Outcome, Reported}
 
 -- ---- the bytes to lend
@@ -34,6 +35,10 @@ bindingsRoom tree sets = tree + 65 * sets
 -- filters: `ref 0`, 6 bytes, can become `term` and a column of 129 bytes, under `filter` or `and`
 unfoldable pub filtersRoom : ℕ → ℕ → ℕ
 filtersRoom tree filters = tree + 24 * filters
+
+-- the longest text that isn't refused for its length: room for it is room for every text
+abbrev pub longest : ℕ
+longest = bounds .bytes
 
 -- ---- what they are for
 
