@@ -21,3 +21,4 @@ pub mod Merge
 pub mod Push
 pub mod Theorem
 pub mod Most
+pub mod Worked
