@@ -1,7 +1,6 @@
 -- What bindings needs: its tree and 65 times its sets, as a position with the byte behind it takes 2 bytes at least and a column 130 at most. Assumes nothing.
-use Prim.Native.Nat.{ℕ, suc, _+_, _*_, _≤_}
+use Prim.Native.Nat.{ℕ, _+_, _*_, _≤_}
 use mathlib.Core.Path.{_≡_, ap}
-use mathlib.Core.Bool.{Bool, true}
 use mathlib.Core.List.{List, [], _∷_, map}
 use native.Mathlib.Omega.{arith}
 use lib.ListN.{length}
@@ -10,13 +9,11 @@ use Rattle.text.specs.Field.{decimal, fits, allFit, variable, integer}
 use Rattle.text.proofs.Basics.{and-left, and-right}
 use Rattle.algebra.specs.Tree.{Pattern, join}
 use Rattle.algebra.specs.Query.{Value, BindingSet}
-use Rattle.algebra.specs.Word.{spellV}
-use Rattle.algebra.specs.Layout.{put, putRows, putValues, putValueRows, putSets, layout}
+use Rattle.algebra.specs.Layout.{put, putRows, putValues, putValueRows, putSets}
 use Rattle.algebra.specs.Bounded.{layoutSets}
 use Rattle.algebra.specs.Texts.{readTree, readSets}
 use Rattle.algebra.specs.Valid.{AllFit, Valid, ValidSets}
 use Rattle.algebra.proofs.Theorem.{tree-exactly, sets-exactly}
-use Rattle.answers.specs.Outcome.{written, then, refusedUnless}
 use Rattle.scoping.specs.Premises.{columnsAt}
 use Rattle.merging.specs.Request.{position}
 use Rattle.merging.proofs.Lists.{map-length}

@@ -1,13 +1,13 @@
 -- Columns that carry a constant stand in the Values in place of the projection, and a constant's term once in the row. Assumes nothing.
-use Prim.Native.Nat.{ℕ, zero, suc, _+_, _-_, _*_, _≤_, _<_}
+use Prim.Native.Nat.{ℕ, suc, _+_, _-_, _*_, _≤_, _<_}
 use mathlib.Core.Path.{_≡_, refl, sym, ap, _∙_}
-use mathlib.Core.Bool.{Bool, true, false, cond, not, _&&_, _||_, true≢false}
-use mathlib.Core.List.{List, [], _∷_, map}
+use mathlib.Core.Bool.{Bool, true, false, cond, not, _||_, true≢false}
+use mathlib.Core.List.{List, [], _∷_}
 use native.Mathlib.Omega.{arith}
 use lib.ListN.{length}
 use lib.Dec.{eqb, ltb}
 use borrow.Author.Tests.{eqb-true, eqb-false, ltb-true}
-use Rattle.text.specs.Text.{Bytes, Line}
+use Rattle.text.specs.Text.{Bytes}
 use Rattle.text.proofs.Basics.{and-left, and-right}
 use Rattle.algebra.proofs.Lines.{not-no}
 use Rattle.algebra.specs.Query as Query

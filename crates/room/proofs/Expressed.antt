@@ -9,7 +9,7 @@ use lib.ListN.{length}
 use Rattle.text.specs.Text.{Bytes, Line, same}
 use Rattle.text.specs.Word.{bytes}
 use Rattle.text.specs.Field.{decimal, digits, variable}
-use Rattle.algebra.specs.Tree.{EQ, NOT, Expression, term, apply, call, Expressions, eend, econs, count}
+use Rattle.algebra.specs.Tree.{EQ, NOT, Expression, apply, call, Expressions, eend, econs, count}
 use Rattle.algebra.specs.Query.{Value, FilterWord, UN, BIN, TERN, NARY, Filter, leaf, ref, function, Filters, fend, fcons, fcount}
 use Rattle.algebra.specs.Word.{spellV, filterArity}
 use Rattle.algebra.specs.Layout.{putE, putEs, putArity, putValues, putFilter, putParts}

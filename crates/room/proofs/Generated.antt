@@ -1,13 +1,13 @@
 -- The new name of a variable in a merge takes at most three times its bytes: its number has four digits at most. Assumes nothing.
 use Prim.Native.Nat.{ℕ, suc, _+_, _*_, _≤_, _<_}
-use mathlib.Core.Path.{_≡_, refl, ap, _∙_}
+use mathlib.Core.Path.{_≡_, refl, ap}
 use mathlib.Core.Bool.{Bool, true, false, cond}
 use mathlib.Core.List.{List, [], _∷_, _++_}
 use mathlib.Core.Option.{some}
 use native.Mathlib.Omega.{arith}
 use lib.ListN.{length, length-append}
 use Rattle.text.specs.Text.{Bytes, same}
-use Rattle.text.specs.Field.{decimal, isVar}
+use Rattle.text.specs.Field.{isVar}
 use Rattle.text.proofs.Basics.{same-eq}
 use Rattle.algebra.specs.Tree.{Pattern, project}
 use Rattle.scoping.specs.Label.{label, base, generated, prefixJ}

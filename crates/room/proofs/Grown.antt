@@ -7,11 +7,10 @@ use native.Mathlib.Nat.{mul-add}
 use native.Mathlib.Omega.{arith}
 use lib.ListN.{length}
 use Rattle.text.specs.Text.{Bytes, Line}
-use Rattle.text.specs.Word.{bytes}
 use Rattle.text.specs.Field.{decimal, clean, isVar, isKind, fits, allFit, variable}
 use Rattle.text.proofs.Basics.{and-left, and-right}
 use Rattle.algebra.specs.Tree.{Triple, Op, Pattern, bgp, path, join, union, minus, leftjoin, filter, graph, extend, values, orderby, project, distinct, reduced, slice, group, service}
-use Rattle.algebra.specs.Tree.{Expression, term, bound, exists, apply, call, Condition, always, provided, Expressions, eend, econs, Orders, oend, ocons, Aggregates, aend, agg, aggall, count, ocount, acount}
+use Rattle.algebra.specs.Tree.{Expression, term, bound, exists, apply, call, Condition, always, provided, Expressions, eend, econs, Orders, oend, ocons, Aggregates, aend, agg, aggall}
 use Rattle.algebra.specs.Word.{arity}
 use Rattle.algebra.specs.Layout.{putTriples, putRows, putArity, putFlag, put, putE, putC, putEs, putOs, putAs}
 use Rattle.algebra.specs.Valid.{Fits, AllFit, Valid, ValidE, ValidC, ValidEs, ValidOs, ValidAs}

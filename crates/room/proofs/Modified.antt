@@ -1,6 +1,6 @@
 -- A pattern below the outermost projection that grows by so many bytes makes the tree grow by no more. Assumes nothing.
 use Prim.Native.Nat.{ℕ, _+_, _≤_}
-use mathlib.Core.List.{List, []}
+use mathlib.Core.List.{List}
 use native.Mathlib.Omega.{arith}
 use Rattle.text.specs.Text.{Bytes, Line}
 use Rattle.text.specs.Field.{variable}

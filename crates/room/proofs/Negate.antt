@@ -1,6 +1,6 @@
 -- What negate needs: four lines more than its query. Assumes nothing.
-use Prim.Native.Nat.{ℕ, _+_, _≤_}
-use mathlib.Core.Path.{_≡_, ap}
+use Prim.Native.Nat.{_+_, _≤_}
+use mathlib.Core.Path.{ap}
 use mathlib.Core.Bool.{Bool, true, false, cond}
 use mathlib.Core.List.{[]}
 use native.Mathlib.Omega.{arith}
@@ -9,7 +9,6 @@ use Rattle.text.specs.Text.{Bytes}
 use Rattle.text.specs.Field.{decimal, digits}
 use Rattle.algebra.specs.Tree.{NOT, Pattern, bgp, filter, exists, apply, eend, econs}
 use Rattle.algebra.specs.Query.{Query}
-use Rattle.algebra.specs.Reader.{reads}
 use Rattle.algebra.specs.Layout.{put, putTriples, putArity}
 use Rattle.algebra.specs.Bounded.{layoutQuery}
 use Rattle.algebra.specs.Texts.{readQuery}

@@ -1,6 +1,6 @@
 -- What push constants needs: three times its query, and the constants. Assumes nothing.
-use Prim.Native.Nat.{ℕ, _+_, _*_, _≤_}
-use mathlib.Core.Path.{_≡_, refl, ap, subst}
+use Prim.Native.Nat.{_+_, _*_, _≤_}
+use mathlib.Core.Path.{_≡_, refl, ap}
 use mathlib.Core.Bool.{Bool, true, false, cond}
 use mathlib.Core.List.{List, []}
 use mathlib.Core.Option.{Option, none, some}
@@ -13,11 +13,9 @@ use Rattle.algebra.specs.Layout.{put}
 use Rattle.algebra.specs.Reader.{reads}
 use Rattle.algebra.specs.Bounded.{layoutQuery}
 use Rattle.algebra.specs.Texts.{readQuery}
-use Rattle.algebra.specs.Valid.{Valid}
 use Rattle.algebra.proofs.Theorem.{query-exactly}
 use Rattle.answers.specs.Outcome.{written}
 use Rattle.scoping.specs.Label.{prefixV}
-use Rattle.scoping.specs.Numbering.{byPlace}
 use Rattle.scoping.specs.Premises.{inside}
 use Rattle.merging.specs.Sides.{Constant}
 use Rattle.merging.specs.Request.{Projection, tree, asProject, readConstants, positions}

@@ -1,13 +1,12 @@
 -- What rename needs: 44 times its tree, as a variable with the byte behind it takes 3 bytes at least and 130 at most. Assumes nothing.
-use Prim.Native.Nat.{ℕ, suc, _+_, _*_, _≤_}
-use mathlib.Core.Path.{_≡_, ap}
+use Prim.Native.Nat.{_*_, _≤_}
+use mathlib.Core.Path.{ap}
 use mathlib.Core.Bool.{Bool, true, false, cond}
 use mathlib.Core.Option.{some}
 use mathlib.Core.List.{List, [], _∷_, map}
 use native.Mathlib.Omega.{arith}
 use lib.ListN.{length}
 use Rattle.text.specs.Text.{Bytes, same}
-use Rattle.text.specs.Field.{isVar}
 use Rattle.algebra.specs.Tree.{Pattern}
 use Rattle.algebra.specs.Query.{Pair, mapping}
 use Rattle.algebra.specs.Layout.{put, layout}

@@ -1,12 +1,12 @@
 -- One side of a merge or push: its free columns and its renamed pattern take at most three times the tree's bytes and the constants'. Assumes nothing.
-use Prim.Native.Nat.{ℕ, suc, _+_, _*_, _≤_}
+use Prim.Native.Nat.{ℕ, _+_, _*_, _≤_}
 use mathlib.Core.Path.{_≡_, ap, _∙_}
 use mathlib.Core.Bool.{true}
 use mathlib.Core.List.{List, [], _∷_, map}
 use native.Mathlib.Omega.{arith}
 use lib.ListN.{length}
 use lib.Dec.{ltb}
-use Rattle.text.specs.Text.{Bytes, Line}
+use Rattle.text.specs.Text.{Bytes}
 use Rattle.text.specs.Field.{decimal, digits}
 use Rattle.algebra.specs.Tree.{Pattern, values}
 use Rattle.algebra.specs.Layout.{put, putRows}
@@ -16,9 +16,9 @@ use Rattle.scoping.specs.Sets.{all}
 use Rattle.scoping.specs.Numbering.{byPlace}
 use Rattle.scoping.specs.Premises.{sideName, inside}
 use Rattle.scoping.specs.Rename.{renameInGraphPattern}
-use Rattle.merging.specs.Sides.{Constant, Side, constantColumns, constantTerms, columnAt, bindConstants, withoutConstants, renamedColumns, renamedPattern, freeColumns, standardized}
+use Rattle.merging.specs.Sides.{Constant, Side, constantColumns, constantTerms, columnAt, bindConstants, renamedPattern, freeColumns, standardized}
 use Rattle.merging.specs.Request.{Projection, tree, positions, readConstants}
-use Rattle.merging.proofs.Lists.{Good, constants-good, map-length}
+use Rattle.merging.proofs.Lists.{constants-good, map-length}
 use Rattle.room.proofs.Sizes.{width, size}
 use Rattle.room.proofs.Digits.{two-digits}
 use Rattle.room.proofs.Added.{put-same}

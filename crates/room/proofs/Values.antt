@@ -1,16 +1,14 @@
 -- The term that a value becomes takes no more bytes than the value's three fields. Assumes nothing.
 use Prim.Native.Nat.{ℕ, suc, _+_, _≤_}
 use mathlib.Core.Path.{_≡_}
-use mathlib.Core.List.{List, [], _∷_, _++_, map}
-use mathlib.Core.Option.{Option, none, some}
+use mathlib.Core.List.{[], _∷_, _++_}
 use native.Mathlib.Omega.{arith}
 use lib.ListN.{length, length-append}
 use Rattle.text.specs.Text.{Bytes}
-use Rattle.algebra.specs.Query.{Domain, PlainString, LanguageTaggedString, Iri, Float, Double, UnsignedLong, NonNegativeLong, UnsignedInt, NonNegativeInt, Long, Int, Boolean, Null, Tuple, Map, Other, Value}
+use Rattle.algebra.specs.Query.{Domain, PlainString, LanguageTaggedString, Iri, Float, Double, UnsignedLong, NonNegativeLong, UnsignedInt, NonNegativeInt, Long, Int, Boolean, Null, Tuple, Map, Other}
 use Rattle.algebra.specs.Word.{spellV}
-use Rattle.algebra.specs.Layout.{putValues}
-use Rattle.filtering.specs.Values.{simple, tagged, typed, named, groundTerm, expressionTerm}
-use Rattle.filtering.specs.Bindings.{orNone, cellOf}
+use Rattle.filtering.specs.Values.{typed, groundTerm, expressionTerm}
+use Rattle.filtering.specs.Bindings.{orNone}
 use Rattle.room.proofs.Sizes.{width}
 
 quoted-length : (l after : Bytes) → length (34 ∷ (l ++ (34 ∷ after))) ≡ length l + length after + 2
