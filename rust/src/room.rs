@@ -1,0 +1,38 @@
+//! How many bytes a call's answer has at most, by the lengths of its texts. A text over the bound has no answer, so it counts
+//! as one at the bound, and no more is asked for than an answer can need.
+
+/// No longer text is accepted.
+const TEXT: usize = 16_384;
+
+fn length(text: &[u8]) -> usize {
+    text.len().min(TEXT)
+}
+
+pub fn scope(tree: &[u8]) -> usize {
+    2 * length(tree) + 7
+}
+
+pub fn rename(tree: &[u8]) -> usize {
+    44 * length(tree)
+}
+
+/// For trees and for queries.
+pub fn merge(left: &[u8], right: &[u8], left_constants: &[u8], right_constants: &[u8]) -> usize {
+    4 * (length(left) + length(right)) + length(left_constants) + length(right_constants) + 512
+}
+
+pub fn push_constants(query: &[u8], constants: &[u8]) -> usize {
+    4 * length(query) + length(constants) + 512
+}
+
+pub fn negate(query: &[u8]) -> usize {
+    length(query) + 24
+}
+
+pub fn bindings(tree: &[u8], sets: &[u8]) -> usize {
+    length(tree) + 66 * length(sets)
+}
+
+pub fn filters(tree: &[u8], filters: &[u8]) -> usize {
+    length(tree) + 23 * length(filters)
+}
