@@ -54,7 +54,8 @@
 //! **What is proved** is the library: number, length and every byte of each answer, for every text. **What is not** is this
 //! crate: the declarations of the calls, the buffers that it lends them, and the module `layout`.
 //!
-//! A call needs well under 256 KiB of stack and no heap of its own. Calls keep nothing, so threads may call at the same time.
+//! A call needs 256 KiB of stack, with room to spare, and no heap but for its answer. Where less stack is left the program ends, as
+//! with any overflow of the stack. Calls keep nothing, so threads may call at the same time.
 
 mod ffi;
 #[cfg(feature = "spargebra")]
@@ -64,6 +65,9 @@ mod room;
 #[cfg(test)]
 mod tests;
 
+use std::hint;
+use std::mem::MaybeUninit;
+
 pub use refusal::Refusal;
 
 /// What a call answers to its texts, in a buffer with room for it.
@@ -71,13 +75,14 @@ macro_rules! answer {
     ($call:ident, $room:expr, $($text:ident),+) => {{
         $(let $text: &[u8] = $text;)+
         answered($room, |out: &mut [u8], size: &mut usize| {
-            // SAFETY: gandeuch.h asks for four things.
+            // SAFETY: gandeuch.h asks for five things.
             // "no pointer is null, also where the number of bytes beside it is 0": pointers of slices never are.
             // "each pointer is good for as many bytes as the number beside it says, at most PTRDIFF_MAX, and a text's bytes
             // have values": each pointer goes with its own slice's length, and a slice promises just this.
             // "`out` overlaps no text, and `size` lies in none of them, nor in `out`": both are lent exclusively.
             // "nothing else writes the texts, or reads or writes `out` and `size`, before the call returns": the texts
             // are lent until then, the other two exclusively.
+            // "GANDEUCH_STACK bytes of stack are left": `answered` has touched more than that before it comes here.
             unsafe {
                 ffi::$call($($text.as_ptr(), $text.len(),)+ out.as_mut_ptr(), out.len(), size)
             }
@@ -163,7 +168,7 @@ pub fn merge_queries(
 pub fn push_constants(query: &[u8], constants: &[u8]) -> Result<Vec<u8>, Refusal> {
     answer!(
         gandeuch_push_constants,
-        room::push_constants(query, constants),
+        room::push(query, constants),
         query,
         constants
     )
@@ -171,17 +176,47 @@ pub fn push_constants(query: &[u8], constants: &[u8]) -> Result<Vec<u8>, Refusal
 
 /// The query with the pattern below its outermost projection asked not to exist. It is copied if it is a construct or describe or
 /// has no such projection.
+///
+/// ```
+/// let negated = gandeuch::negate(b"query\task\t-\t-\nproject\t?r\nbgp\t1\nt\t?r\t<in>\t?bay\n")?;
+/// assert_eq!(
+///     negated,
+///     b"query\task\t-\t-\nproject\t?r\nfilter\nbgp\t0\nnot\nexists\nbgp\t1\nt\t?r\t<in>\t?bay\n"
+/// );
+/// # Ok::<(), gandeuch::Refusal>(())
+/// ```
 pub fn negate(query: &[u8]) -> Result<Vec<u8>, Refusal> {
     answer!(gandeuch_negate, room::negate(query), query)
 }
 
-/// The tree with binding sets joined below its outermost projection. It is copied if it has no such projection or there is no set.
+/// The tree with the pattern below its outermost projection joined with the Values of each binding set, at the columns of its line
+/// `at`. It is copied if there is no set or no such projection. A tuple or a map is [`NotUsable`](Refusal::NotUsable).
+///
+/// ```
+/// let tree = b"project\t?event\t?relay\nbgp\t1\nt\t?event\t<by>\t?relay\n";
+/// let bound = gandeuch::bindings(tree, b"set\t1\t2\nat\t1\nrow\tIri\tr7\t-\nrow\tIri\tr8\t-\n")?;
+/// assert_eq!(
+///     bound,
+///     b"project\t?event\t?relay\njoin\nbgp\t1\nt\t?event\t<by>\t?relay\nvalues\t1\t2\ncols\t?relay\nrow\t<r7>\nrow\t<r8>\n"
+/// );
+/// # Ok::<(), gandeuch::Refusal>(())
+/// ```
 pub fn bindings(tree: &[u8], sets: &[u8]) -> Result<Vec<u8>, Refusal> {
     answer!(gandeuch_bindings, room::bindings(tree, sets), tree, sets)
 }
 
-/// The tree with filters below its outermost projection. It is copied if it has no such projection. A filter that can't be
-/// expressed in full is left out, and so is one that is always true.
+/// The tree with those filters that can be expressed in SPARQL put below its outermost projection. It is copied if there is none,
+/// or no such projection. A filter that can't be expressed, or that is always true, is left out without a word.
+///
+/// ```
+/// let tree = b"project\t?event\t?relay\nbgp\t1\nt\t?event\t<by>\t?relay\n";
+/// let filtered = gandeuch::filters(tree, b"bin\tUnequals\nref\t1\nleaf\tIri\tr7\t-\n")?;
+/// assert_eq!(
+///     filtered,
+///     b"project\t?event\t?relay\nfilter\nbgp\t1\nt\t?event\t<by>\t?relay\nnot\neq\nterm\t?relay\nterm\t<r7>\n"
+/// );
+/// # Ok::<(), gandeuch::Refusal>(())
+/// ```
 pub fn filters(tree: &[u8], filters: &[u8]) -> Result<Vec<u8>, Refusal> {
     answer!(
         gandeuch_filters,
@@ -194,8 +229,19 @@ pub fn filters(tree: &[u8], filters: &[u8]) -> Result<Vec<u8>, Refusal> {
 /// More than any answer has.
 const MOST: usize = 1 << 24;
 
-/// The answer of a call that is lent a buffer of `room` bytes, and a larger one if it says that this was too short.
+/// What gandeuch.h asks for, and a page for the frames between here and the call.
+const STACK: usize = 262_144 + 4_096;
+
+/// Touches each page of the stack that a call needs, as Rust does for a frame of that size. The library doesn't look for the
+/// stack's end; Rust does, and where there isn't enough the program ends here.
+#[inline(never)]
+fn touch_stack() {
+    hint::black_box(MaybeUninit::<[u8; STACK]>::uninit().as_mut_ptr());
+}
+
+/// The answer of a call that is lent a buffer of `room` bytes. These suffice; should a call say that they don't, it is lent more.
 fn answered(room: usize, call: impl Fn(&mut [u8], &mut usize) -> u8) -> Result<Vec<u8>, Refusal> {
+    touch_stack();
     let mut room = room;
     loop {
         let mut out = vec![0; room];

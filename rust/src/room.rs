@@ -1,5 +1,5 @@
-//! How many bytes a call's answer has at most, by the lengths of its texts. A text over the bound has no answer, so it counts
-//! as one at the bound, and no more is asked for than an answer can need.
+//! How many bytes a call's answer has at most, by the lengths of its texts: the `GANDEUCH_…_ROOM` of gandeuch.h. A text over the
+//! bound has no answer, so it counts as one at the bound, and no more is asked for than an answer can need.
 
 /// No longer text is accepted.
 const TEXT: usize = 16_384;
@@ -9,7 +9,7 @@ fn length(text: &[u8]) -> usize {
 }
 
 pub fn scope(tree: &[u8]) -> usize {
-    2 * length(tree) + 7
+    length(tree) + 1
 }
 
 pub fn rename(tree: &[u8]) -> usize {
@@ -18,11 +18,11 @@ pub fn rename(tree: &[u8]) -> usize {
 
 /// For trees and for queries.
 pub fn merge(left: &[u8], right: &[u8], left_constants: &[u8], right_constants: &[u8]) -> usize {
-    4 * (length(left) + length(right)) + length(left_constants) + length(right_constants) + 512
+    3 * (length(left) + length(right)) + length(left_constants) + length(right_constants)
 }
 
-pub fn push_constants(query: &[u8], constants: &[u8]) -> usize {
-    4 * length(query) + length(constants) + 512
+pub fn push(query: &[u8], constants: &[u8]) -> usize {
+    3 * length(query) + length(constants)
 }
 
 pub fn negate(query: &[u8]) -> usize {
@@ -30,9 +30,9 @@ pub fn negate(query: &[u8]) -> usize {
 }
 
 pub fn bindings(tree: &[u8], sets: &[u8]) -> usize {
-    length(tree) + 66 * length(sets)
+    length(tree) + 65 * length(sets)
 }
 
 pub fn filters(tree: &[u8], filters: &[u8]) -> usize {
-    length(tree) + 23 * length(filters)
+    length(tree) + 24 * length(filters)
 }

@@ -1,4 +1,4 @@
-//! Room for answers.
+//! Room for answers; the declarations.
 
 use crate::{MOST, Refusal, answered, room};
 
@@ -54,7 +54,7 @@ fn recorded_answers_have_room() {
                 ("merge" | "merge_queries", [left, right, _, lefts, rights]) => {
                     room::merge(left, right, lefts, rights)
                 }
-                ("push", [query, constants]) => room::push_constants(query, constants),
+                ("push", [query, constants]) => room::push(query, constants),
                 ("negate", [query]) => room::negate(query),
                 ("bindings", [tree, sets]) => room::bindings(tree, sets),
                 ("filters", [tree, filters]) => room::filters(tree, filters),
@@ -66,5 +66,67 @@ fn recorded_answers_have_room() {
                 case.answer.len()
             );
         }
+    }
+}
+
+const HEADER: &str = include_str!("../../include/gandeuch.h");
+const DECLARED: &str = include_str!("ffi.rs");
+
+/// The functions of a text, each with its parameters, by a function that gives a parameter as it stands in Rust.
+fn functions(text: &str, parameter: fn(&str) -> String) -> Vec<(&str, Vec<String>)> {
+    let functions = text.split("gandeuch_").skip(1);
+    functions
+        .filter_map(|function| {
+            let (name, rest) = function.split_once('(')?;
+            let parameters = rest.split_once(')')?.0.split(',').map(str::trim);
+            let parameters = parameters.filter(|text| !text.is_empty());
+            Some((name, parameters.map(parameter).collect()))
+        })
+        .collect()
+}
+
+/// A parameter of C in Rust.
+fn from_c(parameter: &str) -> String {
+    let kinds = [
+        ("const uint8_t *", "*const u8"),
+        ("uint8_t *", "*mut u8"),
+        ("size_t *", "*mut usize"),
+        ("size_t ", "usize"),
+    ];
+    let known = kinds.iter().find_map(|(c, rust)| {
+        let name = parameter.strip_prefix(c)?;
+        Some(format!("{name}: {rust}"))
+    });
+    known.unwrap_or_else(|| panic!("{parameter} is no parameter of C"))
+}
+
+#[test]
+fn declarations_are_those_of_the_header() {
+    let code = HEADER.split_once("extern \"C\" {").expect("declarations").1;
+    let in_header = functions(code, from_c);
+    assert_eq!(in_header.len(), 8);
+    assert_eq!(code.matches("uint8_t gandeuch_").count(), 8);
+    assert_eq!(DECLARED.matches(") -> u8;").count(), 8);
+    assert_eq!(functions(DECLARED, str::to_string), in_header);
+}
+
+#[test]
+fn rooms_are_those_of_the_header() {
+    let header = HEADER.replace("(size_t)", "").replace("\\\n", "");
+    let rooms = [
+        "SCOPE_ROOM(tree_size) ((tree_size) + 1)",
+        "RENAME_ROOM(tree_size) (44 * (tree_size))",
+        "MERGE_ROOM(left_size, right_size, left_constants_size, right_constants_size)     (3 * ((left_size) + (right_size)) + \
+         (left_constants_size) + (right_constants_size))",
+        "PUSH_ROOM(query_size, constants_size) (3 * (query_size) + (constants_size))",
+        "NEGATE_ROOM(query_size) ((query_size) + 24)",
+        "BINDINGS_ROOM(tree_size, sets_size) ((tree_size) + 65 * (sets_size))",
+        "FILTERS_ROOM(tree_size, filters_size) ((tree_size) + 24 * (filters_size))",
+        "STACK (262144)",
+        "TEXT (16384)",
+    ];
+    for room in rooms {
+        let line = format!("#define GANDEUCH_{room}\n");
+        assert!(header.contains(&line), "{line}");
     }
 }

@@ -103,7 +103,7 @@ fn longest_tree() -> Vec<u8> {
     format!("project{columns}\nbgp\t{count}\n{triples}").into_bytes()
 }
 
-/// The longest answers, each in a thread with the stack that the documentation names.
+/// The longest answers, each in a thread with little more than the stack that a call needs.
 #[test]
 fn longest_answers() {
     let tree = longest_tree();
@@ -112,7 +112,7 @@ fn longest_answers() {
     let mapping: String = (0..64).map(|name| new(char::from(b'0' + name))).collect();
     let query = [b"query\tselect\t-\t-\n".as_slice(), &tree].concat();
     let small = |call: Box<dyn FnOnce() -> Result<Vec<u8>, Refusal> + Send>| {
-        let thread = std::thread::Builder::new().stack_size(256 * 1024);
+        let thread = std::thread::Builder::new().stack_size(320 * 1024);
         thread
             .spawn(call)
             .expect("a thread")
@@ -142,4 +142,26 @@ fn longest_answers() {
         scope.map(|scope| scope.len()),
         Ok("in\nhid\n".len() + 2 * 64 * 3)
     );
+}
+
+/// Where a call's stack isn't left, the program ends as with any overflow of Rust's own.
+#[test]
+fn little_stack_is_an_overflow() {
+    const TEST: &str = "little_stack_is_an_overflow";
+    if std::env::var_os(TEST).is_some() {
+        let thread = std::thread::Builder::new().stack_size(128 * 1024);
+        let _ = thread
+            .spawn(|| gandeuch::scope(TREE))
+            .map(|call| call.join());
+        return;
+    }
+    let program = std::env::current_exe().expect("this program");
+    let child = std::process::Command::new(program)
+        .args(["--exact", TEST, "--nocapture"])
+        .env(TEST, "")
+        .output()
+        .expect("a child");
+    assert!(!child.status.success());
+    let said = String::from_utf8_lossy(&child.stderr);
+    assert!(said.contains("overflowed its stack"), "{said}");
 }

@@ -281,6 +281,17 @@ fn depth_is_bounded() {
     );
 }
 
+/// A filter below 63 patterns, 64 parts in one `and`, the first with 63 times `Unequals`.
+#[test]
+fn the_deepest_answer_is_read() {
+    let tree = [text("distinct").repeat(62), text("project|?a/bgp|0")].concat();
+    let first = [text("bin|Unequals").repeat(63), text("ref|0").repeat(64)].concat();
+    let filters = [first, text("ref|0").repeat(63)].concat();
+    let answer = gandeuch::filters(&tree, &filters).expect("an answer");
+    let read = layout::read_pattern(&answer).expect("a tree");
+    assert_eq!(layout::write_pattern(&read), Ok(answer));
+}
+
 fn named(variable: &str, node: &str) -> GraphPattern {
     GraphPattern::Bgp {
         patterns: vec![TriplePattern {
@@ -347,7 +358,7 @@ fn trees_are_merged() {
     else {
         panic!("no project");
     };
-    assert!(variables.is_empty());
+    assert_eq!(variables, [Variable::new_unchecked("j0")]);
     let GraphPattern::Join { left, right } = *inner else {
         panic!("no join");
     };
