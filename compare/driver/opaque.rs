@@ -65,6 +65,10 @@ impl<'t> ReadLeaves<'t> for Opaque<'t> {
             named: None,
         })
     }
+
+    fn base(field: &str) -> Option<&str> {
+        Some(field)
+    }
 }
 
 impl WriteLeaves for Opaque<'_> {
@@ -114,5 +118,9 @@ impl WriteLeaves for Opaque<'_> {
             [text] => Self::name(out, text.as_str()),
             _ => Err(WriteError::Unsupported),
         }
+    }
+
+    fn base(out: &mut String, iri: &str) -> Result<(), WriteError> {
+        Self::name(out, iri)
     }
 }

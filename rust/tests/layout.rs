@@ -50,8 +50,15 @@ fn every_word_comes_back() {
 #[test]
 fn heads_come_back() {
     for kind in ["select", "ask", "construct", "describe"] {
-        for dataset in ["-", "default", "default named", "default <a> <b> named <c>"] {
-            let text = text(&format!("query|{kind}|{dataset}|http:base/bgp|0"));
+        for dataset in [
+            "-",
+            "FROM <a>",
+            "FROM NAMED <c>",
+            "FROM NAMED *",
+            "FROM <a> FROM <b> FROM NAMED *",
+            "FROM <a> FROM <b> FROM NAMED <c> FROM NAMED <d>",
+        ] {
+            let text = text(&format!("query|{kind}|{dataset}|<http:base>/bgp|0"));
             let query = layout::read_query(&text).expect(kind);
             assert_eq!(layout::write_query(&query), Ok(text));
         }
@@ -61,7 +68,7 @@ fn heads_come_back() {
         named: Some(vec![iri("b")]),
     };
     let Ok(Query::Ask { dataset: read, .. }) =
-        layout::read_query(&text("query|ask|default <a> named <b>|-/bgp|0"))
+        layout::read_query(&text("query|ask|FROM <a> FROM NAMED <b>|-/bgp|0"))
     else {
         panic!("no ask");
     };
@@ -155,7 +162,7 @@ fn functions_and_aggregates_come_back() {
         "MAX",
         "SAMPLE",
         "GROUP_CONCAT",
-        "GROUP_CONCAT \", \"",
+        "GROUP_CONCAT;SEPARATOR=\", \"",
         "<f>",
     ] {
         let text = text(&format!("group|0|1/cols/bgp|0/agg|?n|{name}|0/term|?a"));
@@ -165,7 +172,7 @@ fn functions_and_aggregates_come_back() {
     let separated = AggregateFunction::GroupConcat {
         separator: Some("\t".to_string()),
     };
-    let text = text("group|0|1/cols/bgp|0/agg|?n|GROUP_CONCAT \"\\t\"|0/term|?a");
+    let text = text("group|0|1/cols/bgp|0/agg|?n|GROUP_CONCAT;SEPARATOR=\"\\t\"|0/term|?a");
     let Ok(GraphPattern::Group { aggregates, .. }) = layout::read_pattern(&text) else {
         panic!("no group");
     };
@@ -175,41 +182,64 @@ fn functions_and_aggregates_come_back() {
     ));
 }
 
+fn path(path: &str) -> Result<GraphPattern, ReadError> {
+    layout::read_pattern(format!("path\t?a\t{path}\t?b\n").as_bytes())
+}
+
 #[test]
 fn paths_come_back() {
     let good = [
         "<p>",
-        "^(<p>)",
-        "(<p> \\ <q>)",
-        "(<p> ! (<q>)*)",
-        "((<p>)+ \\ ^((<q>)?))",
+        "^<p>",
+        "<p>*",
+        "^<p>+",
+        "(^<p>)?",
+        "(<p>*)*",
+        "^(^<p>)",
+        "<p>/<q>",
+        "<p>/<q>/<r>",
+        "<p>/(<q>/<r>)",
+        "<p>/(<q>|<r>)",
+        "<p>|^<q>/<r>",
+        "<p>|(<q>|<r>)",
+        "(<p>*/!(<q>|<r>))*",
         "!()",
         "!(<p>)",
-        "!(<p> ! <q>)",
     ];
-    for path in good {
-        let path = path.replace('\\', "/").replace(" ! ", " | ");
-        let text = format!("path\t?a\t{path}\t?b\n").into_bytes();
-        let tree = layout::read_pattern(&text).expect(&path);
-        assert_eq!(layout::write_pattern(&tree), Ok(text), "{path}");
+    for spelled in good {
+        let text = format!("path\t?a\t{spelled}\t?b\n").into_bytes();
+        let tree = path(spelled).expect(spelled);
+        assert_eq!(layout::write_pattern(&tree), Ok(text), "{spelled}");
+    }
+}
+
+#[test]
+fn paths_are_read_as_in_sparql() {
+    let same = [
+        ("( <p> / <q> )", "<p>/<q>"),
+        ("(<p>/<q>)/<r>", "<p>/<q>/<r>"),
+        ("<p>|<q>/<r>", "<p>|(<q>/<r>)"),
+        ("<p>/<q>|<r>", "(<p>/<q>)|<r>"),
+        ("^<p>*", "^(<p>*)"),
+        ("<p>/^<q>", "<p>/(^<q>)"),
+        ("!<p>", "!(<p>)"),
+        ("((<p>))", "<p>"),
+    ];
+    for (spelled, written) in same {
+        assert_eq!(path(spelled), path(written), "{spelled}");
+        assert!(path(spelled).is_ok(), "{spelled}");
     }
     let bad = [
-        "?p",
-        "p",
-        "<p",
-        "(<p>)",
-        "(<p> / <q>",
-        "^<p>",
-        "(<p>/<q>)",
-        "<p> ",
-        "!(<p> | )",
-        "!<p>",
-        "(<p>)x",
+        "?p", "p", "a", "<p", "(<p>", "(<p>/<q>", "<p>/", "^^<p>", "<p>**", "!(<p>|)", "<p><q>",
+        "<p>x", "!(^<p>)",
     ];
-    for path in bad {
-        let text = format!("path\t?a\t{path}\t?b\n");
-        let read = layout::read_pattern(text.as_bytes());
-        assert_eq!(read, Err(ReadError::Term { line: 1 }), "{path}");
+    for spelled in bad {
+        assert_eq!(path(spelled), Err(ReadError::Term { line: 1 }), "{spelled}");
+    }
+    for long in ["/<p>", "|<p>", "|!<p>"] {
+        assert!(path(&format!("<p>{}", long.repeat(200))).is_ok());
+        let longer = path(&format!("<p>{}", long.repeat(200_000)));
+        assert_eq!(longer, Err(ReadError::Term { line: 1 }), "{long}");
     }
 }
 
@@ -251,7 +281,7 @@ fn what_is_no_tree_says_why() {
     );
     let kind = layout::read_query(&text("query|delete|-|-/bgp|0"));
     assert_eq!(kind, Err(ReadError::Field { line: 1 }));
-    let dataset = layout::read_query(&text("query|ask|default<a>|-/bgp|0"));
+    let dataset = layout::read_query(&text("query|ask|FROM<a>|-/bgp|0"));
     assert_eq!(dataset, Err(ReadError::Term { line: 1 }));
 }
 

@@ -36,15 +36,16 @@
 //! (`compare/stand-ins` of the repository), which have the shape of their types and do no checks. Nothing here is proved; what
 //! is proved is what the calls do with the texts.
 //!
-//! What is written can be read back, and one tree has one text:
+//! What is written can be read back, and one tree has one text, so that two heads are the same for the calls exactly if they are for
+//! spargebra. The lines of all variants stand in the repository's `docs/VARIANTS.md`. What the layout leaves open is written so:
 //! - a literal in N-Triples form, escaped where it must be;
-//! - a property path and the names of functions and aggregates as in SPARQL, a separator as `GROUP_CONCAT ","`;
-//! - a dataset as `default <g> named <h>`, without `named` where spargebra has none, so that the calls take two heads for the
-//!   same exactly if spargebra does.
+//! - a property path as in SPARQL, as `^<p>/<q>*`; the names of functions and aggregates too, a separator as
+//!   `GROUP_CONCAT;SEPARATOR=","`;
+//! - a dataset as SPARQL's clauses `FROM <g> FROM NAMED <h>`, with `FROM NAMED *` where spargebra has no list; a base as `<iri>`.
 //!
 //! Reading takes IRIs, blank nodes and the names of variables as they are, unchecked: they come from trees that were written
-//! before. A text of another origin may spell a literal in another way (`"\u0041"`, or `"a"` with the datatype xsd:string); it
-//! is read as the literal that it stands for, and written anew in the one form above.
+//! before. A text of another origin may spell a literal or a path in another way (`"\u0041"`, `"a"` with the datatype xsd:string,
+//! `<p> / <q>`); it is read as what it stands for, and written anew in the one form above.
 //!
 //! Bounds are left to the calls: a tree that is too large is written, and refused there. Reading stops at depth 256, which no
 //! answer passes; it takes 1.1 MiB of stack then without optimisation, 0.4 MiB with it. A tree's depth is the caller's: writing

@@ -70,7 +70,7 @@ static AGGREGATES: [(AggregateFunction, &str); 7] = [
 ];
 
 /// What stands before a separator between quotes.
-const SEPARATED: &str = "GROUP_CONCAT ";
+const SEPARATED: &str = "GROUP_CONCAT;SEPARATOR=";
 
 /// An IRI in brackets, in a text that goes on behind it.
 pub fn iri(out: &mut String, iri: &str) -> Result<(), WriteError> {
@@ -138,45 +138,54 @@ pub fn read_aggregate(name: &str) -> Option<AggregateFunction> {
     named_in(&AGGREGATES, name).or_else(|| whole_iri(name).map(AggregateFunction::Custom))
 }
 
-/// `default` and its IRIs, then `named` and its IRIs unless it is absent, parted by spaces.
+/// What stands for named graphs where spargebra has no list of them.
+const NOT_LISTED: &str = "FROM NAMED *";
+
+/// SPARQL's clauses, parted by spaces; it has none for a dataset without graphs.
 pub fn write_dataset(out: &mut String, dataset: &QueryDataset) -> Result<(), WriteError> {
-    out.push_str("default");
-    write_list(out, &dataset.default)?;
-    if let Some(named) = &dataset.named {
-        out.push_str(" named");
-        write_list(out, named)?;
+    let start = out.len();
+    for node in &dataset.default {
+        write_clause(out, start, "FROM ");
+        iri(out, node.as_str())?;
     }
-    Ok(())
+    for node in dataset.named.iter().flatten() {
+        write_clause(out, start, "FROM NAMED ");
+        iri(out, node.as_str())?;
+    }
+    if dataset.named.is_none() {
+        write_clause(out, start, NOT_LISTED);
+    }
+    match out.len() == start {
+        true => Err(WriteError::Unsupported),
+        false => Ok(()),
+    }
 }
 
-fn write_list(out: &mut String, nodes: &[NamedNode]) -> Result<(), WriteError> {
-    nodes.iter().try_for_each(|node| {
+fn write_clause(out: &mut String, start: usize, clause: &str) {
+    if out.len() > start {
         out.push(' ');
-        iri(out, node.as_str())
-    })
+    }
+    out.push_str(clause);
 }
 
 pub fn read_dataset(field: &str) -> Option<QueryDataset> {
-    let (default, rest) = read_list(field.strip_prefix("default")?)?;
-    let named = match rest.strip_prefix(" named") {
-        None if rest.is_empty() => None,
-        None => return None,
-        Some(rest) => match read_list(rest)? {
-            (named, "") => Some(named),
-            _ => return None,
-        },
-    };
-    Some(QueryDataset { default, named })
-}
-
-/// IRIs with a space before each, and the rest.
-fn read_list(text: &str) -> Option<(Vec<NamedNode>, &str)> {
-    let mut nodes = Vec::new();
-    let mut rest = text;
-    while let Some(behind) = rest.strip_prefix(" <") {
-        let (iri, behind) = behind.split_once('>')?;
-        nodes.push(NamedNode::new_unchecked(iri));
-        rest = behind;
+    let (mut default, mut named) = (Vec::new(), Vec::new());
+    let mut rest = field;
+    while rest != NOT_LISTED {
+        let (list, behind) = match rest.strip_prefix("FROM NAMED ") {
+            Some(behind) => (&mut named, behind),
+            None => (&mut default, rest.strip_prefix("FROM ")?),
+        };
+        let (iri, behind) = behind.strip_prefix('<')?.split_once('>')?;
+        list.push(NamedNode::new_unchecked(iri));
+        if behind.is_empty() {
+            let named = Some(named);
+            return Some(QueryDataset { default, named });
+        }
+        rest = behind.strip_prefix(' ')?;
     }
-    Some((nodes, rest))
+    named.is_empty().then_some(QueryDataset {
+        default,
+        named: None,
+    })
 }

@@ -1,4 +1,5 @@
-//! Property paths in SPARQL's spelling, with parentheses round every part, as spargebra writes them.
+//! Property paths as SPARQL spells them, IRIs in full: read by its grammar (rules 88 to 96), written without spaces and with the
+//! parentheses that this grammar needs.
 
 use spargebra::algebra::PropertyPathExpression as Path;
 use spargebra::term::NamedNode;
@@ -6,116 +7,179 @@ use spargebra::term::NamedNode;
 use super::names::iri;
 use super::tree::WriteError;
 
-/// A path in a text of 16,384 bytes may be deeper; none that anyone writes is.
-const DEEPEST: usize = 256;
+/// The marks of a path that is read, each parenthesis, IRI and operator being one. A path with more would need too much stack.
+const MOST: usize = 1_024;
 
 pub fn write(out: &mut String, path: &Path) -> Result<(), WriteError> {
     match path {
         Path::NamedNode(node) => iri(out, node.as_str()),
+        Path::NegatedPropertySet(nodes) => write_negated(out, nodes),
+        Path::ZeroOrMore(inner) => write_repeated(out, inner, '*'),
+        Path::OneOrMore(inner) => write_repeated(out, inner, '+'),
+        Path::ZeroOrOne(inner) => write_repeated(out, inner, '?'),
         Path::Reverse(inner) => {
             out.push('^');
-            write_marked(out, inner, ")")
+            write_part(out, inner, REPEATED)
         }
-        Path::ZeroOrMore(inner) => write_marked(out, inner, ")*"),
-        Path::OneOrMore(inner) => write_marked(out, inner, ")+"),
-        Path::ZeroOrOne(inner) => write_marked(out, inner, ")?"),
-        Path::Sequence(left, right) => write_pair(out, left, " / ", right),
-        Path::Alternative(left, right) => write_pair(out, left, " | ", right),
-        Path::NegatedPropertySet(nodes) => {
-            out.push_str("!(");
-            for (index, node) in nodes.iter().enumerate() {
-                if index > 0 {
-                    out.push_str(" | ");
-                }
-                iri(out, node.as_str())?;
-            }
-            out.push(')');
-            Ok(())
+        Path::Sequence(left, right) => {
+            write_part(out, left, SEQUENCE)?;
+            out.push('/');
+            write_part(out, right, REVERSE)
+        }
+        Path::Alternative(left, right) => {
+            write_part(out, left, ALTERNATIVE)?;
+            out.push('|');
+            write_part(out, right, SEQUENCE)
         }
         #[allow(unreachable_patterns)]
         _ => Err(WriteError::Unsupported),
     }
 }
 
-fn write_marked(out: &mut String, inner: &Path, end: &str) -> Result<(), WriteError> {
-    out.push('(');
-    write(out, inner)?;
-    out.push_str(end);
-    Ok(())
+// How tightly a path holds together. A part that holds less than its place asks for is put in parentheses.
+const ALTERNATIVE: u8 = 0;
+const SEQUENCE: u8 = 1;
+const REVERSE: u8 = 2;
+const REPEATED: u8 = 3;
+const WHOLE: u8 = 4;
+
+fn hold(path: &Path) -> u8 {
+    match path {
+        Path::Alternative(..) => ALTERNATIVE,
+        Path::Sequence(..) => SEQUENCE,
+        Path::Reverse(_) => REVERSE,
+        Path::ZeroOrMore(_) | Path::OneOrMore(_) | Path::ZeroOrOne(_) => REPEATED,
+        _ => WHOLE,
+    }
 }
 
-fn write_pair(out: &mut String, left: &Path, mark: &str, right: &Path) -> Result<(), WriteError> {
+fn write_part(out: &mut String, part: &Path, place: u8) -> Result<(), WriteError> {
+    if hold(part) >= place {
+        return write(out, part);
+    }
     out.push('(');
-    write(out, left)?;
-    out.push_str(mark);
-    write(out, right)?;
+    write(out, part)?;
     out.push(')');
     Ok(())
 }
 
-/// What `write` writes, and nothing else.
+fn write_repeated(out: &mut String, part: &Path, mark: char) -> Result<(), WriteError> {
+    write_part(out, part, WHOLE)?;
+    out.push(mark);
+    Ok(())
+}
+
+fn write_negated(out: &mut String, nodes: &[NamedNode]) -> Result<(), WriteError> {
+    out.push_str("!(");
+    for (index, node) in nodes.iter().enumerate() {
+        if index > 0 {
+            out.push('|');
+        }
+        iri(out, node.as_str())?;
+    }
+    out.push(')');
+    Ok(())
+}
+
 pub fn read(field: &str) -> Option<Path> {
-    match path(field, DEEPEST)? {
-        (path, "") => Some(path),
-        _ => None,
-    }
-}
-
-/// A path at the start of the text, and the rest.
-fn path(text: &str, depth: usize) -> Option<(Path, &str)> {
-    let depth = depth.checked_sub(1)?;
-    if let Some(rest) = text.strip_prefix("^(") {
-        let (inner, rest) = path(rest, depth)?;
-        Some((Path::Reverse(Box::new(inner)), rest.strip_prefix(')')?))
-    } else if let Some(rest) = text.strip_prefix("!(") {
-        negated(rest)
-    } else if let Some(rest) = text.strip_prefix('(') {
-        let (first, rest) = path(rest, depth)?;
-        behind(Box::new(first), rest, depth)
-    } else {
-        let (node, rest) = named_node(text)?;
-        Some((Path::NamedNode(node), rest))
-    }
-}
-
-/// A path whose opening parenthesis and first part are read.
-fn behind(first: Box<Path>, text: &str, depth: usize) -> Option<(Path, &str)> {
-    for mark in [" / ", " | "] {
-        if let Some(rest) = text.strip_prefix(mark) {
-            let (second, rest) = path(rest, depth)?;
-            let pair = match mark {
-                " / " => Path::Sequence,
-                _ => Path::Alternative,
-            };
-            return Some((pair(first, Box::new(second)), rest.strip_prefix(')')?));
-        }
-    }
-    let rest = text.strip_prefix(')')?;
-    let repeated = match rest.bytes().next()? {
-        b'*' => Path::ZeroOrMore,
-        b'+' => Path::OneOrMore,
-        b'?' => Path::ZeroOrOne,
-        _ => return None,
+    let mut text = Text {
+        rest: field,
+        left: MOST,
     };
-    Some((repeated(first), &rest[1..]))
+    let path = text.alternative()?;
+    text.skip();
+    text.rest.is_empty().then_some(path)
 }
 
-/// The IRIs of a negated set whose opening parenthesis is read.
-fn negated(text: &str) -> Option<(Path, &str)> {
-    let mut nodes = Vec::new();
-    let mut rest = text;
-    while !rest.starts_with(')') {
-        if !nodes.is_empty() {
-            rest = rest.strip_prefix(" | ")?;
-        }
-        let (node, behind) = named_node(rest)?;
-        nodes.push(node);
-        rest = behind;
+struct Text<'t> {
+    rest: &'t str,
+    /// How many marks may come yet.
+    left: usize,
+}
+
+impl Text<'_> {
+    fn skip(&mut self) {
+        self.rest = self.rest.trim_start_matches(' ');
     }
-    Some((Path::NegatedPropertySet(nodes), &rest[1..]))
-}
 
-fn named_node(text: &str) -> Option<(NamedNode, &str)> {
-    let (iri, rest) = text.strip_prefix('<')?.split_once('>')?;
-    Some((NamedNode::new_unchecked(iri), rest))
+    /// Whether a mark comes next, which is then passed.
+    fn passes(&mut self, mark: char) -> bool {
+        self.skip();
+        match (self.rest.strip_prefix(mark), self.left) {
+            (Some(behind), 1..) => {
+                self.rest = behind;
+                self.left -= 1;
+                true
+            }
+            _ => false,
+        }
+    }
+
+    fn alternative(&mut self) -> Option<Path> {
+        let mut path = self.sequence()?;
+        while self.passes('|') {
+            path = Path::Alternative(Box::new(path), Box::new(self.sequence()?));
+        }
+        Some(path)
+    }
+
+    fn sequence(&mut self) -> Option<Path> {
+        let mut path = self.step()?;
+        while self.passes('/') {
+            path = Path::Sequence(Box::new(path), Box::new(self.step()?));
+        }
+        Some(path)
+    }
+
+    /// A part, maybe repeated, maybe turned round.
+    fn step(&mut self) -> Option<Path> {
+        let turned = self.passes('^');
+        let mut path = self.part()?;
+        if self.passes('*') {
+            path = Path::ZeroOrMore(Box::new(path));
+        } else if self.passes('+') {
+            path = Path::OneOrMore(Box::new(path));
+        } else if self.passes('?') {
+            path = Path::ZeroOrOne(Box::new(path));
+        }
+        Some(match turned {
+            true => Path::Reverse(Box::new(path)),
+            false => path,
+        })
+    }
+
+    fn part(&mut self) -> Option<Path> {
+        if self.passes('(') {
+            let path = self.alternative()?;
+            return self.passes(')').then_some(path);
+        }
+        if self.passes('!') {
+            return self.negated().map(Path::NegatedPropertySet);
+        }
+        self.named_node().map(Path::NamedNode)
+    }
+
+    /// One IRI, or any number in parentheses.
+    fn negated(&mut self) -> Option<Vec<NamedNode>> {
+        if !self.passes('(') {
+            return Some(vec![self.named_node()?]);
+        }
+        let mut nodes = Vec::new();
+        while !self.passes(')') {
+            if !nodes.is_empty() && !self.passes('|') {
+                return None;
+            }
+            nodes.push(self.named_node()?);
+        }
+        Some(nodes)
+    }
+
+    fn named_node(&mut self) -> Option<NamedNode> {
+        if !self.passes('<') {
+            return None;
+        }
+        let (iri, behind) = self.rest.split_once('>')?;
+        self.rest = behind;
+        Some(NamedNode::new_unchecked(iri))
+    }
 }

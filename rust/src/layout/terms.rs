@@ -32,6 +32,10 @@ impl ReadLeaves<'_> for Terms {
     fn dataset(&mut self, field: &str) -> Option<QueryDataset> {
         names::read_dataset(field)
     }
+
+    fn base(field: &str) -> Option<&str> {
+        field.strip_prefix('<')?.strip_suffix('>')
+    }
 }
 
 impl WriteLeaves for Terms {
@@ -62,5 +66,9 @@ impl WriteLeaves for Terms {
 
     fn dataset(out: &mut String, dataset: &QueryDataset) -> Result<(), WriteError> {
         names::write_dataset(out, dataset)
+    }
+
+    fn base(out: &mut String, iri: &str) -> Result<(), WriteError> {
+        names::iri(out, iri)
     }
 }

@@ -18,6 +18,8 @@ pub trait ReadLeaves<'t> {
     fn function(&mut self, name: &str) -> Option<Function>;
     fn aggregate(&mut self, name: &str) -> Option<AggregateFunction>;
     fn dataset(&mut self, field: &str) -> Option<QueryDataset>;
+    /// The IRI of a base's field.
+    fn base(field: &str) -> Option<&str>;
 }
 
 /// No answer is deeper: at most 63 patterns stand above a filter, 63 `and` join its parts, and a part with 63 `Unequals`, of two
@@ -114,7 +116,10 @@ impl<'t, L: ReadLeaves<'t>> Reader<'t, L> {
         };
         let base_iri = match line.open()? {
             "-" => None,
-            field => Some(field.parse().or(Err(line.bad_term()))?),
+            field => {
+                let base = L::base(field).ok_or(line.bad_term())?;
+                Some(base.parse().or(Err(line.bad_term()))?)
+            }
         };
         let bad_kind = line.bad_field();
         line.end()?;

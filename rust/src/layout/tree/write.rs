@@ -20,6 +20,7 @@ pub trait WriteLeaves {
     fn function(out: &mut String, function: &Function) -> Result<(), WriteError>;
     fn aggregate(out: &mut String, function: &AggregateFunction) -> Result<(), WriteError>;
     fn dataset(out: &mut String, dataset: &QueryDataset) -> Result<(), WriteError>;
+    fn base(out: &mut String, iri: &str) -> Result<(), WriteError>;
 }
 
 pub struct Writer<'o, L> {
@@ -70,8 +71,7 @@ impl<'o, L: WriteLeaves> Writer<'o, L> {
         }
         match base_iri.as_ref().map(|base| base.as_str()) {
             None => self.put("-"),
-            Some("-" | "") => return Err(WriteError::Name),
-            Some(base) => L::name(self.tab(), base)?,
+            Some(base) => L::base(self.tab(), base)?,
         }
         self.end();
         self.pattern(pattern)
