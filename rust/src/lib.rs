@@ -268,3 +268,8 @@ fn refusal(number: u8) -> Option<Refusal> {
         .find(|refusal| refusal.number() == number);
     Some(known.unwrap_or_else(|| panic!("gandeuch.h names no number {number}")))
 }
+
+/// The examples of the README, as tests.
+#[cfg(all(doctest, feature = "spargebra"))]
+#[doc = include_str!("../README.md")]
+struct Readme;

@@ -1,23 +1,16 @@
-//! Texts as they are written, field by field; what is refused; answers read back.
+//! Texts as they are written, field by field; answers read back.
 #![cfg(feature = "spargebra")]
 
-use gandeuch::layout::{self, ReadError, WriteError};
+mod written;
+
+use gandeuch::layout::{self, ReadError};
 use spargebra::Query;
 use spargebra::algebra::{
-    AggregateFunction, Expression, Function, GraphPattern, PropertyPathExpression, QueryDataset,
+    AggregateExpression, AggregateFunction, Expression, Function, GraphPattern, QueryDataset,
 };
-use spargebra::term::{
-    GroundTerm, Literal, NamedNode, NamedNodePattern, TermPattern, TriplePattern, Variable,
-};
+use spargebra::term::{GroundTerm, Literal, Variable};
 
-/// Lines with `/` for a line end, the last not shown, and `|` for tabs.
-fn text(lines: &str) -> Vec<u8> {
-    (lines.replace('/', "\n").replace('|', "\t") + "\n").into_bytes()
-}
-
-fn iri(text: &str) -> NamedNode {
-    NamedNode::new_unchecked(text)
-}
+use written::{iri, named, text};
 
 #[test]
 fn every_word_comes_back() {
@@ -178,7 +171,7 @@ fn functions_and_aggregates_come_back() {
     };
     assert!(matches!(
         &aggregates[0].1,
-        spargebra::algebra::AggregateExpression::FunctionCall { name, .. } if *name == separated
+        AggregateExpression::FunctionCall { name, .. } if *name == separated
     ));
 }
 
@@ -236,137 +229,6 @@ fn paths_are_read_as_in_sparql() {
     for spelled in bad {
         assert_eq!(path(spelled), Err(ReadError::Term { line: 1 }), "{spelled}");
     }
-    for long in ["/<p>", "|<p>", "|!<p>"] {
-        assert!(path(&format!("<p>{}", long.repeat(200))).is_ok());
-        let longer = path(&format!("<p>{}", long.repeat(200_000)));
-        assert_eq!(longer, Err(ReadError::Term { line: 1 }), "{long}");
-    }
-}
-
-#[test]
-fn what_is_no_tree_says_why() {
-    let cases = [
-        ("bgp|1", ReadError::Missing { line: 2 }),
-        ("bgp|0/bgp|0", ReadError::LeftOver { line: 2 }),
-        ("bgp|01", ReadError::Field { line: 1 }),
-        ("bgp|+1", ReadError::Field { line: 1 }),
-        ("bgp|4294967296", ReadError::Field { line: 1 }),
-        ("bgp|4294967295", ReadError::Missing { line: 2 }),
-        ("bgp", ReadError::Field { line: 1 }),
-        ("bgp|0|", ReadError::Field { line: 1 }),
-        ("bgp|1/x|?a|<p>|?b", ReadError::Word { line: 2 }),
-        ("bgp|1/t|?a|\"p\"|?b", ReadError::Field { line: 2 }),
-        ("bgp|1/t|?|<p>|?b", ReadError::Field { line: 2 }),
-        ("bgp|1/t|?a|<p>|b", ReadError::Field { line: 2 }),
-        ("filter/bgp|0/bgp|0", ReadError::Word { line: 3 }),
-        ("values|1|1/cols|?a/row", ReadError::Field { line: 3 }),
-        ("values|2|0/cols|?a", ReadError::Field { line: 2 }),
-        ("leftjoin|2/bgp|0/bgp|0", ReadError::Field { line: 1 }),
-        ("query|select|-|-/bgp|0", ReadError::Word { line: 1 }),
-    ];
-    for (lines, error) in cases {
-        assert_eq!(layout::read_pattern(&text(lines)), Err(error), "{lines}");
-    }
-    assert_eq!(
-        layout::read_pattern(b""),
-        Err(ReadError::Missing { line: 1 })
-    );
-    assert_eq!(
-        layout::read_pattern(b"bgp\t0"),
-        Err(ReadError::Missing { line: 1 })
-    );
-    assert_eq!(
-        layout::read_pattern(b"bgp\t\xFF\n"),
-        Err(ReadError::NotUtf8)
-    );
-    let kind = layout::read_query(&text("query|delete|-|-/bgp|0"));
-    assert_eq!(kind, Err(ReadError::Field { line: 1 }));
-    let dataset = layout::read_query(&text("query|ask|FROM<a>|-/bgp|0"));
-    assert_eq!(dataset, Err(ReadError::Term { line: 1 }));
-}
-
-/// Lines again and again, then a last one.
-fn deep(lines: &str, count: usize, last: &str) -> Vec<u8> {
-    [text(lines).repeat(count), text(last)].concat()
-}
-
-#[test]
-fn depth_is_bounded() {
-    for lines in ["distinct", "join/bgp|0", "filter/bgp|0/exists"] {
-        let levels = lines.matches("exists").count() + 1;
-        let text = deep(lines, 250 / levels, "bgp|0");
-        let tree = layout::read_pattern(&text).expect(lines);
-        assert_eq!(layout::write_pattern(&tree), Ok(text), "{lines}");
-        let deeper = layout::read_pattern(&deep(lines, 100_000, "bgp|0"));
-        assert!(matches!(deeper, Err(ReadError::TooDeep { .. })), "{lines}");
-    }
-    let path = format!(
-        "path\t?a\t{}<p>{}\t?b\n",
-        "^(".repeat(100_000),
-        ")".repeat(100_000)
-    );
-    assert_eq!(
-        layout::read_pattern(path.as_bytes()),
-        Err(ReadError::Term { line: 1 })
-    );
-}
-
-/// A filter below 63 patterns, 64 parts in one `and`, the first with 63 times `Unequals`.
-#[test]
-fn the_deepest_answer_is_read() {
-    let tree = [text("distinct").repeat(62), text("project|?a/bgp|0")].concat();
-    let first = [text("bin|Unequals").repeat(63), text("ref|0").repeat(64)].concat();
-    let filters = [first, text("ref|0").repeat(63)].concat();
-    let answer = gandeuch::filters(&tree, &filters).expect("an answer");
-    let read = layout::read_pattern(&answer).expect("a tree");
-    assert_eq!(layout::write_pattern(&read), Ok(answer));
-}
-
-fn named(variable: &str, node: &str) -> GraphPattern {
-    GraphPattern::Bgp {
-        patterns: vec![TriplePattern {
-            subject: TermPattern::Variable(Variable::new_unchecked(variable)),
-            predicate: NamedNodePattern::NamedNode(iri(node)),
-            object: TermPattern::Literal(Literal::new_simple_literal("o")),
-        }],
-    }
-}
-
-#[test]
-fn what_no_field_holds_is_not_written() {
-    for (variable, node) in [
-        ("", "p"),
-        ("a\tb", "p"),
-        ("a\n", "p"),
-        ("a", "p\tq"),
-        ("a", "p\n"),
-    ] {
-        let written = layout::write_pattern(&named(variable, node));
-        assert_eq!(written, Err(WriteError::Name), "{variable:?} {node:?}");
-    }
-    let slice = GraphPattern::Slice {
-        inner: Box::new(GraphPattern::default()),
-        start: 4_294_967_296,
-        length: None,
-    };
-    assert_eq!(layout::write_pattern(&slice), Err(WriteError::Number));
-    let path = GraphPattern::Path {
-        subject: TermPattern::NamedNode(iri("a")),
-        path: PropertyPathExpression::NamedNode(iri("p>/<q")),
-        object: TermPattern::NamedNode(iri("b")),
-    };
-    assert_eq!(layout::write_pattern(&path), Err(WriteError::Name));
-    let construct = Query::Construct {
-        template: vec![TriplePattern {
-            subject: TermPattern::NamedNode(iri("a")),
-            predicate: NamedNodePattern::NamedNode(iri("p")),
-            object: TermPattern::NamedNode(iri("b")),
-        }],
-        dataset: None,
-        pattern: GraphPattern::default(),
-        base_iri: None,
-    };
-    assert_eq!(layout::write_query(&construct), Err(WriteError::Template));
 }
 
 #[test]
@@ -418,5 +280,38 @@ fn scopes_are_read() {
     assert_eq!(
         layout::read_scope(b"in\n"),
         Err(ReadError::Missing { line: 2 })
+    );
+}
+
+#[test]
+fn queries_are_merged() {
+    let query = |columns: [&str; 2]| Query::Select {
+        dataset: None,
+        pattern: GraphPattern::Project {
+            inner: Box::new(named(columns[0], "in")),
+            variables: columns.map(Variable::new_unchecked).to_vec(),
+        },
+        base_iri: None,
+    };
+    let merged = gandeuch::merge_queries(
+        &layout::write_query(&query(["event", "relay"])).unwrap(),
+        &layout::write_query(&query(["relay", "breaker"])).unwrap(),
+        &layout::write_joins(&[(1, 0)]).unwrap(),
+        b"",
+        b"",
+    );
+    let Ok(Query::Select { pattern, .. }) = layout::read_query(&merged.expect("merged")) else {
+        panic!("no select");
+    };
+    let joined = GraphPattern::Join {
+        left: Box::new(named("l0", "in")),
+        right: Box::new(named("j0", "in")),
+    };
+    assert_eq!(
+        pattern,
+        GraphPattern::Project {
+            inner: Box::new(joined),
+            variables: ["l0", "j0", "r1"].map(Variable::new_unchecked).to_vec(),
+        }
     );
 }

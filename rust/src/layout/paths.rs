@@ -7,8 +7,10 @@ use spargebra::term::NamedNode;
 use super::names::iri;
 use super::tree::WriteError;
 
-/// The marks of a path that is read, each parenthesis, IRI and operator being one. A path with more would need too much stack.
+/// The marks of a path that is read, each parenthesis, IRI and operator being one, and parentheses in one another. A path with more
+/// would need too much stack.
 const MOST: usize = 1_024;
+const DEEPEST: usize = 64;
 
 pub fn write(out: &mut String, path: &Path) -> Result<(), WriteError> {
     match path {
@@ -85,6 +87,7 @@ pub fn read(field: &str) -> Option<Path> {
     let mut text = Text {
         rest: field,
         left: MOST,
+        depth: 0,
     };
     let path = text.alternative()?;
     text.skip();
@@ -95,6 +98,7 @@ struct Text<'t> {
     rest: &'t str,
     /// How many marks may come yet.
     left: usize,
+    depth: usize,
 }
 
 impl Text<'_> {
@@ -150,13 +154,23 @@ impl Text<'_> {
 
     fn part(&mut self) -> Option<Path> {
         if self.passes('(') {
-            let path = self.alternative()?;
-            return self.passes(')').then_some(path);
+            return self.parenthesised();
         }
         if self.passes('!') {
             return self.negated().map(Path::NegatedPropertySet);
         }
         self.named_node().map(Path::NamedNode)
+    }
+
+    /// What follows an opening parenthesis, up to its end.
+    fn parenthesised(&mut self) -> Option<Path> {
+        if self.depth == DEEPEST {
+            return None;
+        }
+        self.depth += 1;
+        let path = self.alternative()?;
+        self.depth -= 1;
+        self.passes(')').then_some(path)
     }
 
     /// One IRI, or any number in parentheses.
