@@ -48,7 +48,7 @@
 //! `<p> / <q>`); it is read as what it stands for, and written anew in the one form above.
 //!
 //! Bounds are left to the calls: a tree that is too large is written, and refused there. Reading stops at depth 256, which no
-//! answer passes; it takes 1.1 MiB of stack then without optimisation, 0.4 MiB with it. A tree's depth is the caller's: writing
+//! answer passes; it took up to 1.5 MiB of stack then without optimisation, 0.5 MiB with it. A tree's depth is the caller's: writing
 //! takes stack for it, as dropping it does. Binding sets and filters have no types in spargebra; write them as texts.
 
 mod lists;
