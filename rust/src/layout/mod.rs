@@ -6,35 +6,32 @@
 //! ```
 //! use gandeuch::layout;
 //! use spargebra::algebra::GraphPattern;
-//! use spargebra::term::{NamedNode, TriplePattern, Variable};
+//! use spargebra::term::{NamedNode, NamedNodePattern, TermPattern, TriplePattern, Variable};
 //!
-//! let relay = Variable::new_unchecked("relay");
+//! let [event, relay, device] = ["event", "relay", "device"].map(Variable::new_unchecked);
+//! let reported = TriplePattern {
+//!     subject: TermPattern::Variable(event),
+//!     predicate: NamedNodePattern::NamedNode(NamedNode::new_unchecked("by")),
+//!     object: TermPattern::Variable(relay.clone()),
+//! };
 //! let tree = GraphPattern::Project {
-//!     inner: Box::new(GraphPattern::Bgp {
-//!         patterns: vec![TriplePattern {
-//!             subject: spargebra::term::TermPattern::Variable(Variable::new_unchecked("event")),
-//!             predicate: spargebra::term::NamedNodePattern::NamedNode(NamedNode::new_unchecked("by")),
-//!             object: spargebra::term::TermPattern::Variable(relay.clone()),
-//!         }],
-//!     }),
-//!     variables: vec![relay],
+//!     inner: Box::new(GraphPattern::Bgp { patterns: vec![reported] }),
+//!     variables: vec![relay.clone()],
 //! };
 //! let text = layout::write_pattern(&tree)?;
 //! assert_eq!(text, b"project\t?relay\nbgp\t1\nt\t?event\t<by>\t?relay\n");
 //! assert_eq!(layout::read_pattern(&text)?, tree);
 //!
-//! let mapping = [(Variable::new_unchecked("relay"), Variable::new_unchecked("device"))];
-//! let renamed = gandeuch::rename(&text, &layout::write_mapping(&mapping)?)?;
-//! assert!(matches!(
-//!     layout::read_pattern(&renamed)?,
-//!     GraphPattern::Project { variables, .. } if variables == [Variable::new_unchecked("device")]
-//! ));
+//! let mapping = layout::write_mapping(&[(relay, device.clone())])?;
+//! let renamed = layout::read_pattern(&gandeuch::rename(&text, &mapping)?)?;
+//! assert!(matches!(renamed, GraphPattern::Project { variables, .. } if variables == [device]));
 //! # Ok::<(), Box<dyn std::error::Error>>(())
 //! ```
 //!
 //! **Not exercised: the real crates.** This module is compiled and tested against stand-ins for spargebra 0.4 and oxrdf 0.3
-//! (`compare/stand-ins` of the repository), which have the shape of their types and do no checks. Nothing here is proved; what
-//! is proved is what the calls do with the texts.
+//! (`compare/stand-ins` of the repository), which have the shape of their types and do no checks; a `[patch]` of this crate's own
+//! folder puts them in, so a program that depends on it gets the real ones. Nothing here is proved; what is proved is what the
+//! calls do with the texts.
 //!
 //! What is written can be read back, and one tree has one text, so that two heads are the same for the calls exactly if they are for
 //! spargebra. The lines of all variants stand in the repository's `docs/VARIANTS.md`. What the layout leaves open is written so:
@@ -124,7 +121,7 @@ fn read<'t, T>(
     text: &'t [u8],
     read: impl FnOnce(&mut Reader<'t, Terms>) -> Result<T, ReadError>,
 ) -> Result<T, ReadError> {
-    let text = str::from_utf8(text).or(Err(ReadError::NotUtf8))?;
+    let text = std::str::from_utf8(text).or(Err(ReadError::NotUtf8))?;
     let mut reader = Reader::new(text, Terms);
     let result = read(&mut reader)?;
     reader.end()?;
