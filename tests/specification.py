@@ -130,13 +130,12 @@ def hold_words():
 
 
 def stand_in_variants():
-    """The variants of the enums that the comparison's stand-in has, where they say a line by themselves."""
+    """The variants of the enums that the comparison's stand-in has."""
     with open(os.path.join(ROOT, "compare", "stand-ins", "spargebra.rs"), encoding="utf-8") as file:
         source = file.read()
     for name, body in re.findall(r"(?ms)pub enum (\w+) \{\n(.*?)^ *\}\n(?=\n|\}|\Z)", source):
         for variant in re.findall(r"(?m)^(?:    |        )([A-Z]\w*)(?: \{|\(|,)", body):
-            if (name, variant) != ("Function", "Other"):
-                yield name + "::" + variant
+            yield name + "::" + variant
 
 
 def hold_lines():
@@ -151,10 +150,10 @@ def hold_lines():
 
 
 def hold_variants():
-    """Each variant that nemo's files name has a row."""
+    """Each variant of the stand-in has a row."""
     named = {CODE.match(row[0]).group(1) for head, rows in tables(page("VARIANTS")) for row in rows}
     wanted = set(stand_in_variants())
-    assert len(wanted) > 50 and wanted <= named, wanted - named
+    assert len(wanted) > 100 and wanted <= named, wanted - named
 
 
 def citations():
