@@ -78,6 +78,25 @@ fn comes_back(expression: &Expression) {
 }
 
 #[test]
+fn parts_stand_in_order() {
+    let variable = |name| Expression::Variable(Variable::new_unchecked(name));
+    let [a, b, c] = ["a", "b", "c"].map(|name| Box::new(variable(name)));
+    let minus = Expression::Subtract(a.clone(), b.clone());
+    assert_eq!(expression("sub/term|?a/term|?b"), Ok(minus));
+    let test = Expression::If(a.clone(), b.clone(), c);
+    assert_eq!(expression("if/term|?a/term|?b/term|?c"), Ok(test));
+    let within = Expression::In(a, vec![*b, variable("c")]);
+    assert_eq!(expression("in|2/term|?a/term|?b/term|?c"), Ok(within));
+
+    let sides = layout::read_pattern(&text("minus/bgp|1/t|?a|<p>|\"o\"/bgp|1/t|?b|<q>|\"o\""));
+    let minus = GraphPattern::Minus {
+        left: Box::new(named("a", "p")),
+        right: Box::new(named("b", "q")),
+    };
+    assert_eq!(sides, Ok(minus));
+}
+
+#[test]
 fn literals_are_escaped_and_come_back() {
     let values = [
         "",
@@ -173,62 +192,6 @@ fn functions_and_aggregates_come_back() {
         &aggregates[0].1,
         AggregateExpression::FunctionCall { name, .. } if *name == separated
     ));
-}
-
-fn path(path: &str) -> Result<GraphPattern, ReadError> {
-    layout::read_pattern(format!("path\t?a\t{path}\t?b\n").as_bytes())
-}
-
-#[test]
-fn paths_come_back() {
-    let good = [
-        "<p>",
-        "^<p>",
-        "<p>*",
-        "^<p>+",
-        "(^<p>)?",
-        "(<p>*)*",
-        "^(^<p>)",
-        "<p>/<q>",
-        "<p>/<q>/<r>",
-        "<p>/(<q>/<r>)",
-        "<p>/(<q>|<r>)",
-        "<p>|^<q>/<r>",
-        "<p>|(<q>|<r>)",
-        "(<p>*/!(<q>|<r>))*",
-        "!()",
-        "!(<p>)",
-    ];
-    for spelled in good {
-        let text = format!("path\t?a\t{spelled}\t?b\n").into_bytes();
-        let tree = path(spelled).expect(spelled);
-        assert_eq!(layout::write_pattern(&tree), Ok(text), "{spelled}");
-    }
-}
-
-#[test]
-fn paths_are_read_as_in_sparql() {
-    let same = [
-        ("( <p> / <q> )", "<p>/<q>"),
-        ("(<p>/<q>)/<r>", "<p>/<q>/<r>"),
-        ("<p>|<q>/<r>", "<p>|(<q>/<r>)"),
-        ("<p>/<q>|<r>", "(<p>/<q>)|<r>"),
-        ("^<p>*", "^(<p>*)"),
-        ("<p>/^<q>", "<p>/(^<q>)"),
-        ("!<p>", "!(<p>)"),
-        ("((<p>))", "<p>"),
-    ];
-    for (spelled, written) in same {
-        assert_eq!(path(spelled), path(written), "{spelled}");
-        assert!(path(spelled).is_ok(), "{spelled}");
-    }
-    let bad = [
-        "?p", "p", "a", "<p", "(<p>", "(<p>/<q>", "<p>/", "^^<p>", "<p>**", "!(<p>|)", "<p><q>",
-        "<p>x", "!(^<p>)",
-    ];
-    for spelled in bad {
-        assert_eq!(path(spelled), Err(ReadError::Term { line: 1 }), "{spelled}");
-    }
 }
 
 #[test]
