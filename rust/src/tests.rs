@@ -1,6 +1,6 @@
 //! Room for answers; the declarations.
 
-use crate::{MOST, Refusal, answered, room};
+use crate::{MOST, Refusal, STACK, answered, room};
 
 #[path = "../tests/recorded/mod.rs"]
 pub mod recorded;
@@ -113,20 +113,51 @@ fn declarations_are_those_of_the_header() {
 #[test]
 fn rooms_are_those_of_the_header() {
     let header = HEADER.replace("(size_t)", "").replace("\\\n", "");
+    let header: String = header.split_whitespace().collect();
+    let [tree, list, other] = [100, 10, 1].map(|length| vec![0; length]);
     let rooms = [
-        "SCOPE_ROOM(tree_size) ((tree_size) + 1)",
-        "RENAME_ROOM(tree_size) (44 * (tree_size))",
-        "MERGE_ROOM(left_size, right_size, left_constants_size, right_constants_size)     (3 * ((left_size) + (right_size)) + \
-         (left_constants_size) + (right_constants_size))",
-        "PUSH_ROOM(query_size, constants_size) (3 * (query_size) + (constants_size))",
-        "NEGATE_ROOM(query_size) ((query_size) + 24)",
-        "BINDINGS_ROOM(tree_size, sets_size) ((tree_size) + 65 * (sets_size))",
-        "FILTERS_ROOM(tree_size, filters_size) ((tree_size) + 24 * (filters_size))",
-        "STACK (262144)",
-        "TEXT (16384)",
+        (
+            "SCOPE_ROOM(tree_size)((tree_size)+1)",
+            room::scope(&tree),
+            101,
+        ),
+        (
+            "RENAME_ROOM(tree_size)(44*(tree_size))",
+            room::rename(&tree),
+            4_400,
+        ),
+        (
+            "MERGE_ROOM(left_size,right_size,left_constants_size,right_constants_size)\
+             (3*((left_size)+(right_size))+(left_constants_size)+(right_constants_size))",
+            room::merge(&tree, &tree, &list, &other),
+            611,
+        ),
+        (
+            "PUSH_ROOM(query_size,constants_size)(3*(query_size)+(constants_size))",
+            room::push(&tree, &list),
+            310,
+        ),
+        (
+            "NEGATE_ROOM(query_size)((query_size)+24)",
+            room::negate(&tree),
+            124,
+        ),
+        (
+            "BINDINGS_ROOM(tree_size,sets_size)((tree_size)+65*(sets_size))",
+            room::bindings(&tree, &list),
+            750,
+        ),
+        (
+            "FILTERS_ROOM(tree_size,filters_size)((tree_size)+24*(filters_size))",
+            room::filters(&tree, &list),
+            340,
+        ),
+        ("TEXT(16384)", room::scope(&[0; 20_000]), 16_385),
+        ("STACK(262144)", STACK, 262_144 + 4_096),
     ];
-    for room in rooms {
-        let line = format!("#define GANDEUCH_{room}\n");
+    for (defined, room, expected) in rooms {
+        let line = format!("#defineGANDEUCH_{defined}");
         assert!(header.contains(&line), "{line}");
+        assert_eq!(room, expected, "{line}");
     }
 }

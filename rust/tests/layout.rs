@@ -113,9 +113,12 @@ fn literals_are_escaped_and_come_back() {
             comes_back(&Expression::Literal(literal));
         }
     }
-    let quoted = Expression::Literal(Literal::new_simple_literal("a\tb\n\"c\"\\"));
+    let quoted = Expression::Literal(Literal::new_simple_literal("a\tb\r\n\"c\"\\"));
     let written = layout::write_expression(&quoted);
-    assert_eq!(written, Ok(b"term\t\"a\\tb\\n\\\"c\\\"\\\\\"\n".to_vec()));
+    assert_eq!(
+        written,
+        Ok(b"term\t\"a\\tb\\r\\n\\\"c\\\"\\\\\"\n".to_vec())
+    );
 }
 
 #[test]

@@ -48,8 +48,18 @@ fn what_is_no_tree_says_why() {
     );
     let kind = layout::read_query(&text("query|delete|-|-/bgp|0"));
     assert_eq!(kind, Err(ReadError::Field { line: 1 }));
-    let dataset = layout::read_query(&text("query|ask|FROM<a>|-/bgp|0"));
-    assert_eq!(dataset, Err(ReadError::Term { line: 1 }));
+    let datasets = [
+        "FROM<a>",
+        "FROM <a>  FROM <b>",
+        "FROM <a> ",
+        "FROM NAMED",
+        "FROM NAMED <a> FROM NAMED *",
+        "<a>",
+    ];
+    for dataset in datasets {
+        let read = layout::read_query(&text(&format!("query|ask|{dataset}|-/bgp|0")));
+        assert_eq!(read, Err(ReadError::Term { line: 1 }), "{dataset}");
+    }
 }
 
 /// Lines again and again, then a last one.
