@@ -5,7 +5,7 @@
 
 writes OUTDIR/cases and OUTDIR/expected, the same bytes each time. First come
 the cases of vectors/, whose answers are those of nemo's Rust, then the inputs
-below and in written_merges.py, whose answers are written by hand from document
+below, in written_merges.py and written_placings.py, whose answers are written by hand from document
 01 and the recorded readings of its open corners.
 
 vectors/NAME.txt: a head, then the cases; a line ==== follows each of them. A
@@ -14,17 +14,18 @@ two hexadecimal digits stand for a byte.
 
 cases: for each record a line `DIGIT TAB LENGTH TAB LABEL`, then LENGTH bytes
 and a line end; DIGIT is the program: 0 scope, 1 rename, 2 merge, 3
-merge_queries, 4 push, 5 negate. expected: for each record a line with its
-label, then what the program writes.
+merge_queries, 4 push, 5 negate, 6 bindings, 7 filters. expected: for each record
+a line with its label, then what the program writes.
 """
 import os
 import sys
 import urllib.parse
 
 import written_merges
+import written_placings
 from written_texts import BAR, LONG, MALFORMED, OVER, padded, refused, text
 
-PROGRAMS = ["scope", "rename", "merge", "merge_queries", "push", "negate"]
+PROGRAMS = ["scope", "rename", "merge", "merge_queries", "push", "negate", "bindings", "filters"]
 HERE = os.path.dirname(os.path.abspath(__file__))
 
 
@@ -81,7 +82,7 @@ def records():
     for program in PROGRAMS:
         for number, (given, answer) in enumerate(recorded(program), 1):
             yield program, "%s-%d" % (program, number), given, answer
-    for program, name, given, answer in WRITTEN + written_merges.WRITTEN:
+    for program, name, given, answer in WRITTEN + written_merges.WRITTEN + written_placings.WRITTEN:
         yield program, "%s-%s" % (program, name), given, answer
 
 

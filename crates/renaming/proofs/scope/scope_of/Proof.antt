@@ -1,0 +1,21 @@
+-- `renaming::scope/scope_of` meets its contract. Assumes nothing.
+use borrow.Author.Needs.{needs}
+use native.Mathlib.Omega.{arith}
+use Rattle.renaming.proofs.Tables as T
+use Rattle.renaming.proofs.Scoped as S
+use Rattle.renaming.proofs.scope.scope_of.Statement.{statement}
+use Rattle.renaming.proofs.scope.scope_of.Tie as tie
+
+pub scope-of-spec : {M : Type 1} → statement M
+scope-of-spec =
+    tie.close
+    (tie.spec
+    (λ c. search needs)
+    (λ c. search needs)
+    (λ c κs. T.known-named _ _ _ _ _ (c .before .before .before .before .before .before .before .pre))
+    (λ c. search needs)
+    (λ c κs. T.known-high _ _ _ _ _ (c .before .before .before .before .before .before .before .before .before .before .before .pre))
+    (λ c. S.scope-short _ _ _ _ _ (c .before .before .before .before .before .before .before .before .before .before .before .before .before .before .pre) _ _ _ _ _ _ (c .before .before .before .before .before .before .rename-in-graph-pattern .ensures) _ _ _ _ (c .before .before .put-scope .ensures) (c .if1 .taken))
+    (λ c κs. T.known-high _ _ _ _ _ (c .before .before .before .before .before .before .before .before .before .before .before .before .before .before .before .before .pre))
+    (λ c. search needs)
+    (λ c. S.scope-written _ _ _ _ _ (c .before .before .before .before .before .before .before .before .before .before .before .before .before .before .before .before .before .before .before .pre) _ _ _ _ _ _ (c .before .before .before .before .before .before .before .before .before .before .before .rename-in-graph-pattern .ensures) _ _ _ _ (c .before .before .before .before .before .before .before .put-scope .ensures) _ _ (c .before .before .before .before .before .if1 .left) (let g = c .before .before .before .before .before .before .before .before .before .before .before .before .before .before .before .before .before .before .before .good in omega (arith, g)) (c .before .before .put-scope2 .ensures)))
