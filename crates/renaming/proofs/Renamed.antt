@@ -110,12 +110,12 @@ module _ (s : Bytes) (a l h : List ℕ) (n : ℕ) (k : Known s a l h n) (pairs :
     rename-written next size out′ flags″ i j w =
         answered _ _ out out′ (Written size) outcome-is (all-written _ out need tiny tiny′ (walk-puts from need tiny tiny′ flags flags′ measure) size out′ i j (walk-puts next size out out′ flags′ flags″ w))
 
-    -- a short answer is copied from the spare buffer
-    pub rename-copied : (size : ℕ) (out′ : Bytes) → need ≤ length out → length out < last → length tiny ≡ 8192 → need ≤ 8192
+    -- an answer that the spare buffer holds is copied from it
+    pub rename-copied : (size : ℕ) (out′ : Bytes) → need ≤ length out → length out < last → length tiny < last → need ≤ length tiny
         → em size out′ ≡ puts (piece 0 need tiny′) (em 0 out) → Answered (renameOutcome s pairs) out out′ (Written size)
     rename-copied size out′ i j x y e =
         let w = walk-puts from need tiny tiny′ flags flags′ measure in
-        answered _ _ out out′ (Written size) outcome-is (all-written _ out need tiny tiny′ w size out′ i j (e ∙ ap (λ (b : Bytes). puts b (em 0 out)) (spared _ tiny tiny′ need w (omega arith) (omega arith))))
+        answered _ _ out out′ (Written size) outcome-is (all-written _ out need tiny tiny′ w size out′ i j (e ∙ ap (λ (b : Bytes). puts b (em 0 out)) (spared _ tiny tiny′ need w y x)))
 
 -- ---- a text that is refused
 

@@ -88,8 +88,68 @@ fn find_targets(
     }
 }
 
-// The answer for a tree and a mapping that were checked: measured on a spare buffer, and written if it fits. A short answer then
-// stands in the spare buffer already.
+// The answer for a tree, a mapping and what it makes of each name: measured on a spare buffer, and written if it fits. An answer that the spare
+// buffer holds already is copied.
+fn rename_over(
+    tree: &[u8],
+    starts: &[u16; 1024],
+    sizes: &[u16; 1024],
+    hints: &[u16; 4096],
+    n: usize,
+    mapping: &[u8],
+    targets: &[u16; 1024],
+    spans: &[u16; 1024],
+    spare: &mut [u8],
+    out: &mut [u8],
+) -> Answer
+    requires { ⌜ Known (now tree) (now starts) (now sizes) (now hints) n × KnownPairs (now mapping) × Targets (listing (now tree) (now starts) (now sizes) n) n (now mapping) (now targets) (now spans) ⌝ }
+    ensures { λ r. ⌜ Answered (renameOutcome (now (tree .entry)) (now (mapping .entry))) (now (out .entry)) (now (out .exit)) r ⌝ }
+{
+    let mut flags = [0u8; 2048];
+    let need = rename_in_graph_pattern(
+        tree,
+        starts,
+        sizes,
+        hints,
+        n,
+        mapping,
+        targets,
+        spans,
+        &mut flags,
+        spare,
+        0,
+        0,
+        2,
+        64,
+    );
+    let size = need.at;
+    if out.len() < size {
+        return Answer::TooShort;
+    }
+    if size <= spare.len() {
+        let copied = put_all(out, 0, piece(spare, 0, size));
+        return Answer::Written(copied);
+    }
+    let put = rename_in_graph_pattern(
+        tree,
+        starts,
+        sizes,
+        hints,
+        n,
+        mapping,
+        targets,
+        spans,
+        &mut flags,
+        out,
+        0,
+        0,
+        2,
+        64,
+    );
+    Answer::Written(put.at)
+}
+
+// The same for a tree and a mapping that were checked, over a spare buffer as large as pays: it is cleared first.
 fn rename_of(
     tree: &[u8],
     starts: &[u16; 1024],
@@ -114,9 +174,38 @@ fn rename_of(
         &mut targets,
         &mut spans,
     );
-    let mut flags = [0u8; 2048];
-    let mut spare = [0u8; 8192];
-    let need = rename_in_graph_pattern(
+    if tree.len() <= 1536 {
+        let mut spare = [0u8; 2048];
+        return rename_over(
+            tree,
+            starts,
+            sizes,
+            hints,
+            n,
+            mapping,
+            &targets,
+            &spans,
+            &mut spare,
+            out,
+        );
+    }
+    if tree.len() <= 6144 {
+        let mut spare = [0u8; 8192];
+        return rename_over(
+            tree,
+            starts,
+            sizes,
+            hints,
+            n,
+            mapping,
+            &targets,
+            &spans,
+            &mut spare,
+            out,
+        );
+    }
+    let mut none = [0u8; 0];
+    rename_over(
         tree,
         starts,
         sizes,
@@ -125,38 +214,9 @@ fn rename_of(
         mapping,
         &targets,
         &spans,
-        &mut flags,
-        &mut spare,
-        0,
-        0,
-        2,
-        64,
-    );
-    let size = need.at;
-    if out.len() < size {
-        return Answer::TooShort;
-    }
-    if size <= 8192 {
-        let copied = put_all(out, 0, piece(&spare, 0, size));
-        return Answer::Written(copied);
-    }
-    let put = rename_in_graph_pattern(
-        tree,
-        starts,
-        sizes,
-        hints,
-        n,
-        mapping,
-        &targets,
-        &spans,
-        &mut flags,
+        &mut none,
         out,
-        0,
-        0,
-        2,
-        64,
-    );
-    Answer::Written(put.at)
+    )
 }
 
 // The same for a tree that was checked and any mapping.
