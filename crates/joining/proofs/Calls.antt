@@ -25,7 +25,7 @@ use Rattle.merging.specs.Push.{pushConstantsInProjectPattern, pushed, pushConst
 use Rattle.heads.specs.Known.{Known, KnownQuery}
 use Rattle.heads.specs.TreeAt.{headLine, TreeAt}
 use Rattle.heads.proofs.Queries.{over-layout, query-layout}
-use Rattle.joining.specs.Joining.{Terms, KnownTerms, Lists, ListsRead, ListsChecked, pushedBehind, mergedBehind}
+use Rattle.projects.specs.Joining.{Terms, KnownTerms, Lists, ListsRead, ListsChecked, pushedBehind, mergedBehind}
 
 -- ---- push constants
 

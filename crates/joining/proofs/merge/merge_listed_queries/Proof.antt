@@ -2,7 +2,7 @@
 use borrow.Author.Needs.{needs}
 use mathlib.Core.Path.{_≡_, refl, sym, ap, _∙_}
 use Rattle.answers.proofs.Answers as A
-use Rattle.joining.proofs.Known as K
+use Rattle.projects.proofs.Known as K
 use Rattle.joining.proofs.Calls as Calls
 use Rattle.joining.proofs.merge.merge_listed_queries.Statement.{statement}
 use Rattle.joining.proofs.merge.merge_listed_queries.Tie as tie

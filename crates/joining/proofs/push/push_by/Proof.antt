@@ -3,7 +3,7 @@ use borrow.Author.Needs.{needs}
 use Rattle.algebra.specs.Query.{joins, constants}
 use Rattle.lists.specs.Pairs.{keysOf}
 use Rattle.reading.proofs.Said as Said
-use Rattle.joining.proofs.Known as K
+use Rattle.projects.proofs.Known as K
 use Rattle.joining.proofs.Calls as Calls
 use Rattle.joining.proofs.push.push_by.Statement.{statement}
 use Rattle.joining.proofs.push.push_by.Tie as tie

@@ -1,9 +1,9 @@
--- `joining::merge/put_head` meets its contract. Assumes nothing.
+-- `projects::merge/put_head` meets its contract. Assumes nothing.
 use borrow.Author.Needs.{needs}
 use mathlib.Core.Path.{_≡_, refl, sym, ap, _∙_}
-use Rattle.joining.proofs.Whole as W
-use Rattle.joining.proofs.merge.put_head.Statement.{statement}
-use Rattle.joining.proofs.merge.put_head.Tie as tie
+use Rattle.projects.proofs.Whole as W
+use Rattle.projects.proofs.merge.put_head.Statement.{statement}
+use Rattle.projects.proofs.merge.put_head.Tie as tie
 
 pub put-head-spec : {M : Type 1} → statement M
 put-head-spec =

@@ -1,4 +1,4 @@
--- `joining::push/push_in_project` meets its contract. Assumes nothing.
+-- `projects::push/push_in_project` meets its contract. Assumes nothing.
 use borrow.Author.Needs.{needs}
 use mathlib.Core.Path.{_≡_, refl, sym, ap, _∙_}
 use native.Mathlib.Omega.{arith}
@@ -11,14 +11,14 @@ use lib.ListN.{take}
 use Rattle.algebra.specs.Layout.{layout}
 use Rattle.answers.specs.Outcome.{written}
 use Rattle.answers.specs.declared.Answer.the-variants as Ans
-use Rattle.joining.specs.Joining.{pushedBehind, mergedBehind, joinedBehind}
+use Rattle.projects.specs.Joining.{pushedBehind, mergedBehind, joinedBehind}
 use Rattle.names.proofs.Cleared.{zeros}
 use Rattle.sides.proofs.Trees as T
-use Rattle.joining.proofs.SideLines as S
-use Rattle.joining.proofs.Whole as W
+use Rattle.projects.proofs.SideLines as S
+use Rattle.projects.proofs.Whole as W
 use Rattle.answers.proofs.Answers as A
-use Rattle.joining.proofs.push.push_in_project.Statement.{statement}
-use Rattle.joining.proofs.push.push_in_project.Tie as tie
+use Rattle.projects.proofs.push.push_in_project.Statement.{statement}
+use Rattle.projects.proofs.push.push_in_project.Tie as tie
 
 prepare-requires : tie.Need-prepare-requires
 prepare-requires c κs = ((W.asked-of _ _ _ _ _ _ _ _ (c .before .before .before .before .before .before .before .before .before .before .pre .0 .0) [] (c .before .before .before .before .before .before .before .before .before .before .pre .0 .1) W.none-listed (c .before .before .before .before .before .before .before .before .before .before .pre .1)), W.letters .2, search needs, search needs, search needs, zeros 1024 .each, search needs, search needs, search needs)

@@ -33,10 +33,10 @@ use Rattle.merging.proofs.Given.{project-of}
 use Rattle.merging.proofs.Lines.{root-word}
 use Rattle.merging.proofs.Lists.{sorted-test}
 use Rattle.sides.specs.Listed.{positionsIn}
-use Rattle.joining.specs.Joining.{KnownTerms, ListsRead, bothTerms, TermsChecked, ListsChecked, pushedBehind, mergedBehind, joinedBehind}
-use Rattle.joining.proofs.Picks.{positions-are}
-use Rattle.joining.proofs.Merged.{lefts-are, rights-are}
-use Rattle.joining.proofs.Known.{good-terms, KnownJoins, good-joins}
+use Rattle.projects.specs.Joining.{KnownTerms, ListsRead, bothTerms, TermsChecked, ListsChecked, pushedBehind, mergedBehind, joinedBehind}
+use Rattle.projects.proofs.Picks.{positions-are}
+use Rattle.projects.proofs.Merged.{lefts-are, rights-are}
+use Rattle.projects.proofs.Known.{good-terms, KnownJoins, good-joins}
 
 -- ---- the checks of lists
 

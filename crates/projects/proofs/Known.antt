@@ -34,8 +34,8 @@ use Rattle.heads.specs.Known.{Known, KnownQuery}
 use Rattle.heads.specs.TreeAt.{TreeAt}
 use Rattle.heads.proofs.Queries.{query-valid, query-depth, query-names}
 use Rattle.sides.specs.Listed.{Listed, positionsIn}
-use Rattle.joining.specs.Joining.{Stands, Terms, KnownTerms}
-use Rattle.joining.proofs.Picks.{positions-are}
+use Rattle.projects.specs.Joining.{Stands, Terms, KnownTerms}
+use Rattle.projects.proofs.Picks.{positions-are}
 
 -- ---- trees
 

@@ -36,9 +36,9 @@ use Rattle.merging.proofs.Lists.{map-length}
 use Rattle.merging.specs.Push.{onlySide, pushConstantsInProjectPattern}
 use Rattle.merging.proofs.Lines.{push-lines}
 use Rattle.sides.specs.Columns.{columnsIn, picked}
-use Rattle.joining.specs.Joining.{Stands, KnownTerms, pushedBehind}
-use Rattle.joining.proofs.SideLines.{side, side-free}
-use Rattle.joining.proofs.Outcomes.{inside-sorted}
+use Rattle.projects.specs.Joining.{Stands, KnownTerms, pushedBehind}
+use Rattle.projects.proofs.SideLines.{side, side-free}
+use Rattle.projects.proofs.Outcomes.{inside-sorted}
 
 pub put-piece : (b c : Bytes) (e e′ : Em) → e′ ≡ puts b e → b ≡ c → e′ ≡ puts c e
 put-piece b c e e′ p q = p ∙ ap (λ (x : Bytes). puts x e) q

@@ -1,4 +1,4 @@
--- `joining::merge/merge_projects` meets its contract. Assumes nothing.
+-- `projects::merge/merge_projects` meets its contract. Assumes nothing.
 use borrow.Author.Needs.{needs}
 use mathlib.Core.Path.{_≡_, refl, sym, ap, _∙_}
 use native.Mathlib.Omega.{arith}
@@ -11,17 +11,17 @@ use lib.ListN.{take}
 use Rattle.algebra.specs.Layout.{layout}
 use Rattle.answers.specs.Outcome.{written}
 use Rattle.answers.specs.declared.Answer.the-variants as Ans
-use Rattle.joining.specs.Joining.{pushedBehind, mergedBehind, joinedBehind}
+use Rattle.projects.specs.Joining.{pushedBehind, mergedBehind, joinedBehind}
 use Rattle.names.proofs.Cleared.{zeros}
 use Rattle.sides.proofs.Trees as T
-use Rattle.joining.proofs.SideLines as S
-use Rattle.joining.proofs.Whole as W
-use Rattle.joining.proofs.Merged as M
-use Rattle.joining.proofs.Outcomes as O
+use Rattle.projects.proofs.SideLines as S
+use Rattle.projects.proofs.Whole as W
+use Rattle.projects.proofs.Merged as M
+use Rattle.projects.proofs.Outcomes as O
 use Rattle.answers.proofs.Answers as A
-use Rattle.joining.proofs.Pass as P
-use Rattle.joining.proofs.merge.merge_projects.Statement.{statement}
-use Rattle.joining.proofs.merge.merge_projects.Tie as tie
+use Rattle.projects.proofs.Pass as P
+use Rattle.projects.proofs.merge.merge_projects.Statement.{statement}
+use Rattle.projects.proofs.merge.merge_projects.Tie as tie
 
 prepare-requires : tie.Need-prepare-requires
 prepare-requires c κs = (W.asked-of _ _ _ _ _ _ _ _ (c .before .before .before .before .before .before .before .before .before .before .before .before .pre .0 .0) ((c .before .before .before .before .before .before .before .before .before .before .before .before .pre .2) .js) (c .before .before .before .before .before .before .before .before .before .before .before .before .pre .0 .1) ((c .before .before .before .before .before .before .before .before .before .before .before .before .pre .2) .joins) ((c .before .before .before .before .before .before .before .before .before .before .before .before .pre .2) .left), W.letters .0, search needs, search needs, search needs, zeros 1024 .each, search needs, search needs, search needs)

@@ -27,9 +27,9 @@ use Rattle.sides.specs.Listed.{positionsIn}
 use Rattle.sides.specs.Side.{maskAt, newNames, SideIs}
 use Rattle.sides.specs.declared.side.Side.{Side as FoundSide}
 use Rattle.sides.proofs.Masks.{mask-ones, countOf}
-use Rattle.joining.proofs.Picks.{picked-gone, picked-count}
-use Rattle.joining.proofs.Among.{picked-mem}
-use Rattle.joining.proofs.SideLines.{side, side-free}
+use Rattle.projects.proofs.Picks.{picked-gone, picked-count}
+use Rattle.projects.proofs.Among.{picked-mem}
+use Rattle.projects.proofs.SideLines.{side, side-free}
 
 -- ---- positions of a join list
 

@@ -15,7 +15,7 @@ use Rattle.scoping.proofs.Sets.{and-none}
 use Rattle.merging.specs.Names.{from, isAt}
 use Rattle.sides.specs.Columns.{picked}
 use Rattle.sides.specs.Side.{maskAt}
-use Rattle.joining.proofs.Picks.{picked-positions}
+use Rattle.projects.proofs.Picks.{picked-positions}
 
 -- a number is among those of a list
 number-in : (i : ℕ) (ps : List ℕ) (g : ℕ → Bytes) → isAt i ps ≡ true → mem (g i) (map g ps) ≡ true

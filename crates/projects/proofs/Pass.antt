@@ -19,10 +19,10 @@ use Rattle.sides.specs.Columns.{columnsIn, maskOf, picked, goneBits}
 use Rattle.sides.specs.Listed.{positionsIn, Kept, termsFrom}
 use Rattle.sides.specs.Side.{TreeIn, Renames, SideIs, joinLine, valuesLines}
 use Rattle.sides.specs.declared.side.Side.{Side}
-use Rattle.joining.specs.Joining.{Stands, Lists}
-use Rattle.joining.proofs.SideLines.{side-is}
-use Rattle.joining.proofs.Merged.{merged-lines}
-use Rattle.joining.proofs.Whole.{pass-two, merged}
+use Rattle.projects.specs.Joining.{Stands, Lists}
+use Rattle.projects.proofs.SideLines.{side-is}
+use Rattle.projects.proofs.Merged.{merged-lines}
+use Rattle.projects.proofs.Whole.{pass-two, merged}
 
 -- what put_side promises, from one state of the output to another
 abbrev SideWritten : Bytes → List ℕ → List ℕ → List ℕ → ℕ → List ℕ → List ℕ → List ℕ → Side → List ℕ → Bytes → List ℕ → List ℕ → Em → Em → Type 0

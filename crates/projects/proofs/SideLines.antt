@@ -23,7 +23,7 @@ use Rattle.sides.specs.Columns.{columnsIn, picked}
 use Rattle.sides.specs.Listed.{positionsIn, termsFrom}
 use Rattle.sides.specs.Side.{maskAt, newNames, SideIs, joinLine, valuesLines}
 use Rattle.sides.specs.declared.side.Side.{Side as FoundSide}
-use Rattle.joining.proofs.Picks.{mask-picks, free-columns, constant-columns, constant-terms}
+use Rattle.projects.proofs.Picks.{mask-picks, free-columns, constant-columns, constant-terms}
 
 module _ (text : Bytes) (starts sizes : List ℕ) (n prefix : ℕ) (second : Bool) (constants : Bytes) (x : Projection) (js ks : List Pair) (pool targets spans line at lines : List ℕ) (s : FoundSide)
     (is : SideIs text starts sizes n prefix second constants x js ks pool targets spans line at lines s) where

@@ -1,0 +1,222 @@
+// merge_project_patterns for two projects.
+use answers::Answer;
+use emit::put_all;
+use sides::columns::joined_mask;
+use sides::columns::put_columns;
+use sides::columns::width;
+use sides::side::Prepared;
+use sides::side::Side;
+use sides::side::prepare;
+use sides::side::put_side;
+use text::piece;
+ghost use mathlib.Core.Path.{_≡_};
+ghost use Prim.Native.Nat.{_-_, _≤_};
+ghost use mathlib.Core.List.{List, [], _∷_, _++_};
+ghost use lib.ListN.{length, take};
+ghost use lib.Count.{ones};
+ghost use Rattle.text.specs.Text.{Line, textOf};
+ghost use Rattle.text.specs.Word.{bytes};
+ghost use Rattle.emit.specs.Emit.{em, puts};
+ghost use Rattle.algebra.specs.Query.{Pair};
+ghost use Rattle.answers.specs.Outcome.{Answered};
+ghost use Rattle.merging.specs.Request.{Projection, tree};
+ghost use Rattle.sides.specs.Columns.{columnsIn, picked};
+ghost use Rattle.projects.specs.Joining.{Stands, Lists, joinedBehind, ListsRead};
+
+const PROJECT: [u8; 7] = *b"project";
+
+const JOIN: [u8; 6] = *b"\njoin\n";
+
+// The head, the merged columns, and the join's line.
+fn put_head(
+    left: &[u8],
+    from: usize,
+    left_line: &[u8],
+    l: Side,
+    right_line: &[u8],
+    r: Side,
+    gone: u64,
+    out: &mut [u8],
+) -> usize
+    requires { ⌜ (l .end ≤ length (now «left_line»)) × (ones (l .constant) ≤ l .columns) × (l .columns - ones (l .constant) ≡ length (picked 0 (l .constant) (columnsIn (now «left_line») (l .end)))) × (r .end ≤ length (now «right_line»)) × (ones gone ≤ r .columns) × (r .columns - ones gone ≡ length (picked 0 gone (columnsIn (now «right_line») (r .end)))) ⌝ }
+    ensures { λ result. ⌜ ((t : List Line) → puts (textOf t) (em result (now (out .exit))) ≡ puts (take from (now (left .entry)) ++ textOf ((bytes "project" ∷ (picked 0 (l .constant) (columnsIn (now («left_line» .entry)) (l .end)) ++ picked 0 gone (columnsIn (now («right_line» .entry)) (r .end)))) ∷ (bytes "join" ∷ []) ∷ t)) (em 0 (now (out .entry)))) ⌝ }
+{
+    let a = put_all(out, 0, piece(left, 0, from));
+    let b = put_all(out, a, &PROJECT);
+    let c = put_columns(
+        left_line,
+        l.end,
+        l.constant,
+        0,
+        width(l.columns, l.constant),
+        out,
+        b,
+    );
+    let d = put_columns(right_line, r.end, gone, 0, width(r.columns, gone), out, c);
+    put_all(out, d, &JOIN)
+}
+
+// merge_project_patterns for two projects, behind the left text's head: names, masks, then measured and written.
+pub fn merge_projects(
+    left: &[u8],
+    left_from: usize,
+    left_starts: &[u16; 1024],
+    left_sizes: &[u16; 1024],
+    left_hints: &[u16; 4096],
+    left_n: usize,
+    right: &[u8],
+    right_from: usize,
+    right_starts: &[u16; 1024],
+    right_sizes: &[u16; 1024],
+    right_hints: &[u16; 4096],
+    right_n: usize,
+    pairs: &[u8],
+    left_constants: &[u8],
+    right_constants: &[u8],
+    out: &mut [u8],
+) -> Answer
+    requires { ⌜ ((x : Projection) × Stands (now left) «left_from» (now «left_starts») (now «left_sizes») (now «left_hints») «left_n» (tree x)) × ((y : Projection) × Stands (now right) «right_from» (now «right_starts») (now «right_sizes») (now «right_hints») «right_n» (tree y)) × ListsRead (now pairs) (now «left_constants») (now «right_constants») ⌝ }
+    ensures { λ r. ⌜ ((x y : Projection) (js ks ls : List Pair) → Stands (now (left .entry)) «left_from» (now («left_starts» .entry)) (now («left_sizes» .entry)) (now («left_hints» .entry)) «left_n» (tree x) → Stands (now (right .entry)) «right_from» (now («right_starts» .entry)) (now («right_sizes» .entry)) (now («right_hints» .entry)) «right_n» (tree y) → Lists (now (pairs .entry)) (now («left_constants» .entry)) (now («right_constants» .entry)) js ks ls → Answered (joinedBehind (take «left_from» (now (left .entry))) x y js ks ls) (now (out .entry)) (now (out .exit)) r) ⌝ }
+{
+    let mut left_pool = [0u8; 16384];
+    let mut left_targets = [0u16; 1024];
+    let mut left_spans = [0u16; 1024];
+    let mut left_line = [0u8; 8336];
+    let mut left_at = [0u16; 64];
+    let mut left_lines = [0u16; 64];
+    let Prepared::Ready(l) = prepare(
+        left,
+        left_from,
+        left_starts,
+        left_sizes,
+        left_hints,
+        left_n,
+        b'l',
+        pairs,
+        false,
+        left_constants,
+        &mut left_pool,
+        &mut left_targets,
+        &mut left_spans,
+        &mut left_line,
+        &mut left_at,
+        &mut left_lines,
+    ) else {
+        return Answer::Outside;
+    };
+    let mut right_pool = [0u8; 16384];
+    let mut right_targets = [0u16; 1024];
+    let mut right_spans = [0u16; 1024];
+    let mut right_line = [0u8; 8336];
+    let mut right_at = [0u16; 64];
+    let mut right_lines = [0u16; 64];
+    let Prepared::Ready(r) = prepare(
+        right,
+        right_from,
+        right_starts,
+        right_sizes,
+        right_hints,
+        right_n,
+        b'r',
+        pairs,
+        true,
+        right_constants,
+        &mut right_pool,
+        &mut right_targets,
+        &mut right_spans,
+        &mut right_line,
+        &mut right_at,
+        &mut right_lines,
+    ) else {
+        return Answer::Outside;
+    };
+    let gone = joined_mask(&right_line, r.end, r.constant, &left_line, l.end, l.joined);
+    let mut spare = [0u8; 16384];
+    let a = put_head(
+        left,
+        left_from,
+        &left_line,
+        l,
+        &right_line,
+        r,
+        gone,
+        &mut spare,
+    );
+    let b = put_side(
+        left,
+        left_starts,
+        left_sizes,
+        left_hints,
+        left_n,
+        &left_pool,
+        &left_targets,
+        &left_spans,
+        l,
+        &left_line,
+        left_constants,
+        &left_at,
+        &left_lines,
+        &mut spare,
+        a,
+    );
+    let size = put_side(
+        right,
+        right_starts,
+        right_sizes,
+        right_hints,
+        right_n,
+        &right_pool,
+        &right_targets,
+        &right_spans,
+        r,
+        &right_line,
+        right_constants,
+        &right_at,
+        &right_lines,
+        &mut spare,
+        b,
+    );
+    if out.len() < size {
+        return Answer::TooShort;
+    }
+    if size <= 16384 {
+        let copied = put_all(out, 0, piece(&spare, 0, size));
+        return Answer::Written(copied);
+    }
+    let c = put_head(left, left_from, &left_line, l, &right_line, r, gone, out);
+    let d = put_side(
+        left,
+        left_starts,
+        left_sizes,
+        left_hints,
+        left_n,
+        &left_pool,
+        &left_targets,
+        &left_spans,
+        l,
+        &left_line,
+        left_constants,
+        &left_at,
+        &left_lines,
+        out,
+        c,
+    );
+    let put = put_side(
+        right,
+        right_starts,
+        right_sizes,
+        right_hints,
+        right_n,
+        &right_pool,
+        &right_targets,
+        &right_spans,
+        r,
+        &right_line,
+        right_constants,
+        &right_at,
+        &right_lines,
+        out,
+        d,
+    );
+    Answer::Written(put)
+}
