@@ -5,6 +5,7 @@ pub mod Runs
 pub mod Readers
 pub mod Writes
 pub mod Theorem
+pub mod Told
 pub mod Cycle
 pub mod LineLaws
 pub mod WholeLaws

@@ -35,11 +35,11 @@ use Rattle.scoping.proofs.Alike.{rename-alike}
 use Rattle.passing.proofs.Readers.{pass-reads}
 use Rattle.passing.proofs.Writes.{walked, Under, Writes, wrote, broke, pass-writes}
 
-is-went : Result → Bool
+unfoldable pub is-went : Result → Bool
 is-went (went st) = true
 is-went (fault n) = false
 
-went-is : (a b : State) → went a ≡ went b → a ≡ b
+pub went-is : (a b : State) → went a ≡ went b → a ≡ b
 went-is a b e = ap or e
   where
     or : Result → State
