@@ -1,8 +1,8 @@
 -- The fields of a line, each read once: what is left is written as the whole is. Assumes nothing.
-use Prim.Native.Nat.{ℕ, zero, suc, _+_, _-_, _≤_, _<_}
-use mathlib.Core.Path.{_≡_, refl, sym, _∙_, ap, ap₂, subst}
-use mathlib.Core.List.{List, [], _∷_, _++_, append-assoc, append-nil}
-use mathlib.Core.Bool.{Bool, true, false, cond, not, _&&_, false≢true, true≢false}
+use Prim.Native.Nat.{ℕ, suc, _+_, _-_, _≤_, _<_}
+use mathlib.Core.Path.{_≡_, refl, sym, _∙_, ap, subst}
+use mathlib.Core.List.{List, [], _∷_, _++_, append-assoc}
+use mathlib.Core.Bool.{Bool, true, false, cond, not, false≢true}
 use mathlib.Core.Option.{Option, none, some}
 use native.Mathlib.Omega.{arith}
 use native.Mathlib.Decide.{decLt}
@@ -10,91 +10,33 @@ use lib.ListN.{length, getD, take, drop, length-append, length-drop}
 use lib.Seq.{getD-drop}
 use borrow.Author.Tests.{not-true, not-false, ne-eqb}
 use lib.Dec.{eqb}
-use Rattle.text.specs.Text.{Bytes, same, part, First}
-use Rattle.text.specs.Word.{bytes}
-use Rattle.text.specs.Field.{Kind, variable, node, plain, name, constant, cell, integer, limit, flag, opaque, lexical, absent, tag, datatype, form, clean, isVar, isKind, fits, numberOf}
-use Rattle.text.specs.declared.Number.{Number}
-use Rattle.text.specs.declared.Number.the-variants.{Is, Not}
-use Rattle.text.specs.Code.{numberIn}
+use Rattle.text.specs.Text.{Bytes, same, part}
+use Rattle.text.specs.Field.{Kind, cell, isVar, fits}
 use Rattle.cursor.specs.declared.Cursor.{Cursor}
 use Rattle.cursor.specs.Cursor.{left}
 use Rattle.cursor.proofs.Laws.{Next, left-none}
 use Rattle.algebra.specs.Reader.{kept}
 use Rattle.algebra.specs.Valid.{mem}
 use Rattle.algebra.specs.Tally.{notes}
-use Rattle.algebra.specs.Table.{Slot, term, text, count, choice, Tail, nothing, texts, triples, patterns, expressions, rows, orders, aggregates, Row, rowsOf, rowFor}
-use Rattle.words.specs.Code.{mapped, tailOf, sortAt}
+use Rattle.algebra.specs.Table.{Slot, term, text, nothing}
 use Rattle.names.specs.Names.{Holds}
 use Rattle.names.proofs.Laws.{holds-long}
 use Rattle.emit.specs.Emit.{Em, em, puts}
 use Rattle.emit.proofs.Laws.{puts-append}
-use Rattle.lines.specs.Line.{Took, took, takeField, takeTimes, takeTail}
-use Rattle.lines.specs.Steps.{InLine, leftAt, Follows, restOf, termsOf, termsIn, numberTaken, oneSlot}
+use Rattle.lines.specs.Line.{Took, took, takeField}
+use Rattle.lines.specs.Steps.{InLine, leftAt, Follows, restOf, termsOf, oneSlot}
 use Rattle.lines.proofs.StepLaw.{Failed, left-is, clean-field}
-use Rattle.lines.proofs.RepeatLaw.{follows-along, follows-fine}
-use Rattle.lines.proofs.FieldsLaw.{choice-small, choice-large}
+use Rattle.lines.proofs.RepeatLaw.{follows-along}
 use Rattle.scoping.specs.Sets.{Once}
 use Rattle.scoping.specs.Places.{Mark}
-use Rattle.walking.specs.Walk.{Output, output, writes, opened, putField, putFields, putLine}
+use Rattle.walking.specs.Walk.{Output, output, writes, opened, putField, putFields}
 use Rattle.walking.proofs.Written.{cell-fixed}
-use Rattle.passing.specs.declared.fields.Judged.{Judged}
-use Rattle.passing.specs.Code.{Judges, Mild, Even, Behind, pending, Wrote}
-use Rattle.passing.proofs.Extend.{Extends, extends-same, extends-on, notes-on, notes-hold}
-use Rattle.passing.proofs.Rows.{row-every, Inner, triples-inner, columns-inner, rows-inner, orders-inner, aggregates-inner, Upper, patterns-upper, expressions-upper, plain-mild}
+use Rattle.passing.specs.declared.slots.Judged.{Judged}
+use Rattle.passing.specs.Code.{Judges, Even, Behind, pending, Wrote}
+use Rattle.passing.proofs.Extend.{Extends, extends-on, notes-on, notes-hold}
 use Rattle.passing.proofs.Held.{none-some, kept-is, taking, opened-on}
 use Rattle.passing.proofs.InkLaws.{part-join, back, fields-step, less-one, term-open as term-may}
 use Rattle.passing.proofs.LineLaws.{once-notes}
-
--- ---- what a field is
-
-abbrev judged : Bool → ℕ → Judged
-judged b n = record { good = b; number = n }
-
-module _ (κ : Kind) (f : Bytes) where
-  pub judge-kind : (role : ℕ) (b : Bool) → role ≤ 2 → (role ≡ 0 → ⊥) → b ≡ isKind κ f → Judges role κ f (judged b 0)
-  unfolding oneSlot fits
-  judge-kind zero b h z is = absurd (z refl)
-  judge-kind (suc zero) b h z is = record { takes = λ c fs. rw (c, sym is); small = omega arith }
-  judge-kind (suc (suc zero)) b h z is = record { takes = λ c fs. rw (c, sym is); small = omega arith }
-  judge-kind (suc (suc (suc role))) b h z is = absurd (omega arith)
-
-  module _ (role : ℕ) (n : Number) (is : numberIn n ≡ numberOf f) where
-    counted : (fs : List Bytes) (v : ℕ) → n ≡ Is v → takeField count (f ∷ fs) ≡ some (took fs [] v)
-    counted fs v q = rw (← is, q)
-
-    pub judge-count : (v : ℕ) → role ≡ 3 → n ≡ Is v → v < 4294967296 → Judges role κ f (judged true v)
-    unfolding oneSlot kept
-    judge-count v e q small = record { takes = λ c fs. rw e (counted fs v q); small = small }
-
-    chosen-slot : (role : ℕ) → 2 < role → (role ≡ 3 → ⊥) → (oneSlot role κ ≡ choice) × (eqb role 1 ≡ false)
-    unfolding oneSlot
-    chosen-slot zero h z = absurd (omega arith)
-    chosen-slot (suc zero) h z = absurd (omega arith)
-    chosen-slot (suc (suc zero)) h z = absurd (omega arith)
-    chosen-slot (suc (suc (suc zero))) h z = absurd (z refl)
-    chosen-slot (suc (suc (suc (suc r)))) h z = (refl, ne-eqb (suc (suc (suc (suc r)))) 1 (λ q. omega (arith, q)))
-
-    pub judge-big : (v : ℕ) → 2 < role → (role ≡ 3 → ⊥) → n ≡ Is v → 1 < v → Judges role κ f (judged false 0)
-    unfolding kept
-    judge-big v h z q big = record { takes = λ c fs. let x = chosen-slot role h z in rw (x .0) (choice-large (f ∷ fs) (subst (λ (o : Option Took). 1 < numberTaken o) (sym (counted fs v q)) big)); small = omega arith }
-
-    pub judge-choice : (v : ℕ) → 2 < role → (role ≡ 3 → ⊥) → n ≡ Is v → v ≤ 1 → Judges role κ f (judged true v)
-    unfolding kept
-    judge-choice v h z q low = record { takes = λ c fs. let x = chosen-slot role h z in rw (x .0, x .1) (choice-small (f ∷ fs) (subst (λ (o : Option Took). numberTaken o ≤ 1) (sym (counted fs v q)) low) ∙ counted fs v q); small = omega arith }
-
-    uncounted : (fs : List Bytes) → n ≡ Not → takeField count (f ∷ fs) ≡ none
-    uncounted fs q = rw (← is, q)
-
-    pub judge-not : 2 < role → n ≡ Not → Judges role κ f (judged false 0)
-    unfolding oneSlot kept
-    judge-not h q = record { takes = λ c fs. go role h fs; small = omega arith }
-      where
-        go : (role : ℕ) → 2 < role → (fs : List Bytes) → takeField (oneSlot role κ) (f ∷ fs) ≡ kept false (took fs (cond (eqb role 1) (f ∷ []) []) 0)
-        go zero h fs = absurd (omega arith)
-        go (suc zero) h fs = absurd (omega arith)
-        go (suc (suc zero)) h fs = absurd (omega arith)
-        go (suc (suc (suc zero))) h fs = uncounted fs q
-        go (suc (suc (suc (suc r)))) h fs = choice-small (f ∷ fs) (subst (λ (o : Option Took). numberTaken o ≤ 1) (sym (uncounted fs q)) (omega arith)) ∙ uncounted fs q
 
 -- ---- the slots of a line, one taken away
 
@@ -175,7 +117,7 @@ first-byte : (xs : Bytes) → 0 < length xs → take 1 xs ≡ getD xs 0 0 ∷ []
 first-byte [] h = absurd (omega arith)
 first-byte (x ∷ xs) h = refl
 
-single : (s : Bytes) (i j : ℕ) → j ≡ suc i → i < length s → part i j s ≡ getD s i 0 ∷ []
+pub single : (s : Bytes) (i j : ℕ) → j ≡ suc i → i < length s → part i j s ≡ getD s i 0 ∷ []
 single s i j q h =
     let z : j - i ≡ 1 = omega arith in
     let l : length (drop i s) ≡ length s - i = length-drop i s in
@@ -334,73 +276,3 @@ module _ (new : Bytes → Bytes) (m : Mark) (stays : Bool) (s : Bytes) (ss ts us
 
 pub twice-on : (us₁ us₂ want : List Bytes) → Extends want (notes us₂ (notes us₁ want))
 twice-on us₁ us₂ want = extends-on (notes-on us₁ want) (notes-on us₂ (notes us₁ want))
-
--- ---- what stands behind the slots
-
-pub cells-are : (w : ℕ) (t : Tail) (l : List Bytes) → t ≡ texts cell → takeTail t w l ≡ takeTimes w (text cell) l
-unfolding takeTail
-cells-are w t l e = rw e
-
-is-cell : Kind → Bool
-is-cell variable = false
-is-cell node = false
-is-cell plain = false
-is-cell name = false
-is-cell constant = false
-is-cell cell = true
-is-cell integer = false
-is-cell limit = false
-is-cell flag = false
-is-cell opaque = false
-is-cell lexical = false
-is-cell absent = false
-is-cell tag = false
-is-cell datatype = false
-is-cell form = false
-
-pub mild-nothing : (k : ℕ) → (k ≡ 1 → ⊥) → (k ≡ 2 → ⊥) → (k ≡ 3 → ⊥) → Mild (tailOf k) → tailOf k ≡ nothing
-unfolding Mild is-cell
-mild-nothing zero a b c m = refl
-mild-nothing (suc zero) a b c m = absurd (a refl)
-mild-nothing (suc (suc zero)) a b c m = absurd (b refl)
-mild-nothing (suc (suc (suc zero))) a b c m = absurd (c refl)
-mild-nothing (suc (suc (suc (suc zero)))) a b c m = absurd (false≢true (ap is-cell m))
-mild-nothing (suc (suc (suc (suc (suc zero))))) a b c m = absurd m
-mild-nothing (suc (suc (suc (suc (suc (suc zero)))))) a b c m = absurd m
-mild-nothing (suc (suc (suc (suc (suc (suc (suc k))))))) a b c m = refl
-
-pub nothing-bare : (t : Tail) (w : ℕ) (l : List Bytes) → t ≡ nothing → termsIn (takeTail t w l) ≡ []
-unfolding takeTail
-nothing-bare t w l e = rw e
-
--- ---- a whole line
-
-module _ (new : Bytes → Bytes) (m : Mark) (stays : Bool) (s : Bytes) (ns : List Bytes) (row : Row) (from word end at : ℕ) (o fl : List ℕ) (d : Cursor) (held to to′ : ℕ) (o′ fl′ o″ : List ℕ)
-    (wrote : Wrote new m stays s ns (row .slots) (record { at = word + 1; end = end; height = 0 }) (pending s from (word + 1) at o fl) [] d (pending s held (d .at) to o′ fl′)) where
-  pub line-wrote : d .at ≡ end + 1 → d .end ≡ end → Behind s d held → end < length s → getD s end 0 ≡ 10 → stays ≡ same (part from word s) (bytes "service") → em to′ o″ ≡ puts (part held (end + 1) s) (em to o′)
-      → output to′ o″ fl′ ≡ putLine ns new m row (part from word s) (left s (word + 1) end) (output at o fl)
-  unfolding Wrote putLine putFields
-  line-wrote past same-end behind less ten is put =
-      let low = behind .low in
-      let z : d .at - 1 ≡ end = omega arith in
-      let y : word + 1 - 1 ≡ word = omega arith in
-      let none-left : leftAt s d ≡ [] = left-none s (d .at) (d .end) (omega arith) in
-      let one : part end (end + 1) s ≡ 10 ∷ [] = single s end (end + 1) (omega arith) less ∙ ap (λ (b : ℕ). b ∷ []) ten in
-      let all : puts (part held (end + 1) s) (em to o′) ≡ puts (10 ∷ []) (puts (part held end s) (em to o′)) =
-      ap (λ (b : Bytes). puts b (em to o′)) (sym (part-join s held end (end + 1) (omega arith) (omega arith)) ∙ ap (λ (b : Bytes). part held end s ++ b) one) ∙ puts-append (part held end s) (10 ∷ []) (em to o′) in
-      ap (λ (x : Em). record { em = x; flags = fl′ }) (put ∙ all)
-      ∙ ap (writes (10 ∷ []))
-      (ap (λ (k : ℕ). writes (part held k s) (output to o′ fl′)) (sym z)
-      ∙ ap (λ (l : List Bytes). putFields (ns ++ []) new m stays [] 0 l (pending s held (d .at) to o′ fl′)) (sym none-left)
-      ∙ wrote []
-      ∙ (λ i. putFields (append-nil ns i) new m (is i) (row .slots) 0 (left s (word + 1) end) (writes (part from (y i) s) (output at o fl))))
-
-pub sort-mild : (sort : ℕ) (w : Bytes) (r : Row) → sort ≤ 6 → rowFor (sortAt sort) w ≡ some r → Mild (r .tail)
-sort-mild zero w r h q = row-every Inner (rowsOf triples) w r triples-inner q .1
-sort-mild (suc zero) w r h q = row-every Inner (rowsOf (sortAt 1)) w r columns-inner q .1
-sort-mild (suc (suc zero)) w r h q = plain-mild (r .tail) (row-every Upper (rowsOf patterns) w r patterns-upper q .0)
-sort-mild (suc (suc (suc zero))) w r h q = plain-mild (r .tail) (row-every Upper (rowsOf expressions) w r expressions-upper q .0)
-sort-mild (suc (suc (suc (suc zero)))) w r h q = row-every Inner (rowsOf rows) w r rows-inner q .1
-sort-mild (suc (suc (suc (suc (suc zero))))) w r h q = row-every Inner (rowsOf orders) w r orders-inner q .1
-sort-mild (suc (suc (suc (suc (suc (suc zero)))))) w r h q = row-every Inner (rowsOf aggregates) w r aggregates-inner q .1
-sort-mild (suc (suc (suc (suc (suc (suc (suc k))))))) w r h q = absurd (omega arith)

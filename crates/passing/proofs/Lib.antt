@@ -10,4 +10,6 @@ pub mod Cycle
 pub mod LineLaws
 pub mod WholeLaws
 pub mod InkLaws
+pub mod JudgeLaws
 pub mod FieldLaws
+pub mod TailLaws

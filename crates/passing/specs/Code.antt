@@ -20,7 +20,7 @@ use Rattle.lines.specs.Steps.{leftAt, oneSlot}
 use Rattle.scoping.specs.Places.{Mark}
 use Rattle.walking.specs.Walk.{Output, output, writes, putFields}
 use Rattle.walking.specs.Code.{markAt}
-use Rattle.passing.specs.declared.fields.Judged.{Judged}
+use Rattle.passing.specs.declared.slots.Judged.{Judged}
 use Rattle.passing.specs.declared.line.Place.{Place}
 use Rattle.passing.specs.declared.line.Lined.{Lined}
 use Rattle.passing.specs.Pass.{State, state, Result, went, fault, Going, lineThen}

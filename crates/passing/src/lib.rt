@@ -2,5 +2,6 @@
 pub mod fields;
 pub mod ink;
 pub mod line;
+pub mod slots;
 pub mod tree;
 pub mod whole;

@@ -3,7 +3,7 @@ use borrow.Author.Needs.{needs}
 use mathlib.Core.Path.{_≡_, refl, sym, _∙_, ap}
 use native.Mathlib.Omega.{arith}
 use mathlib.Core.List.{[]}
-use Rattle.passing.proofs.FieldLaws as F
+use Rattle.passing.proofs.TailLaws as F
 use Rattle.passing.proofs.LineLaws as L
 use Rattle.passing.proofs.line.row_line.Statement.{statement}
 use Rattle.passing.proofs.line.row_line.Tie as tie

@@ -1,4 +1,4 @@
--- `passing::fields/pass_slot` meets its contract. Assumes nothing.
+-- `passing::slots/pass_slot` meets its contract. Assumes nothing.
 use borrow.Author.Needs.{needs}
 use mathlib.Core.Path.{_≡_, refl, sym, _∙_, ap}
 use native.Mathlib.Omega.{arith}
@@ -12,8 +12,8 @@ use Rattle.lines.specs.Line.{Took}
 use Rattle.lines.specs.Steps.{restOf, termsOf, numberTaken, oneSlot}
 use Rattle.lines.proofs.StepLaw as S
 use Rattle.passing.proofs.FieldLaws as F
-use Rattle.passing.proofs.fields.pass_slot.Statement.{statement}
-use Rattle.passing.proofs.fields.pass_slot.Tie as tie
+use Rattle.passing.proofs.slots.pass_slot.Statement.{statement}
+use Rattle.passing.proofs.slots.pass_slot.Tie as tie
 
 pub pass-slot-spec : {M : Type 1} → statement M
 pass-slot-spec =

@@ -1,10 +1,10 @@
--- `passing::fields/judge` meets its contract. Assumes nothing.
+-- `passing::slots/judge` meets its contract. Assumes nothing.
 use borrow.Author.Needs.{needs}
 use mathlib.Core.Path.{_≡_, refl, sym, _∙_, ap}
 use native.Mathlib.Omega.{arith}
-use Rattle.passing.proofs.FieldLaws as F
-use Rattle.passing.proofs.fields.judge.Statement.{statement}
-use Rattle.passing.proofs.fields.judge.Tie as tie
+use Rattle.passing.proofs.JudgeLaws as F
+use Rattle.passing.proofs.slots.judge.Statement.{statement}
+use Rattle.passing.proofs.slots.judge.Tie as tie
 
 pub judge-spec : {M : Type 1} → statement M
 judge-spec =

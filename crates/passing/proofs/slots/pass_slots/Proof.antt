@@ -1,4 +1,4 @@
--- `passing::fields/pass_slots` meets its contract. Assumes nothing.
+-- `passing::slots/pass_slots` meets its contract. Assumes nothing.
 use borrow.Author.Needs.{needs}
 use mathlib.Core.Path.{_≡_, refl, sym, _∙_, ap}
 use native.Mathlib.Omega.{arith}
@@ -14,8 +14,8 @@ use Rattle.lines.proofs.SlotLaw as L
 use Rattle.lines.proofs.RepeatLaw as R
 use Rattle.passing.proofs.Extend.{notes-on}
 use Rattle.passing.proofs.FieldLaws as F
-use Rattle.passing.proofs.fields.pass_slots.Statement.{statement}
-use Rattle.passing.proofs.fields.pass_slots.Tie as tie
+use Rattle.passing.proofs.slots.pass_slots.Statement.{statement}
+use Rattle.passing.proofs.slots.pass_slots.Tie as tie
 
 pub pass-slots-spec : {M : Type 1} → statement M
 unfolding notes
