@@ -3,13 +3,14 @@
 
     bench_texts.py FOLDER
 
-writes NAME.scope, NAME.rename, NAME.merge and NAME.push, what the program of that name reads, for each NAME:
+writes NAME.scope, NAME.rename, NAME.merge, NAME.push, NAME.bindings and NAME.filters, what the program of that name reads, for each NAME:
 lines10, lines50, lines200   ordinary queries of that many lines
 names1024                    16,384 bytes but for less than a line, with 1,024 short names
 names12                      16,384 bytes but for less than a line, with 12 names
 A mapping renames every third name of an ordinary query, and 64 names (or all) at the bounds. A merge has two such trees, without
 the `distinct` of the others. For an ordinary query it joins the first columns and has a constant on the left's last column; at the
-bounds it joins half of the columns, and a quarter has constants, on both sides. A push has the left side's constants.
+bounds it joins half of the columns, and a quarter has constants, on both sides. A push has the left side's constants. Bindings
+are a set of four rows at the first two columns, and at the bounds one of 16 rows at the first eight; filters are three, and at the bounds 64.
 """
 
 import itertools
@@ -114,13 +115,29 @@ def lists_at_bounds(tree):
     return "".join(f"{position}\t{position}\n" for position in half), constants(quarter), constants(quarter)
 
 
-def input_texts(tree, step, left, right, short, lists):
-    """What each program reads; `short` is a tree that leaves room for a query's head."""
+def bindings(width, rows):
+    """A set at the first columns."""
+    row = " ".join(["row"] + ["Iri http://example.org/grid/r%d -", "Int %d <http://www.w3.org/2001/XMLSchema#int>"] * (width // 2))
+    places = " ".join(map(str, range(width)))
+    return laid(f"set {width} {rows}", f"at {places}", *[row % ((number,) * width) for number in range(rows)])
+
+
+def filters(width, many):
+    """Filters that compare columns with values, and now and then a column's language tag."""
+    compare = ["bin Unequals", "ref %d", "leaf Iri http://example.org/grid/r1 -"]
+    tag = ["bin Equals", "un LanguageTag", "ref %d", "leaf PlainString en -"]
+    return laid(*[line.replace("%d", str(number % width)) for number in range(many) for line in (tag if number % 3 == 2 else compare)])
+
+
+def input_texts(tree, step, left, right, short, lists, placed):
+    """What each program reads; `short` is a tree that leaves room for a query's head, `placed` are binding sets and filters."""
     return {
         "scope": [tree],
         "rename": [tree, mapping(tree, step)],
         "merge": [left, right, *lists],
         "push": [HEAD + short, lists[1]],
+        "bindings": [tree, placed[0]],
+        "filters": [tree, placed[1]],
     }
 
 
@@ -128,10 +145,10 @@ def texts():
     """Each name with what the programs read."""
     for lines in (10, 50, 200):
         left = projected(lines)
-        yield f"lines{lines}", input_texts(ordinary(lines), 3, left, projected(lines, 5), left, lists_of_ordinary(left))
+        yield f"lines{lines}", input_texts(ordinary(lines), 3, left, projected(lines, 5), left, lists_of_ordinary(left), (bindings(2, 4), filters(2, 3)))
     for name, own, step in (("names1024", short_names(), 16), ("names12", [thing(number) for number in range(12)], 1)):
         tree = at_bounds(own)
-        yield name, input_texts(tree, step, tree, at_bounds(own[::-1]), at_bounds(own, trees.BYTES - len(HEAD)), lists_at_bounds(tree))
+        yield name, input_texts(tree, step, tree, at_bounds(own[::-1]), at_bounds(own, trees.BYTES - len(HEAD)), lists_at_bounds(tree), (bindings(8, 16), filters(8, 64)))
 
 
 def main():

@@ -1,5 +1,5 @@
 #!/usr/bin/env python3
-"""Random inputs of the programs `merge`, `merge_queries`, `push` and `negate`. A seed always gives the same inputs.
+"""Random inputs of the programs `merge`, `merge_queries`, `push`, `negate`, `bindings` and `filters`. A seed always gives the same inputs.
 
     inputs.py PROGRAM COUNT SEED    prints COUNT inputs, each followed by a line ====
 
@@ -17,6 +17,7 @@ sys.path.append(str(pathlib.Path(__file__).resolve().parent.parent / "tests"))
 
 import random_texts
 import trees
+import values
 
 # The kinds of text that a program reads, in order.
 TEXTS = {
@@ -24,6 +25,8 @@ TEXTS = {
     "merge_queries": ["query", "query", "joins", "constants", "constants"],
     "push": ["query", "constants"],
     "negate": ["query"],
+    "bindings": ["tree", "bindings"],
+    "filters": ["tree", "filters"],
 }
 BAR = b"--\n"
 HUGE = 4294967295
@@ -50,6 +53,13 @@ def lines(text):
 def columns(tree):
     """The columns of a tree whose root is project, or None."""
     first = trees.records(tree)[0] if tree else [b""]
+    return first[1:] if first[0] == b"project" else None
+
+
+def outermost(tree):
+    """The columns of a tree's outermost projection, or None."""
+    passed = (b"distinct", b"reduced", b"slice", b"orderby", b"group", b"cols")
+    first = next((fields for fields in trees.records(tree) if fields[0] not in passed), [b""])
     return first[1:] if first[0] == b"project" else None
 
 
@@ -177,10 +187,22 @@ class Inputs:
         return [query(self.head(), tree), self.constants(self.width(tree))]
 
     def negate(self):
-        return [query(self.head(), self.rng.choice([self.outer, self.outer, self.tree])(trees.name_pool(self.rng)))]
+        return [query(self.head(), self.placed())]
 
-    def width(self, tree):
-        found = columns(tree)
+    def bindings(self):
+        tree = self.placed()
+        return [tree, values.Values(self.rng).bindings(self.width(tree, outermost))]
+
+    def filters(self):
+        tree = self.placed()
+        return [tree, values.Values(self.rng).filters(self.width(tree, outermost))]
+
+    def placed(self):
+        """A tree, most often with an outermost projection."""
+        return self.rng.choice([self.outer, self.outer, self.tree])(trees.name_pool(self.rng))
+
+    def width(self, tree, of=columns):
+        found = of(tree)
         return self.rng.randint(1, 3) if found is None else len(found)
 
     def spoiled(self, kinds, texts):

@@ -1,10 +1,11 @@
-"""The numbers with which document 01 refuses the inputs of `merge`, `merge_queries`, `push` and `negate`: the input itself, its
-texts in their order (by the second reader of tests/), then 5, 4, 3. Whether the answer is too long (6) is for its length to say.
+"""The numbers with which document 01 refuses the inputs of `merge` to `filters`: the input itself, its texts in their order (by the
+second reader of tests/), then 5, 4, 3, 7. Whether the answer is too long (6) is for its length to say. And what the Rust does there.
 """
 
 import inputs
 import second_reader
 import trees
+import values
 
 ROOM = 65536  # bytes of an input, and of an answer
 MERGEABLE = (b"select", b"ask")
@@ -62,9 +63,62 @@ def of_negate(query):
     return 0
 
 
-OF = {"merge": of_trees, "merge_queries": of_queries, "push": of_push, "negate": of_negate}
+def of_bindings(tree, sets):
+    """3, 7 or 0."""
+    columns, records = inputs.outermost(tree), trees.records(sets)
+    if columns is None or not records:
+        return 0
+    if outside(columns, (int(field) for fields in records if fields[0] == b"at" for field in fields[1:])):
+        return 3
+    return 7 if any(domain in values.UNUSABLE for fields in records if fields[0] == b"row" for domain in fields[1::3]) else 0
+
+
+def of_filters(tree, filters):
+    """3 or 0."""
+    columns = inputs.outermost(tree)
+    references = (int(fields[1]) for fields in trees.records(filters) if fields[0] == b"ref")
+    return 3 if columns is not None and outside(columns, references) else 0
+
+
+OF = {"merge": of_trees, "merge_queries": of_queries, "push": of_push, "negate": of_negate, "bindings": of_bindings, "filters": of_filters}
+RUST = {3: b"panicked\n", 4: b"none\n", 5: b"none\n", 7: b"panicked\n"}
 
 
 def number(program, case):
     """The number of an input, 0 if there is to be an answer of whatever length."""
     return malformed(program, case) or OF[program](*inputs.parted(case))
+
+
+class Filter:
+    """Goes through filters as functions.rs does, and keeps the references that it looks up."""
+
+    def __init__(self, text):
+        self.lines, self.seen = iter(trees.records(text)), []
+        for fields in self.lines:
+            self.part(fields, True)
+
+    def part(self, fields, looking):
+        """Whether a part can be expressed; it is looked at only if the parts before it could be."""
+        word = fields[0]
+        if word == b"ref":
+            self.seen += [int(fields[1])] * looking
+            return True
+        if word == b"leaf":
+            return fields[1] not in values.UNUSABLE + [b"Null", b"Other"]
+        count = values.PARTS.get(word) or int(fields[2])
+        fine, looking = True, looking and word in (b"un", b"bin")
+        for _ in range(count):
+            fine = self.part(next(self.lines), looking and fine) and fine
+        return fine and fields[1] in EXPRESSED.get(word, ())
+
+
+EXPRESSED = {b"un": (b"Datatype", b"LanguageTag"), b"bin": (b"Equals", b"Unequals")}
+
+
+def rust(program, case):
+    """What the Rust writes for an input that is refused by 3, 4, 5 or 7; None where it has an answer all the same."""
+    found = RUST.get(number(program, case))
+    if found is None or program != "filters":
+        return found
+    tree, filters = inputs.parted(case)
+    return found if outside(inputs.outermost(tree), Filter(filters).seen) else None

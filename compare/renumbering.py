@@ -124,7 +124,7 @@ def comparable(program, case, answer):
     """Whether the answer is a renamed tree with an order of its own: no name ends in LabelLabel, no term stands twice in a
     constant list."""
     texts = inputs.parted(case)
-    if answer.startswith(b"refused") or program == "negate":
+    if answer.startswith(b"refused"):
         return False
     if program == "push" and (refusals.head_and_tree(texts[0])[0][0] not in refusals.MERGEABLE or inputs.columns(own_trees(program, texts)[0]) is None):
         return False

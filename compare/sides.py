@@ -9,7 +9,7 @@ import tempfile
 
 HERE = pathlib.Path(__file__).resolve().parent
 ROOM = 65536  # bytes of a program's answer; a longer one is refusal 6
-PROGRAMS = ["scope", "rename", "merge", "merge_queries", "push", "negate"]  # by their kinds in `vectors`
+PROGRAMS = ["scope", "rename", "merge", "merge_queries", "push", "negate", "bindings", "filters"]  # by their kinds in `vectors`
 
 
 def build(rust, out):

@@ -1,26 +1,18 @@
-/* The public calls for C: link target/staticlib/libgandeuch.a, which `rt staticlib gandeuch` writes.
+/* Gandeuch for C: SPARQL query rewriting that is proved right. Link libgandeuch.a; `./install PREFIX` puts it, this header and a
+ * pkg-config file there. docs/SPECIFICATION.md says what the texts are and what each call answers; examples/merge.c is an example.
  *
- * A text is a pointer and a number of bytes; no byte is special, and no zero byte ends it. A call returns document 01's
- * number:
- *
- *   0  the answer stands in the first `*size` bytes of `out`; the bytes behind it are unchanged
- *   1  a text is malformed
- *   2  a text is over a bound
- *   3  a position is outside its projection
- *   4  a root isn't project
- *   5  the heads of two queries differ, or their kind can't be merged
- *   6  the answer is longer than `out_size`
- *
- * Where the number isn't 0, `*size` is 0 and `out` is unchanged. Texts are checked in the order of the parameters (1, 2); then
- * 5, 4, 3, 6 in this order, as far as a call has them.
+ * A text is a pointer and a number of bytes; no byte is special, and no zero byte ends it. A call returns a number: 0, and the answer
+ * stands in the first `*size` bytes of `out`, the bytes behind it unchanged; or the number of a refusal, and `*size` is 0 and `out` is
+ * unchanged. Texts are checked in the order of the parameters (1, 2); then come 5, 4, 3, 7, 6 in this order, as far as a call has them.
  *
  * Every text is allowed. What a caller owes is what C asks of any such call, as nothing in C can test it:
  *
- * - no pointer is null, also where the number of bytes beside it is 0;
+ * - no pointer is null, also where the number of bytes beside it is 0: an empty text is "" and 0;
  * - each pointer is good for as many bytes as the number beside it says, at most PTRDIFF_MAX, and a text's bytes have
  *   values;
  * - `out` overlaps no text, and `size` lies in none of them, nor in `out`;
- * - nothing else writes the texts, or reads or writes `out` and `size`, before the call returns.
+ * - nothing else writes the texts, or reads or writes `out` and `size`, before the call returns;
+ * - GANDEUCH_STACK bytes of stack are left.
  *
  * The calls keep nothing between calls, so threads may call them at the same time, and use no heap.
  */
@@ -29,6 +21,37 @@
 
 #include <stddef.h>
 #include <stdint.h>
+
+#define GANDEUCH_VERSION "0.1.0"
+
+/* What a call returns. */
+enum {
+    GANDEUCH_WRITTEN = 0,       /* the answer stands in `out` */
+    GANDEUCH_MALFORMED = 1,     /* a text is malformed */
+    GANDEUCH_OVER_BOUND = 2,    /* a text is over a bound */
+    GANDEUCH_OUTSIDE = 3,       /* a position is outside its projection */
+    GANDEUCH_NOT_PROJECT = 4,   /* a root isn't project */
+    GANDEUCH_NOT_MERGEABLE = 5, /* the heads of two queries differ, or their kind can't be merged */
+    GANDEUCH_TOO_SHORT = 6,     /* the answer is longer than `out_size` */
+    GANDEUCH_NOT_USABLE = 7     /* a value can't be used */
+};
+
+/* The stack that a call needs, with room to spare: bench/stack measures it. */
+#define GANDEUCH_STACK ((size_t)262144)
+
+/* A text of more bytes is over a bound. */
+#define GANDEUCH_TEXT ((size_t)16384)
+
+/* How many bytes to lend as `out`, from the sizes of the texts: a call that is lent so many never returns GANDEUCH_TOO_SHORT. It is proved
+ * (crates/room). For texts within their bound no sum is too large for 32 bits. */
+#define GANDEUCH_SCOPE_ROOM(tree_size) ((size_t)(tree_size) + 1)
+#define GANDEUCH_RENAME_ROOM(tree_size) (44 * (size_t)(tree_size))
+#define GANDEUCH_MERGE_ROOM(left_size, right_size, left_constants_size, right_constants_size) \
+    (3 * ((size_t)(left_size) + (size_t)(right_size)) + (size_t)(left_constants_size) + (size_t)(right_constants_size))
+#define GANDEUCH_PUSH_ROOM(query_size, constants_size) (3 * (size_t)(query_size) + (size_t)(constants_size))
+#define GANDEUCH_NEGATE_ROOM(query_size) ((size_t)(query_size) + 24)
+#define GANDEUCH_BINDINGS_ROOM(tree_size, sets_size) ((size_t)(tree_size) + 65 * (size_t)(sets_size))
+#define GANDEUCH_FILTERS_ROOM(tree_size, filters_size) ((size_t)(tree_size) + 24 * (size_t)(filters_size))
 
 #ifdef __cplusplus
 extern "C" {
@@ -70,6 +93,19 @@ uint8_t gandeuch_push_constants(const uint8_t *query, size_t query_size,
  * has no such projection. Numbers 1, 2, 6. */
 uint8_t gandeuch_negate(const uint8_t *query, size_t query_size,
                         uint8_t *out, size_t out_size, size_t *size);
+
+/* bindings: the tree with the pattern below its outermost projection joined with the Values of each binding set, at the columns of its line
+ * `at`. It is copied if there is no set or no such projection. Numbers 1, 2, 3, 7, 6; 3 for a position outside the projection, 7 for
+ * a value of the domains Tuple and Map. */
+uint8_t gandeuch_bindings(const uint8_t *tree, size_t tree_size,
+                          const uint8_t *sets, size_t sets_size,
+                          uint8_t *out, size_t out_size, size_t *size);
+
+/* filters: the tree with those filters that can be expressed in SPARQL put below its outermost projection. It is copied if there is none, or no
+ * such projection. Numbers 1, 2, 3, 6; 3 for any reference outside the projection, also in a filter that can't be expressed. */
+uint8_t gandeuch_filters(const uint8_t *tree, size_t tree_size,
+                         const uint8_t *filters, size_t filters_size,
+                         uint8_t *out, size_t out_size, size_t *size);
 
 #ifdef __cplusplus
 }

@@ -11,7 +11,8 @@ How the numbers were obtained: each text but the damaged random ones at the
 end is made together with its number, written by hand from document 01 and the
 recorded readings of its open corners: text by text in small_texts and
 bound_texts.py; here, for each sort of field and each specimen, for each place
-and each form, for each domain and each extra. The program stops if
+and each form, for each domain and each extra; and in the examples of
+docs/SPECIFICATION.md and docs/VARIANTS.md. The program stops if
 second_reader.py gives another number. A damaged random text has the number of
 second_reader.py.
 
@@ -24,6 +25,7 @@ import re
 import sys
 
 import bound_texts
+import specification
 from random_texts import damaged, well_formed, write
 from second_reader import KINDS, number
 
@@ -394,6 +396,13 @@ def random_cases():
             record(kind, "random-%s-%d-damaged" % (kind, i), hurt, number(kind, hurt))
 
 
+# 6. The examples of the documents.
+
+def documented():
+    for label, kind, data, expect in specification.texts():
+        case(expect, kind, "documented-" + label, data)
+
+
 if __name__ == "__main__":
     if len(sys.argv) != 2:
         sys.exit("usage: make_texts.py OUTDIR")
@@ -401,4 +410,5 @@ if __name__ == "__main__":
         section()
     bound_texts.add(case)
     random_cases()
+    documented()
     write(RECORDS, sys.argv[1])

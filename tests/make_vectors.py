@@ -5,8 +5,9 @@
 
 writes OUTDIR/cases and OUTDIR/expected, the same bytes each time. First come
 the cases of vectors/, whose answers are those of nemo's Rust, then the inputs
-below and in written_merges.py, whose answers are written by hand from document
-01 and the recorded readings of its open corners.
+below, in written_merges.py and written_placings.py, whose answers are written by hand from document
+01 and the recorded readings of its open corners, then the calls of
+docs/SPECIFICATION.md. It stops where second_calls.py writes another answer.
 
 vectors/NAME.txt: a head, then the cases; a line ==== follows each of them. A
 case is what the program NAME reads, a line ->, and what it must write. `%` and
@@ -14,17 +15,20 @@ two hexadecimal digits stand for a byte.
 
 cases: for each record a line `DIGIT TAB LENGTH TAB LABEL`, then LENGTH bytes
 and a line end; DIGIT is the program: 0 scope, 1 rename, 2 merge, 3
-merge_queries, 4 push, 5 negate. expected: for each record a line with its
-label, then what the program writes.
+merge_queries, 4 push, 5 negate, 6 bindings, 7 filters. expected: for each record
+a line with its label, then what the program writes.
 """
 import os
 import sys
 import urllib.parse
 
+import second_calls
+import specification
 import written_merges
+import written_placings
 from written_texts import BAR, LONG, MALFORMED, OVER, padded, refused, text
 
-PROGRAMS = ["scope", "rename", "merge", "merge_queries", "push", "negate"]
+PROGRAMS = ["scope", "rename", "merge", "merge_queries", "push", "negate", "bindings", "filters"]
 HERE = os.path.dirname(os.path.abspath(__file__))
 
 
@@ -81,7 +85,9 @@ def records():
     for program in PROGRAMS:
         for number, (given, answer) in enumerate(recorded(program), 1):
             yield program, "%s-%d" % (program, number), given, answer
-    for program, name, given, answer in WRITTEN + written_merges.WRITTEN:
+    for program, name, given, answer in WRITTEN + written_merges.WRITTEN + written_placings.WRITTEN:
+        yield program, "%s-%s" % (program, name), given, answer
+    for program, name, given, answer in specification.calls():
         yield program, "%s-%s" % (program, name), given, answer
 
 
@@ -89,6 +95,7 @@ def main(outdir):
     os.makedirs(outdir, exist_ok=True)
     with open(os.path.join(outdir, "cases"), "wb") as cases, open(os.path.join(outdir, "expected"), "wb") as expected:
         for program, label, given, answer in records():
+            assert second_calls.answer(program, given) == answer, label
             cases.write(b"%d\t%d\t%s\n" % (PROGRAMS.index(program), len(given), label.encode()))
             cases.write(given + b"\n")
             expected.write(label.encode() + b"\n" + answer)

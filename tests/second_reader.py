@@ -12,18 +12,19 @@ first thing wrong ends the reading, so the order of the numbers is the order
 of the statements: whole length; then line by line, on a line first its form
 (1) and then the bounds (2); then missing and left-over lines (1).
 
-    python3 second_reader.py KIND FILE      prints the number
+    python3 second_reader.py KIND FILE      prints the number, and on standard error at which line the text
+                                            was refused and what was wanted there
 """
 import re
 import sys
 
 
 class Malformed(Exception):
-    pass
+    """With what was wanted."""
 
 
 class OverBound(Exception):
-    pass
+    """With the bound."""
 
 
 # Fields. Any byte but 9 and 10 may stand in one.
@@ -103,7 +104,7 @@ class Text:
         """The fields of the next line; a missing or an unended one is malformed."""
         end = self.data.find(b"\n", self.place)
         if end < 0:
-            raise Malformed
+            raise Malformed("a line end" if self.more() else "one more line")
         fields = self.data[self.place:end].split(b"\t")
         self.place = end + 1
         self.lines += 1
@@ -112,8 +113,11 @@ class Text:
     def within(self, *terms, depth=1, columns=0, entry=1):
         """The bounds, for a line that is well formed; terms may be variables."""
         self.names.update(t for t in terms if variable(t))
-        if self.lines > 2048 or depth > 64 or columns > 64 or entry > 64 or len(self.names) > 1024:
-            raise OverBound
+        bounds = {"2048 lines": self.lines > 2048, "depth 64": depth > 64, "64 columns": columns > 64,
+                  "64 entries": entry > 64, "1024 variables": len(self.names) > 1024}
+        for bound, passed in bounds.items():
+            if passed:
+                raise OverBound(bound)
 
     # Patterns
 
@@ -176,7 +180,7 @@ class Text:
                 self.within(s, depth=depth)
                 self.pattern(below)
             case _:
-                raise Malformed
+                raise Malformed("a pattern")
 
     # Lines that add no depth: those of a bgp, values, orderby or group
 
@@ -185,21 +189,21 @@ class Text:
             case [b"t", s, p, o] if term(s) and name(p) and term(o):
                 self.within(s, p, o)
             case _:
-                raise Malformed
+                raise Malformed("`t`, subject, predicate, object")
 
     def columns(self, width):
         match self.line():
             case [b"cols", *columns] if len(columns) == width and all(map(variable, columns)):
                 self.within(*columns)
             case _:
-                raise Malformed
+                raise Malformed("`cols` and as many variables as said above")
 
     def row(self, width):
         match self.line():
             case [b"row", *cells] if len(cells) == width and all(map(cell, cells)):
                 self.within()
             case _:
-                raise Malformed
+                raise Malformed("`row` and as many cells as columns")
 
     def condition(self, below):
         match self.line():
@@ -207,7 +211,7 @@ class Text:
                 self.within()
                 self.expression(below)
             case _:
-                raise Malformed
+                raise Malformed("`asc` or `desc`")
 
     def aggregate(self, below):
         match self.line():
@@ -217,7 +221,7 @@ class Text:
             case [b"aggall", v, distinct] if variable(v) and flag(distinct):
                 self.within(v)
             case _:
-                raise Malformed
+                raise Malformed("`agg`, variable, name, 0 or 1; or `aggall`, variable, 0 or 1")
 
     # Expressions
 
@@ -244,7 +248,7 @@ class Text:
             case [b"call", function, n] if opaque(function) and integer(n):
                 names, children = [], int(n)
             case _:
-                raise Malformed
+                raise Malformed("an expression")
         self.within(*names, depth=depth)
         for _ in range(children):
             self.expression(depth + 1)
@@ -254,7 +258,7 @@ class Text:
     def tree(self):
         self.pattern()
         if self.more():
-            raise Malformed
+            raise Malformed("the end of the text")
 
     def query(self):
         match self.line():
@@ -262,7 +266,7 @@ class Text:
                     if opaque(dataset) and opaque(base):
                 self.within()
             case _:
-                raise Malformed
+                raise Malformed("`query`, kind, dataset, base")
         self.tree()
 
     def joins(self):
@@ -273,7 +277,7 @@ class Text:
                 case [left, right] if integer(left) and integer(right):
                     self.within(entry=entry)
                 case _:
-                    raise Malformed
+                    raise Malformed("two positions")
 
     def constants(self):
         positions = []
@@ -283,7 +287,7 @@ class Text:
                     positions.append(position)
                     self.within(entry=len(positions))
                 case _:
-                    raise Malformed
+                    raise Malformed("a new position and an IRI or literal")
 
     def mapping(self):
         sources = []
@@ -293,7 +297,7 @@ class Text:
                     sources.append(source)
                     self.within(source, target, entry=len(sources))
                 case _:
-                    raise Malformed
+                    raise Malformed("a new variable and a variable")
 
     def bindings(self):
         entry = 0
@@ -307,19 +311,19 @@ class Text:
                 self.within(entry=entry)
                 width, rows = int(m), int(k)
             case _:
-                raise Malformed
+                raise Malformed("`set` and two numbers")
         match self.line():
             case [b"at", *positions] if len(positions) == width and all(map(integer, positions)):
                 self.within()
             case _:
-                raise Malformed
+                raise Malformed("`at` and as many positions as said above")
         for _ in range(rows):
             match self.line():
                 case [b"row", *fields] if len(fields) == 3 * width and all(
                         value(*fields[i:i + 3]) for i in range(0, len(fields), 3)):
                     self.within()
                 case _:
-                    raise Malformed
+                    raise Malformed("`row` and as many values as positions")
 
     def filters(self):
         entry = 0
@@ -342,7 +346,7 @@ class Text:
             case [b"nary", function, n] if opaque(function) and integer(n):
                 parts = int(n)
             case _:
-                raise Malformed
+                raise Malformed("a filter")
         self.within(depth=depth, entry=entry)
         for _ in range(parts):
             self.part(depth + 1, entry)
@@ -352,21 +356,32 @@ KINDS = ["tree", "query", "joins", "constants", "mapping", "bindings", "filters"
 
 
 def number(kind, data):
+    return explained(kind, data)[0]
+
+
+def explained(kind, data):
+    """The number, and where and why the text was refused."""
     if kind not in KINDS:
         raise ValueError("no such kind of text: " + kind)
+    if len(data) > 16384:
+        return 2, "the text has more than 16384 bytes"
+    text = Text(data)
     try:
-        if len(data) > 16384:
-            raise OverBound
-        getattr(Text(data), kind)()
-    except Malformed:
-        return 1
-    except OverBound:
-        return 2
-    return 0
+        getattr(text, kind)()
+    except Malformed as wanted:
+        line = text.lines + (str(wanted) in ("a line end", "one more line", "the end of the text"))
+        found = data.split(b"\n")[line - 1].decode("utf-8", "replace").replace("\t", " ")
+        return 1, "line %d: wanted %s, found: %s" % (line, wanted, found or "nothing")
+    except OverBound as bound:
+        return 2, "line %d: over the bound of %s" % (text.lines, bound)
+    return 0, None
 
 
 if __name__ == "__main__":
     if len(sys.argv) != 3 or sys.argv[1] not in KINDS:
         sys.exit("usage: second_reader.py " + "|".join(KINDS) + " FILE")
     with open(sys.argv[2], "rb") as file:
-        print(number(sys.argv[1], file.read()))
+        found, reason = explained(sys.argv[1], file.read())
+    if reason:
+        print(reason, file=sys.stderr)
+    print(found)

@@ -13,9 +13,12 @@
 
 #[allow(dead_code)]
 mod functions;
+mod opaque;
 #[allow(dead_code)]
 mod queries;
 mod read;
+#[allow(dead_code, unused_imports)]
+mod tree;
 mod write;
 
 use std::collections::HashSet;
@@ -23,7 +26,7 @@ use std::io::{Read, Write};
 use std::{env, fs, hint, io, panic, time};
 
 use oxrdf::Variable;
-use read::Places;
+use opaque::Places;
 
 enum Mode {
     Scope,

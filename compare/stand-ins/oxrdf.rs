@@ -1,4 +1,4 @@
-//! The types of oxrdf that nemo's query rewriting names. Each keeps its text; nothing is checked.
+//! The types of oxrdf that nemo's query rewriting and the crate's layout name, in the real crate's shape. Nothing is checked.
 
 use std::hash::{Hash, Hasher};
 
@@ -93,36 +93,55 @@ impl BlankNode {
     }
 }
 
-/// A literal in N-Triples form; its lexical form is escaped already.
+/// An IRI that is lent.
+#[derive(Debug, Clone, Copy, PartialEq, Eq, Hash)]
+pub struct NamedNodeRef<'a> {
+    iri: &'a str,
+}
+
+impl<'a> NamedNodeRef<'a> {
+    pub fn as_str(self) -> &'a str {
+        self.iri
+    }
+}
+
+/// A literal by its lexical form, not escaped, and its language tag or datatype.
 #[derive(Debug, Clone, PartialEq, Eq, Hash)]
-pub struct Literal {
-    text: String,
+pub struct Literal(LiteralContent);
+
+#[derive(Debug, Clone, PartialEq, Eq, Hash)]
+enum LiteralContent {
+    String(String),
+    LanguageTaggedString { value: String, language: String },
+    TypedLiteral { value: String, datatype: NamedNode },
 }
 
 impl Literal {
-    /// From N-Triples form. Not in oxrdf.
-    pub fn from_text(text: impl Into<String>) -> Self {
-        Self { text: text.into() }
-    }
-
-    /// In N-Triples form. Not in oxrdf.
-    pub fn text(&self) -> &str {
-        &self.text
-    }
+    const STRING: &'static str = "http://www.w3.org/2001/XMLSchema#string";
+    const LANG_STRING: &'static str = "http://www.w3.org/1999/02/22-rdf-syntax-ns#langString";
 
     pub fn new_simple_literal(value: impl Into<String>) -> Self {
-        Self::from_text(format!("\"{}\"", value.into()))
+        Self(LiteralContent::String(value.into()))
     }
 
+    /// The datatype xsd:string makes a simple literal.
     pub fn new_typed_literal(value: impl Into<String>, datatype: impl Into<NamedNode>) -> Self {
-        Self::from_text(format!("\"{}\"^^<{}>", value.into(), datatype.into().iri))
+        let (value, datatype) = (value.into(), datatype.into());
+        Self(if datatype.as_str() == Self::STRING {
+            LiteralContent::String(value)
+        } else {
+            LiteralContent::TypedLiteral { value, datatype }
+        })
     }
 
     pub fn new_language_tagged_literal_unchecked(
         value: impl Into<String>,
         language: impl Into<String>,
     ) -> Self {
-        Self::from_text(format!("\"{}\"@{}", value.into(), language.into()))
+        Self(LiteralContent::LanguageTaggedString {
+            value: value.into(),
+            language: language.into(),
+        })
     }
 
     pub fn new_language_tagged_literal(
@@ -130,5 +149,29 @@ impl Literal {
         language: impl Into<String>,
     ) -> Result<Self, String> {
         Ok(Self::new_language_tagged_literal_unchecked(value, language))
+    }
+
+    pub fn value(&self) -> &str {
+        match &self.0 {
+            LiteralContent::String(value)
+            | LiteralContent::LanguageTaggedString { value, .. }
+            | LiteralContent::TypedLiteral { value, .. } => value,
+        }
+    }
+
+    pub fn language(&self) -> Option<&str> {
+        match &self.0 {
+            LiteralContent::LanguageTaggedString { language, .. } => Some(language),
+            _ => None,
+        }
+    }
+
+    pub fn datatype(&self) -> NamedNodeRef<'_> {
+        let iri = match &self.0 {
+            LiteralContent::String(_) => Self::STRING,
+            LiteralContent::LanguageTaggedString { .. } => Self::LANG_STRING,
+            LiteralContent::TypedLiteral { datatype, .. } => datatype.as_str(),
+        };
+        NamedNodeRef { iri }
     }
 }

@@ -1,5 +1,5 @@
-//! The types of spargebra that nemo's query rewriting names.
-//! Paths, function and aggregate names, datasets and bases are opaque texts.
+//! The types of spargebra that nemo's query rewriting and the crate's layout name, in the real crate's shape. A base is a
+//! string; the real crate's is an IRI of another crate.
 
 pub mod term {
     pub use oxrdf::{BlankNode, Literal, NamedNode, Variable};
@@ -38,19 +38,84 @@ pub mod algebra {
     };
 
     #[derive(Debug, Clone, PartialEq, Eq, Hash)]
-    pub struct PropertyPathExpression(pub String);
+    pub enum PropertyPathExpression {
+        NamedNode(NamedNode),
+        Reverse(Box<Self>),
+        Sequence(Box<Self>, Box<Self>),
+        Alternative(Box<Self>, Box<Self>),
+        ZeroOrMore(Box<Self>),
+        OneOrMore(Box<Self>),
+        ZeroOrOne(Box<Self>),
+        NegatedPropertySet(Vec<NamedNode>),
+    }
 
     #[derive(Debug, Clone, PartialEq, Eq, Hash)]
-    pub struct AggregateFunction(pub String);
+    pub enum AggregateFunction {
+        Count,
+        Sum,
+        Avg,
+        Min,
+        Max,
+        GroupConcat { separator: Option<String> },
+        Sample,
+        Custom(NamedNode),
+    }
 
     #[derive(Debug, Clone, PartialEq, Eq, Hash)]
-    pub struct QueryDataset(pub String);
+    pub struct QueryDataset {
+        pub default: Vec<NamedNode>,
+        pub named: Option<Vec<NamedNode>>,
+    }
 
     #[derive(Debug, Clone, PartialEq, Eq, Hash)]
     pub enum Function {
-        Datatype,
+        Str,
         Lang,
-        Other(String),
+        LangMatches,
+        Datatype,
+        Iri,
+        BNode,
+        Rand,
+        Abs,
+        Ceil,
+        Floor,
+        Round,
+        Concat,
+        SubStr,
+        StrLen,
+        Replace,
+        UCase,
+        LCase,
+        EncodeForUri,
+        Contains,
+        StrStarts,
+        StrEnds,
+        StrBefore,
+        StrAfter,
+        Year,
+        Month,
+        Day,
+        Hours,
+        Minutes,
+        Seconds,
+        Timezone,
+        Tz,
+        Now,
+        Uuid,
+        StrUuid,
+        Md5,
+        Sha1,
+        Sha256,
+        Sha384,
+        Sha512,
+        StrLang,
+        StrDt,
+        IsIri,
+        IsBlank,
+        IsLiteral,
+        IsNumeric,
+        Regex,
+        Custom(NamedNode),
     }
 
     #[derive(Debug, Clone, PartialEq, Eq, Hash)]

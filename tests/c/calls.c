@@ -6,7 +6,7 @@
 
 #include "gandeuch.h"
 
-enum { AROUND = 64, ROOM = 1024, BUFFER = AROUND + ROOM + AROUND, LONGEST = 16384, ENTRIES = 64, TEXTS = 5, MADE = 8 };
+enum { AROUND = 64, ROOM = 1024, BUFFER = AROUND + ROOM + AROUND, LONGEST = 16384, ENTRIES = 64, TEXTS = 5, MADE = 10 };
 
 #define TREE "project\t?a\t?b\nminus\nbgp\t1\nt\t?a\t<p>\t?b\nservice\t?s\t0\nbgp\t1\nt\t?b\t<q>\t?c\n"
 #define SCOPE "in\t?a\t?b\nhid\t?a\t?b\t?c\n"
@@ -27,6 +27,12 @@ enum { AROUND = 64, ROOM = 1024, BUFFER = AROUND + ROOM + AROUND, LONGEST = 1638
 #define CONSTRUCT "query\tconstruct\t-\t-\n"
 #define PUSHED "project\t?v0\njoin\nbgp\t1\nt\t?v0\t<by>\t?v1\nvalues\t1\t1\ncols\t?v1\nrow\t<k>\n"
 #define NEGATED "distinct\nproject\t?event\t?relay\nfilter\nbgp\t0\nnot\nexists\nbgp\t1\nt\t?event\t<by>\t?relay\n"
+
+#define SETS "set\t1\t1\nat\t1\nrow\tIri\tk\t-\n"
+#define WITH_SETS "distinct\nproject\t?event\t?relay\njoin\nbgp\t1\nt\t?event\t<by>\t?relay\nvalues\t1\t1\ncols\t?relay\nrow\t<k>\n"
+#define FILTER "bin\tUnequals\nref\t1\nleaf\tIri\tk\t-\n"
+#define WITH_FILTER "distinct\nproject\t?event\t?relay\nfilter\nbgp\t1\nt\t?event\t<by>\t?relay\nnot\neq\nterm\t?relay\nterm\t<k>\n"
+#define BELOW_JOIN "join\nbgp\t0\nbgp\t0\n"
 
 struct text {
     const uint8_t *bytes;
@@ -60,6 +66,14 @@ static uint8_t push_constants(const struct text *texts, uint8_t *out, size_t out
 
 static uint8_t negate(const struct text *texts, uint8_t *out, size_t out_size, size_t *size) {
     return gandeuch_negate(GIVEN(0), out, out_size, size);
+}
+
+static uint8_t bindings(const struct text *texts, uint8_t *out, size_t out_size, size_t *size) {
+    return gandeuch_bindings(GIVEN(0), GIVEN(1), out, out_size, size);
+}
+
+static uint8_t filters(const struct text *texts, uint8_t *out, size_t out_size, size_t *size) {
+    return gandeuch_filters(GIVEN(0), GIVEN(1), out, out_size, size);
 }
 
 static int failures = 0;
@@ -192,6 +206,28 @@ static void negations(void) {
     expect("negate-over", negate, TEXTS_OF(repeated(SELECT "project", "\t?c%d", ENTRIES + 1, "\nbgp\t0\n")), 0, 2, "");
 }
 
+static void bindings_of_sets(void) {
+    const char *many = repeated("", "set\t1\t0\nat\t%d\n", ENTRIES + 1, "");
+    expect_in_rooms("bindings", bindings, TEXTS_OF(DISTINCT, SETS), WITH_SETS);
+    expect("bindings-no-sets", bindings, TEXTS_OF(DISTINCT), ROOM, 0, DISTINCT);
+    expect("bindings-no-projection", bindings, TEXTS_OF(BELOW_JOIN, "set\t1\t1\nat\t9\nrow\tMap\tx\t-\n"), ROOM, 0, BELOW_JOIN);
+    expect("bindings-bad-tree-first", bindings, TEXTS_OF(BAD, many), ROOM, 1, "");
+    expect("bindings-bad-sets", bindings, TEXTS_OF(LEFT, "set\t1\t0\n"), ROOM, 1, "");
+    expect("bindings-sets-over", bindings, TEXTS_OF(LEFT, many), ROOM, 2, "");
+    expect("bindings-outside", bindings, TEXTS_OF(LEFT, "set\t1\t1\nat\t0\nrow\tMap\tx\t-\nset\t1\t0\nat\t2\n"), 0, 3, "");
+    expect("bindings-not-usable", bindings, TEXTS_OF(LEFT, "set\t1\t1\nat\t0\nrow\tTuple\tx\t-\n"), 0, 7, "");
+}
+
+static void filters_placed(void) {
+    expect_in_rooms("filters", filters, TEXTS_OF(DISTINCT, FILTER), WITH_FILTER);
+    expect("filters-none", filters, TEXTS_OF(DISTINCT), ROOM, 0, DISTINCT);
+    expect("filters-dropped", filters, TEXTS_OF(LEFT, "un\tOther\nref\t0\n"), ROOM, 0, LEFT);
+    expect("filters-no-projection", filters, TEXTS_OF(BELOW_JOIN, "ref\t9\n"), ROOM, 0, BELOW_JOIN);
+    expect("filters-bad-tree-first", filters, TEXTS_OF(BAD, "ref\n"), ROOM, 1, "");
+    expect("filters-over", filters, TEXTS_OF(LEFT, repeated("", "ref\t0\n", ENTRIES + 1, "")), ROOM, 2, "");
+    expect("filters-outside-though-dropped", filters, TEXTS_OF(LEFT, "nary\tOther\t1\nref\t2\n"), 0, 3, "");
+}
+
 int main(void) {
     scopes();
     renames();
@@ -199,5 +235,7 @@ int main(void) {
     merges_of_queries();
     pushes();
     negations();
+    bindings_of_sets();
+    filters_placed();
     return failures ? EXIT_FAILURE : EXIT_SUCCESS;
 }

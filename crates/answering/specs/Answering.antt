@@ -7,11 +7,13 @@ use lib.Dec.{leb, eqb}
 use Rattle.text.specs.Text.{Bytes}
 use Rattle.parted.specs.Parted.{texts}
 use Rattle.answers.specs.Outcome.{Outcome, refused}
-use Rattle.gandeuch.specs.Scope.{scopeOutcome}
-use Rattle.gandeuch.specs.Rename.{renameOutcome}
+use Rattle.renaming.specs.Scope.{scopeOutcome}
+use Rattle.renaming.specs.Rename.{renameOutcome}
 use Rattle.merging.specs.Merge.{mergePatternsOutcome, mergeQueriesOutcome}
 use Rattle.merging.specs.Push.{pushConstantsOutcome}
 use Rattle.merging.specs.Negate.{negateOutcome}
+use Rattle.filtering.specs.Bindings.{bindingsOutcome}
+use Rattle.filtering.specs.Filters.{filtersOutcome}
 
 -- "at most 65,536 bytes (else 2, first), parted by … lines `--` (else 1)": with n such lines there are n + 1 texts, and the call decides
 unfoldable pub inputOutcome : ℕ → (List Bytes → Outcome) → Bytes → Outcome
@@ -41,3 +43,11 @@ pushInput = inputOutcome 1 (λ ts. pushConstantsOutcome (getD ts 0 []) (getD ts 
 -- the program `negate` reads a query
 abbrev pub negateInput : Bytes → Outcome
 negateInput = inputOutcome 0 (λ ts. negateOutcome (getD ts 0 []))
+
+-- the program `bindings` reads a tree and binding sets
+abbrev pub bindingsInput : Bytes → Outcome
+bindingsInput = inputOutcome 1 (λ ts. bindingsOutcome (getD ts 0 []) (getD ts 1 []))
+
+-- the program `filters` reads a tree and filters
+abbrev pub filtersInput : Bytes → Outcome
+filtersInput = inputOutcome 1 (λ ts. filtersOutcome (getD ts 0 []) (getD ts 1 []))

@@ -1,8 +1,8 @@
 // What the programs share: an input's texts go to a call, and its answer to standard output.
 use answers::Answer;
 use answers::number;
-use gandeuch::rename::rename;
-use gandeuch::scope::scope;
+use binding::bindings::bindings;
+use expressing::filters::filters;
 use joining::merge::merge_patterns;
 use joining::merge::merge_queries;
 use joining::push::push_constants;
@@ -10,9 +10,11 @@ use libc::STDOUT_FILENO;
 use negating::negate;
 use parted::bars;
 use parted::text_at;
+use renaming::rename::rename;
+use renaming::scope::scope;
 use text::piece;
 ghost use Rattle.answers.specs.Outcome.{Answered};
-ghost use Rattle.answering.specs.Answering.{scopeInput, renameInput, mergeInput, mergeQueriesInput, pushInput, negateInput};
+ghost use Rattle.answering.specs.Answering.{scopeInput, renameInput, mergeInput, mergeQueriesInput, pushInput, negateInput, bindingsInput, filtersInput};
 
 // The bytes of the longest input, and of the longest answer.
 const LIMIT: usize = 65536;
@@ -107,6 +109,32 @@ pub fn answer_negate(input: &[u8], out: &mut [u8]) -> Answer
         return Answer::Malformed;
     }
     negate(text_at(input, 0), out)
+}
+
+// The program `bindings`: a tree and binding sets.
+pub fn answer_bindings(input: &[u8], out: &mut [u8]) -> Answer
+    ensures { λ r. ⌜ Answered (bindingsInput (now (input .entry))) (now (out .entry)) (now (out .exit)) r ⌝ }
+{
+    if LIMIT < input.len() {
+        return Answer::OverBound;
+    }
+    if bars(input) != 1 {
+        return Answer::Malformed;
+    }
+    bindings(text_at(input, 0), text_at(input, 1), out)
+}
+
+// The program `filters`: a tree and filters.
+pub fn answer_filters(input: &[u8], out: &mut [u8]) -> Answer
+    ensures { λ r. ⌜ Answered (filtersInput (now (input .entry))) (now (out .entry)) (now (out .exit)) r ⌝ }
+{
+    if LIMIT < input.len() {
+        return Answer::OverBound;
+    }
+    if bars(input) != 1 {
+        return Answer::Malformed;
+    }
+    filters(text_at(input, 0), text_at(input, 1), out)
 }
 
 // The answer's bytes, or the line `refused` with its number: whether all was written.

@@ -1,6 +1,8 @@
 // Reads texts from standard input, parted by lines `--`, and makes a call of them as often as the first argument says and once
 // more, and writes the length of the answer and a mix of the lengths, which keeps every call in the compiled program. The second
-// argument is the call: 0 scope, 1 rename, 2 merge patterns, 3 merge queries, 4 push constants, 5 negate.
+// argument is the call: 0 scope, 1 rename, 2 merge patterns, 3 merge queries, 4 push constants, 5 negate, 6 bindings, 7 filters.
+use answering::answer_bindings;
+use answering::answer_filters;
 use answering::answer_merge;
 use answering::answer_merge_queries;
 use answering::answer_negate;
@@ -21,7 +23,9 @@ fn answer_to(kind: u32, input: &[u8], out: &mut [u8]) -> Answer {
         2 => answer_merge(input, out),
         3 => answer_merge_queries(input, out),
         4 => answer_push(input, out),
-        _ => answer_negate(input, out),
+        5 => answer_negate(input, out),
+        6 => answer_bindings(input, out),
+        _ => answer_filters(input, out),
     }
 }
 

@@ -1,5 +1,7 @@
 // The programs' answers: for each record of the file `cases` a line of its label, then what the program writes for its text.
-// The kinds are 0 scope, 1 rename, 2 merge, 3 merge_queries, 4 push and 5 negate.
+// The kinds are 0 scope, 1 rename, 2 merge, 3 merge_queries, 4 push, 5 negate, 6 bindings and 7 filters.
+use answering::answer_bindings;
+use answering::answer_filters;
 use answering::answer_merge;
 use answering::answer_merge_queries;
 use answering::answer_negate;
@@ -22,7 +24,9 @@ fn answer_to(kind: u32, input: &[u8], out: &mut [u8]) -> Answer {
         2 => answer_merge(input, out),
         3 => answer_merge_queries(input, out),
         4 => answer_push(input, out),
-        _ => answer_negate(input, out),
+        5 => answer_negate(input, out),
+        6 => answer_bindings(input, out),
+        _ => answer_filters(input, out),
     }
 }
 
@@ -36,7 +40,7 @@ fn turn(fd: i32, at: u64, window: &mut [u8], out: &mut [u8]) -> u64
     if r.kind == NONE {
         return next;
     }
-    if 5 < r.kind {
+    if 7 < r.kind {
         io::write_all(STDOUT_FILENO, b"bad record\n");
         return next;
     }

@@ -1,7 +1,7 @@
 -- `words::is_domain` meets its contract. Assumes nothing.
 use borrow.Author.Needs.{needs}
 use mathlib.Core.Path.{_≡_, refl, sym, _∙_, ap}
-use Rattle.words.proofs.Table as T
+use Rattle.words.proofs.Domains as D
 use Rattle.text.specs.Text.{same}
 use Rattle.words.proofs.is_domain.Statement.{statement}
 use Rattle.words.proofs.is_domain.Tie as tie
@@ -17,4 +17,4 @@ is-domain-spec =
     (λ c. search needs)
     (λ c κs. search needs)
     (λ c κs. search needs)
-    (λ c. c .equal .ensures ∙ ap (same _) (c .before .piece .ensures ∙ T.domain-right _ (c .before .before .before .before .pre))))
+    (λ c. c .equal .ensures ∙ ap (same _) (c .before .piece .ensures ∙ D.domain-right _ (c .before .before .before .before .pre))))

@@ -1,0 +1,12 @@
+// Reads a tree and filters from standard input, parted by a line `--`, and writes the tree with the filters below its outermost projection.
+use answering::answer_filters;
+use answering::write_answer;
+use libc::STDIN_FILENO;
+
+fn main() {
+    let mut input = [0u8; 65537];
+    let n = io::read_full(STDIN_FILENO, &mut input);
+    let mut out = [0u8; 65536];
+    let answer = answer_filters(&input[..n], &mut out);
+    write_answer(answer, &out);
+}

@@ -1,0 +1,22 @@
+-- `renaming::rename/rename` meets its contract. Assumes nothing.
+use borrow.Author.Needs.{needs}
+use Rattle.reading.specs.Variables.{treeNames}
+use Rattle.reading.proofs.Said as Said
+use Rattle.renaming.proofs.Tables as T
+use Rattle.renaming.proofs.Renamed as R
+use Rattle.renaming.proofs.rename.rename.Statement.{statement}
+use Rattle.renaming.proofs.rename.rename.Tie as tie
+
+pub rename-spec : {M : Type 1} → statement M
+rename-spec =
+    tie.close
+    (tie.spec
+    (λ c κs. search needs)
+    (λ c. search needs)
+    (λ c κs. T.good-known _ _ _ _ _ _ (c .before .before .before .before .before .before .before .check-tree .ensures) (c .before .before .before .before .before .n .given .1))
+    (λ c. search needs)
+    (λ c. search needs)
+    (λ c. search needs)
+    (λ c. search needs)
+    (λ c. R.tree-malformed _ _ _ (Said.said-malformed treeNames _ _ _ _ _ _ (c .before .before .check-tree .ensures) (c .enum-told .given .1)))
+    (λ c. R.tree-over _ _ _ (Said.said-over treeNames _ _ _ _ _ _ (c .before .before .check-tree .ensures) (c .enum-told2 .given .1))))

@@ -1,0 +1,22 @@
+-- `renaming::rename/rename_by` meets its contract. Assumes nothing.
+use borrow.Author.Needs.{needs}
+use Rattle.algebra.specs.Query.{mapping}
+use Rattle.lists.specs.Pairs.{keysOf}
+use Rattle.reading.proofs.Said as Said
+use Rattle.renaming.proofs.Renamed as R
+use Rattle.renaming.proofs.rename.rename_by.Statement.{statement}
+use Rattle.renaming.proofs.rename.rename_by.Tie as tie
+
+pub rename-by-spec : {M : Type 1} → statement M
+rename-by-spec =
+    tie.close
+    (tie.spec
+    (λ c κs. search needs)
+    (λ c. search needs)
+    (λ c κs. (c .before .before .before .before .before .before .before .before .before .before .pre, R.good-pairs _ _ _ _ _ _ (c .before .before .before .check-mapping .ensures) (c .before .enum-told .given .1)))
+    (λ c. search needs)
+    (λ c. search needs)
+    (λ c. search needs)
+    (λ c. search needs)
+    (λ c. R.mapping-malformed _ _ _ _ _ (c .before .before .before .before .before .before .before .before .before .pre) _ _ (Said.said-malformed (keysOf mapping) _ _ _ _ _ _ (c .before .before .check-mapping .ensures) (c .enum-told2 .given .1)))
+    (λ c. R.mapping-over _ _ _ _ _ (c .before .before .before .before .before .before .before .before .before .pre) _ _ (Said.said-over (keysOf mapping) _ _ _ _ _ _ (c .before .before .check-mapping .ensures) (c .enum-told3 .given .1))))

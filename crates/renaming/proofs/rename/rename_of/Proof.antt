@@ -1,0 +1,26 @@
+-- `renaming::rename/rename_of` meets its contract. Assumes nothing.
+use borrow.Author.Needs.{needs}
+use mathlib.Core.Path.{refl}
+use Rattle.names.proofs.Cleared.{zeros}
+use Rattle.renaming.proofs.Tables as T
+use Rattle.renaming.proofs.Renamed as R
+use Rattle.renaming.proofs.rename.rename_of.Statement.{statement}
+use Rattle.renaming.proofs.rename.rename_of.Tie as tie
+
+pub rename-of-spec : {M : Type 1} → statement M
+rename-of-spec =
+    tie.close
+    (tie.spec
+    (λ c κs. let k = c .before .before .before .before .before .pre in (R.pairs-short _ (k .1), (refl, refl), zeros 1024 .each, T.known-named _ _ _ _ _ (k .0)))
+    (λ c. search needs)
+    (λ c κs. search needs)
+    (λ c. search needs)
+    (λ c. search needs)
+    (λ c. search needs)
+    (λ c κs. search needs)
+    (λ c. search needs)
+    (λ c. search needs)
+    (λ c. search needs)
+    (λ c κs. search needs)
+    (λ c. search needs)
+    (λ c. search needs))

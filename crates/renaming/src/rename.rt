@@ -1,0 +1,257 @@
+// The call rename: a tree under the names that a mapping gives.
+use algebra::Answer as Check;
+use answers::Answer;
+use emit::put_all;
+use lists::check_mapping;
+use names::find_name;
+use reading::check_tree;
+use text::find;
+use text::piece;
+use walking::line::line_end;
+use walking::tree::rename_in_graph_pattern;
+ghost use mathlib.Core.Path.{_≡_};
+ghost use Prim.Native.Nat.{ℕ, _+_, _≤_};
+ghost use mathlib.Core.Bool.{cond, true};
+ghost use lib.ListN.{length, getD};
+ghost use Rattle.text.specs.Text.{Bytes, same, part};
+ghost use Rattle.names.specs.Names.{listing};
+ghost use Rattle.algebra.specs.Valid.{mem};
+ghost use Rattle.walking.specs.Code.{Named};
+ghost use Rattle.answers.specs.Outcome.{Answered};
+ghost use Rattle.renaming.specs.Rename.{renameOutcome};
+ghost use Rattle.heads.specs.Known.{Known};
+ghost use Rattle.renaming.specs.Code.{KnownPairs, Targets, Settled};
+
+// A line of the mapping, whose fields end at `to` and `end`: the entry of its first name, if it is in the table, gets the second.
+fn set_target(
+    tree: &[u8],
+    starts: &[u16; 1024],
+    sizes: &[u16; 1024],
+    hints: &[u16; 4096],
+    n: usize,
+    mapping: &[u8],
+    from: usize,
+    to: usize,
+    end: usize,
+    targets: &mut [u16; 1024],
+    spans: &mut [u16; 1024],
+)
+    requires { ⌜ (from ≤ to) × (to ≤ end) × (end ≤ length (now mapping)) × (length (now mapping) ≤ 16384) × ((length (now targets) ≡ 1024) × (length (now spans) ≡ 1024)) × Named (now tree) (now starts) (now sizes) (now hints) n ⌝ }
+    ensures { λ _. ⌜ Settled (listing (now (tree .entry)) (now (starts .entry)) (now (sizes .entry)) n) n (now (mapping .entry)) (part from to (now (mapping .entry))) (part (to + 1) end (now (mapping .entry))) (now (targets .entry)) (now (spans .entry)) (now (targets .exit)) (now (spans .exit)) ⌝ }
+{
+    let k = find_name(&mapping[from..to], tree, starts, sizes, hints, n);
+    if n <= k {
+        return;
+    }
+    if end <= to + 1 {
+        return;
+    }
+    targets[k] = (to + 1) as u16;
+    spans[k] = (end - to - 1) as u16;
+}
+
+// What the mapping makes of each name of the table, found once.
+fn find_targets(
+    tree: &[u8],
+    starts: &[u16; 1024],
+    sizes: &[u16; 1024],
+    hints: &[u16; 4096],
+    n: usize,
+    mapping: &[u8],
+    targets: &mut [u16; 1024],
+    spans: &mut [u16; 1024],
+)
+    requires { ⌜ (length (now mapping) ≤ 16384) × ((length (now targets) ≡ 1024) × (length (now spans) ≡ 1024)) × ((i : ℕ) → getD (now spans) i 0 ≡ 0) × Named (now tree) (now starts) (now sizes) (now hints) n ⌝ }
+    ensures { λ _. ⌜ Targets (listing (now (tree .entry)) (now (starts .entry)) (now (sizes .entry)) n) n (now (mapping .entry)) (now (targets .exit)) (now (spans .exit)) ⌝ }
+{
+    let mut at = 0;
+    while at < mapping.len() {
+        let end = line_end(mapping, at);
+        if end == mapping.len() {
+            return;
+        }
+        let to = find(mapping, at, end, 9);
+        set_target(
+            tree,
+            starts,
+            sizes,
+            hints,
+            n,
+            mapping,
+            at,
+            to,
+            end,
+            targets,
+            spans,
+        );
+        at = end + 1;
+    }
+}
+
+// The answer for a tree, a mapping and what it makes of each name: measured on a spare buffer, and written if it fits. An answer that the spare
+// buffer holds already is copied.
+fn rename_over(
+    tree: &[u8],
+    starts: &[u16; 1024],
+    sizes: &[u16; 1024],
+    hints: &[u16; 4096],
+    n: usize,
+    mapping: &[u8],
+    targets: &[u16; 1024],
+    spans: &[u16; 1024],
+    spare: &mut [u8],
+    out: &mut [u8],
+) -> Answer
+    requires { ⌜ Known (now tree) (now starts) (now sizes) (now hints) n × KnownPairs (now mapping) × Targets (listing (now tree) (now starts) (now sizes) n) n (now mapping) (now targets) (now spans) ⌝ }
+    ensures { λ r. ⌜ Answered (renameOutcome (now (tree .entry)) (now (mapping .entry))) (now (out .entry)) (now (out .exit)) r ⌝ }
+{
+    let mut flags = [0u8; 2048];
+    let need = rename_in_graph_pattern(
+        tree,
+        starts,
+        sizes,
+        hints,
+        n,
+        mapping,
+        targets,
+        spans,
+        &mut flags,
+        spare,
+        0,
+        0,
+        2,
+        64,
+    );
+    let size = need.at;
+    if out.len() < size {
+        return Answer::TooShort;
+    }
+    if size <= spare.len() {
+        let copied = put_all(out, 0, piece(spare, 0, size));
+        return Answer::Written(copied);
+    }
+    let put = rename_in_graph_pattern(
+        tree,
+        starts,
+        sizes,
+        hints,
+        n,
+        mapping,
+        targets,
+        spans,
+        &mut flags,
+        out,
+        0,
+        0,
+        2,
+        64,
+    );
+    Answer::Written(put.at)
+}
+
+// The same for a tree and a mapping that were checked, over a spare buffer as large as pays: it is cleared first.
+fn rename_of(
+    tree: &[u8],
+    starts: &[u16; 1024],
+    sizes: &[u16; 1024],
+    hints: &[u16; 4096],
+    n: usize,
+    mapping: &[u8],
+    out: &mut [u8],
+) -> Answer
+    requires { ⌜ Known (now tree) (now starts) (now sizes) (now hints) n × KnownPairs (now mapping) ⌝ }
+    ensures { λ r. ⌜ Answered (renameOutcome (now (tree .entry)) (now (mapping .entry))) (now (out .entry)) (now (out .exit)) r ⌝ }
+{
+    let mut targets = [0u16; 1024];
+    let mut spans = [0u16; 1024];
+    find_targets(
+        tree,
+        starts,
+        sizes,
+        hints,
+        n,
+        mapping,
+        &mut targets,
+        &mut spans,
+    );
+    if tree.len() <= 1536 {
+        let mut spare = [0u8; 2048];
+        return rename_over(
+            tree,
+            starts,
+            sizes,
+            hints,
+            n,
+            mapping,
+            &targets,
+            &spans,
+            &mut spare,
+            out,
+        );
+    }
+    if tree.len() <= 6144 {
+        let mut spare = [0u8; 8192];
+        return rename_over(
+            tree,
+            starts,
+            sizes,
+            hints,
+            n,
+            mapping,
+            &targets,
+            &spans,
+            &mut spare,
+            out,
+        );
+    }
+    let mut none = [0u8; 0];
+    rename_over(
+        tree,
+        starts,
+        sizes,
+        hints,
+        n,
+        mapping,
+        &targets,
+        &spans,
+        &mut none,
+        out,
+    )
+}
+
+// The same for a tree that was checked and any mapping.
+fn rename_by(
+    tree: &[u8],
+    starts: &[u16; 1024],
+    sizes: &[u16; 1024],
+    hints: &[u16; 4096],
+    n: usize,
+    mapping: &[u8],
+    out: &mut [u8],
+) -> Answer
+    requires { ⌜ Known (now tree) (now starts) (now sizes) (now hints) n ⌝ }
+    ensures { λ r. ⌜ Answered (renameOutcome (now (tree .entry)) (now (mapping .entry))) (now (out .entry)) (now (out .exit)) r ⌝ }
+{
+    let mut key_starts = [0u16; 1024];
+    let mut key_sizes = [0u16; 1024];
+    let mut key_hints = [0u16; 4096];
+    match check_mapping(mapping, &mut key_starts, &mut key_sizes, &mut key_hints) {
+        Check::Good(_) => rename_of(tree, starts, sizes, hints, n, mapping, out),
+        Check::Malformed => Answer::Malformed,
+        Check::OverBound => Answer::OverBound,
+    }
+}
+
+// rename: tree and mapping to tree.
+pub fn rename(tree: &[u8], mapping: &[u8], out: &mut [u8]) -> Answer
+    ensures { λ r. ⌜ Answered (renameOutcome (now (tree .entry)) (now (mapping .entry))) (now (out .entry)) (now (out .exit)) r ⌝ }
+{
+    let mut starts = [0u16; 1024];
+    let mut sizes = [0u16; 1024];
+    let mut hints = [0u16; 4096];
+    match check_tree(tree, &mut starts, &mut sizes, &mut hints) {
+        Check::Good(n) => rename_by(tree, &starts, &sizes, &hints, n, mapping, out),
+        Check::Malformed => Answer::Malformed,
+        Check::OverBound => Answer::OverBound,
+    }
+}

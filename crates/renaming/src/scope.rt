@@ -1,0 +1,138 @@
+// The call scope: the variables of a tree that are in scope, and those that are hidden.
+use answers::Answer;
+use emit::put;
+use emit::put_all;
+use names::wide;
+use passing::whole::pass_tree;
+use text::piece;
+ghost use mathlib.Core.Path.{_≡_};
+ghost use Prim.Native.Nat.{_≤_, _<_};
+ghost use mathlib.Core.List.{[], _∷_};
+ghost use mathlib.Core.Bool.{cond};
+ghost use lib.Dec.{eqb};
+ghost use Rattle.names.specs.Names.{listing, nameAt};
+ghost use Rattle.emit.specs.Emit.{em, puts};
+ghost use Rattle.answers.specs.Outcome.{Answered, written};
+ghost use Rattle.renaming.specs.Scope.{scopeOutcome};
+ghost use Rattle.walking.specs.Flags.{chosen};
+ghost use Rattle.renaming.specs.Code.{chosenText, tabbed};
+
+// The names whose flags from `base` on are set, each after a tab.
+fn put_names(
+    tree: &[u8],
+    starts: &[u16; 1024],
+    sizes: &[u16; 1024],
+    n: usize,
+    flags: &[u8; 2048],
+    base: usize,
+    out: &mut [u8],
+    at: usize,
+) -> usize
+    requires { ⌜ (n ≤ 1024) × (base ≤ 1024) ⌝ }
+    ensures { λ r. ⌜ em r (now (out .exit)) ≡ tabbed (chosen base (now (flags .entry)) (listing (now (tree .entry)) (now (starts .entry)) (now (sizes .entry)) n)) (em at (now (out .entry))) ⌝ }
+{
+    let mut to = at;
+    let mut k = 0;
+    while k < n {
+        to = put_name(tree, starts, sizes, k, flags[base + k], out, to);
+        k += 1;
+    }
+    to
+}
+
+// The name at an entry, after a tab, if its flag is set.
+fn put_name(
+    tree: &[u8],
+    starts: &[u16; 1024],
+    sizes: &[u16; 1024],
+    k: usize,
+    flag: u8,
+    out: &mut [u8],
+    at: usize,
+) -> usize
+    requires { ⌜ k < 1024 ⌝ }
+    ensures { λ r. ⌜ em r (now (out .exit)) ≡ tabbed (cond (eqb flag 0) [] (nameAt (now (tree .entry)) (now (starts .entry)) (now (sizes .entry)) k ∷ [])) (em at (now (out .entry))) ⌝ }
+{
+    if flag == 0 {
+        return at;
+    }
+    let to = put(out, at, 9);
+    put_all(out, to, piece(tree, wide(starts[k]), wide(sizes[k])))
+}
+
+const IN: [u8; 2] = *b"in";
+
+const HID: [u8; 3] = *b"hid";
+
+// The two lines.
+fn put_scope(
+    tree: &[u8],
+    starts: &[u16; 1024],
+    sizes: &[u16; 1024],
+    n: usize,
+    flags: &[u8; 2048],
+    out: &mut [u8],
+    at: usize,
+) -> usize
+    requires { ⌜ n ≤ 1024 ⌝ }
+    ensures { λ r. ⌜ em r (now (out .exit)) ≡ puts (chosenText (now (flags .entry)) (listing (now (tree .entry)) (now (starts .entry)) (now (sizes .entry)) n)) (em at (now (out .entry))) ⌝ }
+{
+    let a = put_all(out, at, &IN);
+    let b = put_names(tree, starts, sizes, n, flags, 0, out, a);
+    let c = put(out, b, 10);
+    let d = put_all(out, c, &HID);
+    let e = put_names(tree, starts, sizes, n, flags, 1024, out, d);
+    put(out, e, 10)
+}
+
+// The answer for a tree that was passed: measured on a buffer without room, and written if it fits.
+fn scope_of(
+    tree: &[u8],
+    starts: &[u16; 1024],
+    sizes: &[u16; 1024],
+    n: usize,
+    flags: &[u8; 2048],
+    out: &mut [u8],
+) -> Answer
+    requires { ⌜ n ≤ 1024 ⌝ }
+    ensures { λ r. ⌜ Answered (written (chosenText (now (flags .entry)) (listing (now (tree .entry)) (now (starts .entry)) (now (sizes .entry)) n))) (now (out .entry)) (now (out .exit)) r ⌝ }
+{
+    let mut spare = [0u8; 0];
+    let need = put_scope(tree, starts, sizes, n, flags, &mut spare, 0);
+    if out.len() < need {
+        return Answer::TooShort;
+    }
+    let size = put_scope(tree, starts, sizes, n, flags, out, 0);
+    Answer::Written(size)
+}
+
+// scope: tree to the lines `in` and `hid`.
+pub fn scope(tree: &[u8], out: &mut [u8]) -> Answer
+    ensures { λ r. ⌜ Answered (scopeOutcome (now (tree .entry))) (now (out .entry)) (now (out .exit)) r ⌝ }
+{
+    let keys = [[0u16; 4]; 64];
+    let mut starts = [0u16; 1024];
+    let mut sizes = [0u16; 1024];
+    let mut hints = [0u16; 4096];
+    let mut flags = [0u8; 2048];
+    let mut spare = [0u8; 0];
+    let p = pass_tree(
+        tree,
+        &tree[..0],
+        &keys,
+        0,
+        0,
+        &mut starts,
+        &mut sizes,
+        &mut hints,
+        &mut flags,
+        &mut spare,
+    );
+    if p.fault == 1 {
+        return Answer::Malformed;
+    }
+    if p.fault != 0 {
+        return Answer::OverBound;
+    }
+    scope_of(tree, &starts, &sizes, p.n, &flags, out)
+}

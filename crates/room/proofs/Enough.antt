@@ -1,0 +1,45 @@
+-- Outcomes that a room is enough for: bytes of at most that many, or a refusal that isn't 6. Assumes nothing.
+use Prim.Native.Nat.{ℕ, _≤_}
+use mathlib.Core.Path.{_≡_, sym, subst, _∙_}
+use mathlib.Core.Bool.{Bool, true, false}
+use mathlib.Core.Option.{Option, none, some}
+use mathlib.Core.Path.{refl}
+use native.Mathlib.Omega.{arith}
+use lib.ListN.{length}
+use Rattle.text.specs.Text.{Bytes}
+use Rattle.algebra.specs.Reader.{Outcome as Reading, reads, refuses, malformed, overBound}
+use Rattle.answers.specs.Outcome.{Outcome, refused, written, then, orRefused, refusedUnless, Reported}
+use Rattle.room.specs.Room.{Suffices}
+
+unfoldable pub Enough : ℕ → Outcome → Type 0
+Enough room (refused k) = k ≡ 6 → ⊥
+Enough room (written b) = length b ≤ room
+
+-- ---- how outcomes are put together
+
+pub then-enough : {A : Type 0} (room : ℕ) (o : Reading A) (k : A → Outcome) → ((a : A) → o ≡ reads a → Enough room (k a)) → Enough room (then o k)
+unfolding Enough
+then-enough room (reads a) k f = f a refl
+then-enough room (refuses malformed) k f = λ e. omega arith
+then-enough room (refuses overBound) k f = λ e. omega arith
+
+pub some-enough : {A : Type 0} (room n : ℕ) (o : Option A) (k : A → Outcome) → (n ≡ 6 → ⊥) → ((a : A) → o ≡ some a → Enough room (k a)) → Enough room (orRefused n o k)
+unfolding Enough
+some-enough room n none k h f = h
+some-enough room n (some a) k h f = f a refl
+
+pub test-enough : (room n : ℕ) (t : Bool) (o : Outcome) → (n ≡ 6 → ⊥) → (t ≡ true → Enough room o) → Enough room (refusedUnless n t o)
+unfolding Enough
+test-enough room n true o h f = f refl
+test-enough room n false o h f = h
+
+-- ---- what follows
+
+pub written-fits : (room : ℕ) (o : Outcome) (b : Bytes) → Enough room o → o ≡ written b → length b ≤ room
+unfolding Enough
+written-fits room o b h e = subst (Enough room) e h
+
+pub suffices : (room : ℕ) (o : Outcome) → Enough room o → Suffices room o
+unfolding Enough Suffices Reported
+suffices room (refused k) h before after n s l r e = h (sym (r .0) ∙ e)
+suffices room (written b) h before after n s l r e = let z = r .0 (omega arith) .0 in omega arith

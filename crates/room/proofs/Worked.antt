@@ -1,0 +1,82 @@
+-- Closed instances: the rooms of document 01's merges beside what is written, two answers that come as near as they can, and one size of buffer for all texts. Assumes nothing.
+use Prim.Native.Nat.{ℕ, _+_}
+use Prim.Native.String.{String}
+use mathlib.Core.Path.{_≡_, refl, ap}
+use mathlib.Core.List.{List, [], _∷_, map}
+use lib.ListN.{length}
+use Rattle.text.specs.Text.{same, ended, textOf, onto, split, linesIn, linesOf}
+use Rattle.text.specs.Word.{bytes, spelled}
+use Rattle.text.specs.Field.{digitsOf, numberOf, digits, decimal, clean, isVar, isIri, isLiteral, isBlank, isDash, isFlag, isTag, isRegion, isDatatype, isForm, isKind, fits, allFit}
+use Rattle.algebra.specs.Layout.{putTriples, putRows, putArity, put, layout}
+use Rattle.algebra.specs.Valid.{mem}
+use Rattle.algebra.specs.Tally.{notes, noted, headed, within, tallyTriples, tally}
+use Rattle.algebra.specs.Reader.{one, kept, rest, times, end, tooMany, several, readText}
+use Rattle.algebra.specs.Reading.{expressions, orders, aggregates, patternAfter, expressionAfter, inside}
+use Rattle.algebra.specs.ListReading.{parts, partAfter, filterIn}
+use Rattle.algebra.specs.Texts.{readTree, readFilters}
+use Rattle.answers.specs.Outcome.{Outcome, refused, written}
+use Rattle.scoping.specs.Sets.{keep, variablesOf, tripleVariables}
+use Rattle.scoping.specs.Variables.{variablesInPattern}
+use Rattle.scoping.specs.Numbering.{byPlace, inScopeByPlace, hiddenByPlace}
+use Rattle.renaming.specs.Scope.{scopeText, scopeOutcome}
+use Rattle.merging.specs.Cases.{Call, mergePatterns, mergeQueries, pushConstants, negate, Case, cases, outcomeOf}
+use Rattle.merging.proofs.Worked.{worked}
+use Rattle.filtering.specs.Filters.{filtersOutcome}
+use Rattle.room.specs.Room.{scopeRoom, renameRoom, mergeRoom, pushRoom, negateRoom, bindingsRoom, filtersRoom, longest}
+
+-- the bytes that an outcome writes
+abbrev lengthOf : Outcome → ℕ
+lengthOf (refused k) = 0
+lengthOf (written b) = length b
+
+abbrev size : String → ℕ
+size s = length (bytes s)
+
+-- ---- document 01's merges, and more
+
+abbrev roomOf : Call → ℕ
+roomOf (mergePatterns a b c d e) = mergeRoom (size a) (size b) (size d) (size e)
+roomOf (mergeQueries a b c d e) = mergeRoom (size a) (size b) (size d) (size e)
+roomOf (pushConstants a b) = pushRoom (size a) (size b)
+roomOf (negate a) = negateRoom (size a)
+
+pub record Took : Type 0 where
+  pub bytes : ℕ
+  pub room : ℕ
+
+abbrev took : ℕ → ℕ → Took
+took n room = record { bytes = n; room = room }
+
+abbrev measured : List Outcome → List Case → List Took
+measured [] cs = []
+measured (o ∷ os) [] = []
+measured (o ∷ os) (c ∷ cs) = took (lengthOf o) (roomOf (c .call)) ∷ measured os cs
+
+-- what each call of merging's table writes, and its room: "that merge" first, the two negates last
+pub merges-measured : measured (map (λ (c : Case). outcomeOf (c .call)) cases) cases ≡ took 67 258 ∷ took 47 150 ∷ took 33 111 ∷ took 0 111 ∷ took 0 117 ∷ took 0 129 ∷ took 0 69 ∷ took 0 222 ∷ took 68 117 ∷ took 44 141 ∷ took 37 105 ∷ took 0 51 ∷ took 86 228 ∷ took 37 117 ∷ took 43 135 ∷ took 0 99 ∷ took 67 67 ∷ took 36 60 ∷ []
+unfolding mergeRoom pushRoom negateRoom
+merges-measured = ap (λ (os : List Outcome). measured os cases) worked
+
+-- ---- as near as can be
+
+-- `bgp 0` takes 6 bytes, its answer 7
+pub scope-reached : lengthOf (scopeOutcome (bytes "bgp\t0\n")) ≡ scopeRoom 6
+unfolding scopeRoom scopeOutcome scopeText readTree readText within noted headed notes mem inside one end tooMany kept rest times expressions orders aggregates patternAfter expressionAfter linesOf linesIn split onto same spelled numberOf digitsOf fits isKind clean textOf ended inScopeByPlace hiddenByPlace byPlace tally tallyTriples keep variablesOf tripleVariables variablesInPattern
+scope-reached = refl
+
+-- a column of 129 bytes
+abbrev wide : String
+wide = "project\t?aaaaaaaaaaaaaaaaaaaaaaaaaaaaaaaaaaaaaaaaaaaaaaaaaaaaaaaaaaaaaaaaaaaaaaaaaaaaaaaaaaaaaaaaaaaaaaaaaaaaaaaaaaaaaaaaaaaaaaaaaaaaaaaa\nbgp\t0\n"
+
+-- two bytes short of the room of `ref 0`
+pub filters-near : lengthOf (filtersOutcome (bytes wide) (bytes "ref\t0\n")) ≡ size wide + 142
+unfolding filtersOutcome readTree readFilters readText within noted headed notes mem inside several one end tooMany kept rest times expressions orders aggregates patternAfter expressionAfter parts partAfter filterIn linesOf linesIn split onto same spelled numberOf digitsOf fits isKind clean isVar isIri isLiteral isBlank isDash isFlag isTag isRegion isDatatype isForm allFit layout put putTriples putRows putArity decimal digits textOf ended
+filters-near = refl
+
+-- ---- room for all texts
+
+pub longest-rooms :
+    (scopeRoom longest ≡ 16385) × (renameRoom longest ≡ 720896) × (mergeRoom longest longest longest longest ≡ 131072) × (pushRoom longest longest ≡ 65536)
+    × (negateRoom longest ≡ 16408) × (bindingsRoom longest longest ≡ 1081344) × (filtersRoom longest longest ≡ 409600)
+unfolding scopeRoom renameRoom mergeRoom pushRoom negateRoom bindingsRoom filtersRoom
+longest-rooms = (refl, refl, refl, refl, refl, refl, refl)

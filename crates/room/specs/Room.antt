@@ -1,0 +1,48 @@
+-- How many bytes to lend for a call's answer, from its texts' lengths alone: with so many the call is never refused by 6. Assumes nothing.
+use Prim.Native.Nat.{ℕ, _+_, _*_, _≤_}
+use mathlib.Core.Path.{_≡_}
+use lib.ListN.{length}
+use Rattle.text.specs.Text.{Bytes}
+use Rattle.algebra.specs.Tally.{bounds}
+use Rattle.answers.specs.Outcome.{Outcome, Reported}
+
+-- ---- the bytes to lend
+
+-- scope: the names of the tree, and `bgp 0` has an answer one byte longer than itself
+unfoldable pub scopeRoom : ℕ → ℕ
+scopeRoom tree = tree + 1
+
+-- rename: a variable of 2 bytes can become one of 129, each with a tab or line end behind it
+unfoldable pub renameRoom : ℕ → ℕ
+renameRoom tree = 44 * tree
+
+-- merge patterns and merge queries: a variable of 2 bytes can become one of 6, as `?l1000`; a term of a constant is written once
+unfoldable pub mergeRoom : ℕ → ℕ → ℕ → ℕ → ℕ
+mergeRoom left right leftConstants rightConstants = 3 * (left + right) + leftConstants + rightConstants
+
+-- push constants: the same for one query
+unfoldable pub pushRoom : ℕ → ℕ → ℕ
+pushRoom query constants = 3 * query + constants
+
+-- negate: four lines more, `filter`, `bgp 0`, `not` and `exists`
+unfoldable pub negateRoom : ℕ → ℕ
+negateRoom query = query + 24
+
+-- bindings: a position of 1 byte can become a column of 129
+unfoldable pub bindingsRoom : ℕ → ℕ → ℕ
+bindingsRoom tree sets = tree + 65 * sets
+
+-- filters: `ref 0`, 6 bytes, can become `term` and a column of 129 bytes, under `filter` or `and`
+unfoldable pub filtersRoom : ℕ → ℕ → ℕ
+filtersRoom tree filters = tree + 24 * filters
+
+-- the longest text that isn't refused for its length: room for it is room for every text
+abbrev pub longest : ℕ
+longest = bounds .bytes
+
+-- ---- what they are for
+
+-- whoever lends so many bytes or more is never told 6, "output too short"
+unfoldable pub Suffices : ℕ → Outcome → Type 0
+unfolding Reported
+Suffices room o = (before after : Bytes) (n s : ℕ) → room ≤ length before → Reported o before after n s → n ≡ 6 → ⊥

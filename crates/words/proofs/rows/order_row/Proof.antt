@@ -1,0 +1,18 @@
+-- `words::rows::order_row` meets its contract: each arm computes. Assumes nothing.
+use mathlib.Core.Path.{_≡_, refl, sym, ap}
+use Prim.Native.Nat.{ℕ}
+use mathlib.Core.Logic.{inr}
+use Rattle.algebra.specs.Table.{rowsOf, orders}
+use Rattle.words.specs.Key.{keyOf, rowBy}
+use Rattle.words.proofs.ByKey.{no-key, few}
+use Rattle.words.proofs.rows.order_row.Statement.{statement}
+use Rattle.words.proofs.rows.order_row.Tie as tie
+
+pub order-row-spec : {M : Type 1} → statement M
+unfolding keyOf rowBy
+order-row-spec =
+    tie.close
+    (tie.spec
+    (λ c. (ap (λ (k : ℕ). rowBy k (rowsOf orders)) (sym (c .match .keys1)), (few 11 refl, few 3 refl, λ _. ((refl, refl, refl, refl), inr refl))))
+    (λ c. (ap (λ (k : ℕ). rowBy k (rowsOf orders)) (sym (c .match .keys2)), (few 11 refl, few 3 refl, λ _. ((refl, refl, refl, refl), inr refl))))
+    (λ c. (no-key _ (rowsOf orders) _ (c .match .rest), tt)))
