@@ -1,0 +1,13 @@
+pub mod Rows
+pub mod Extend
+pub mod Held
+pub mod Runs
+pub mod Readers
+pub mod Writes
+pub mod Theorem
+pub mod Told
+pub mod Cycle
+pub mod LineLaws
+pub mod WholeLaws
+pub mod InkLaws
+pub mod FieldLaws
