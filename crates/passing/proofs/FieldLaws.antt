@@ -22,7 +22,7 @@ use Rattle.cursor.proofs.Laws.{Next, left-none}
 use Rattle.algebra.specs.Reader.{kept}
 use Rattle.algebra.specs.Valid.{mem}
 use Rattle.algebra.specs.Tally.{notes}
-use Rattle.algebra.specs.Table.{Slot, term, text, count, choice, Tail, nothing, texts, triples, patterns, expressions, rows, orders, aggregates, Row, rowsOf, rowFor}
+use Rattle.algebra.specs.Table.{Slot, term, text, count, choice, Tail, nothing, texts, triples, patterns, expressions, rows, orders, aggregates, heads, Row, rowsOf, rowFor}
 use Rattle.words.specs.Code.{mapped, tailOf, sortAt}
 use Rattle.names.specs.Names.{Holds}
 use Rattle.names.proofs.Laws.{holds-long}
@@ -40,7 +40,7 @@ use Rattle.walking.proofs.Written.{cell-fixed}
 use Rattle.passing.specs.declared.fields.Judged.{Judged}
 use Rattle.passing.specs.Code.{Judges, Mild, Even, Behind, pending, Wrote}
 use Rattle.passing.proofs.Extend.{Extends, extends-same, extends-on, notes-on, notes-hold}
-use Rattle.passing.proofs.Rows.{row-every, Inner, triples-inner, columns-inner, rows-inner, orders-inner, aggregates-inner, Upper, patterns-upper, expressions-upper, plain-mild}
+use Rattle.passing.proofs.Rows.{row-every, Inner, triples-inner, columns-inner, rows-inner, orders-inner, aggregates-inner, Upper, patterns-upper, expressions-upper, heads-upper, plain-mild}
 use Rattle.passing.proofs.Held.{none-some, kept-is, taking, opened-on}
 use Rattle.passing.proofs.InkLaws.{part-join, back, fields-step, less-one, term-open as term-may}
 use Rattle.passing.proofs.LineLaws.{once-notes}
@@ -395,7 +395,7 @@ module _ (new : Bytes → Bytes) (m : Mark) (stays : Bool) (s : Bytes) (ns : Lis
       ∙ wrote []
       ∙ (λ i. putFields (append-nil ns i) new m (is i) (row .slots) 0 (left s (word + 1) end) (writes (part from (y i) s) (output at o fl))))
 
-pub sort-mild : (sort : ℕ) (w : Bytes) (r : Row) → sort ≤ 6 → rowFor (sortAt sort) w ≡ some r → Mild (r .tail)
+pub sort-mild : (sort : ℕ) (w : Bytes) (r : Row) → sort ≤ 7 → rowFor (sortAt sort) w ≡ some r → Mild (r .tail)
 sort-mild zero w r h q = row-every Inner (rowsOf triples) w r triples-inner q .1
 sort-mild (suc zero) w r h q = row-every Inner (rowsOf (sortAt 1)) w r columns-inner q .1
 sort-mild (suc (suc zero)) w r h q = plain-mild (r .tail) (row-every Upper (rowsOf patterns) w r patterns-upper q .0)
@@ -403,4 +403,5 @@ sort-mild (suc (suc (suc zero))) w r h q = plain-mild (r .tail) (row-every Upper
 sort-mild (suc (suc (suc (suc zero)))) w r h q = row-every Inner (rowsOf rows) w r rows-inner q .1
 sort-mild (suc (suc (suc (suc (suc zero))))) w r h q = row-every Inner (rowsOf orders) w r orders-inner q .1
 sort-mild (suc (suc (suc (suc (suc (suc zero)))))) w r h q = row-every Inner (rowsOf aggregates) w r aggregates-inner q .1
-sort-mild (suc (suc (suc (suc (suc (suc (suc k))))))) w r h q = absurd (omega arith)
+sort-mild (suc (suc (suc (suc (suc (suc (suc zero))))))) w r h q = plain-mild (r .tail) (row-every Upper (rowsOf heads) w r heads-upper q .0)
+sort-mild (suc (suc (suc (suc (suc (suc (suc (suc k)))))))) w r h q = absurd (omega arith)
