@@ -1,210 +1,148 @@
--- The check of a whole text: what holds between two lines, and each way out. Assumes nothing.
-use Prim.Native.Nat.{ℕ, zero, suc, _+_, _*_, _-_, _≤_, _<_}
+-- The check of a whole text: each way out. Assumes nothing.
+use Prim.Native.Nat.{ℕ, zero, suc, _-_, _≤_, _<_, pred}
 use mathlib.Core.Path.{_≡_, refl, sym, _∙_, ap, subst}
-use mathlib.Core.List.{List, [], _∷_, _++_, append-nil}
+use mathlib.Core.List.{List, [], _∷_, append-nil}
 use mathlib.Core.Bool.{Bool, true, false, cond}
-use mathlib.Core.Option.{Option, none, some}
-use native.Mathlib.Nat.{le-refl}
-use native.Mathlib.Numerals.{add-one}
+use mathlib.Core.Logic.{_⊎_, inl, inr, ⊎-elim}
 use native.Mathlib.Omega.{arith}
-use lib.ListN.{length, getD, replicate, length-replicate}
-use Rattle.text.specs.Text.{Bytes, Line, split, part, First, linesFrom}
-use Rattle.cursor.specs.declared.Cursor.{Cursor}
-use Rattle.cursor.specs.Cursor.{Settled}
+use lib.ListN.{length, replicate, length-take, length-drop}
+use lib.Dec.{eqb}
+use Rattle.text.specs.Text.{Bytes, Line, onto, split, linesIn, linesFrom, part}
+use Rattle.text.proofs.Places.{lines-end}
 use Rattle.algebra.specs.Tally.{Tally, bounds, start}
 use Rattle.algebra.specs.Reader.{malformed, overBound}
-use Rattle.algebra.specs.Machine.{Want, want, More, demand, Check, good, bad, run, turn, checkText}
+use Rattle.algebra.specs.Table.{Sort}
+use Rattle.algebra.specs.Machine.{Want, want, More, done, entries, demand, Check, good, bad, run, turn, checkText}
+use Rattle.algebra.specs.declared.Answer.{Answer}
 use Rattle.algebra.specs.declared.Answer.the-variants as A
-use Rattle.words.specs.Code.{sortAt}
 use Rattle.names.specs.Names.{Holds}
-use Rattle.lines.specs.declared.check.Turn.{Turn}
-use Rattle.lines.specs.declared.check.Turned.{Turned}
-use Rattle.lines.specs.declared.check.Turn.the-variants.{Next, Malformed, OverBound}
-use Rattle.lines.specs.Stack.{wantsIn, slack, Room, Stacked}
-use Rattle.lines.specs.Steps.{InLine}
-use Rattle.lines.specs.Run.{moreOf, wantsOf, Readied, TurnIs, Tells}
-use Rattle.lines.proofs.StackLaw.{settle-wants, wants-none, top-wants, room-top}
-use Rattle.text.proofs.Places.{lines-end, lines-open, lines-next}
-use Rattle.lines.proofs.RunLaw.{run-open, run-none, run-done, run-missing, check-long, check-start}
+use Rattle.lines.specs.declared.check.Place.{Place}
+use Rattle.lines.specs.Run.{Stood, Went, Told, levelFor, Tells}
+use Rattle.lines.proofs.RunLaw.{run-none, run-done, check-long, check-start}
+use Rattle.lines.proofs.DescentLaw.{went-here, Goes}
 
 -- ---- answers
 
 module _ (s a b h : List ℕ) (k : Check) where
-  pub tells-malformed : k ≡ bad malformed → Tells s a b h k A.Malformed
+  tells-malformed : (r : Answer) → r ≡ A.Malformed → k ≡ bad malformed → Tells s a b h k r
   unfolding Tells
-  tells-malformed e = subst (λ k. Tells s a b h k A.Malformed) (sym e) refl
+  tells-malformed r q e = subst (λ k. Tells s a b h k r) (sym e) q
 
-  pub tells-over : k ≡ bad overBound → Tells s a b h k A.OverBound
+  tells-over : (r : Answer) → r ≡ A.OverBound → k ≡ bad overBound → Tells s a b h k r
   unfolding Tells
-  tells-over e = subst (λ k. Tells s a b h k A.OverBound) (sym e) refl
+  tells-over r q e = subst (λ k. Tells s a b h k r) (sym e) q
 
-  pub tells-good : (m : Tally) (n : ℕ) → k ≡ good m → Holds s a b h n (m .names) → Tells s a b h k (A.Good n)
+  tells-good : (r : Answer) (m : Tally) (n : ℕ) → r ≡ A.Good n → k ≡ good m → Holds s a b h n (m .names) → Tells s a b h k r
   unfolding Tells
-  tells-good m n e q = subst (λ k. Tells s a b h k (A.Good n)) (sym e) (n, refl, q)
+  tells-good r m n q e o = subst (λ k. Tells s a b h k r) (sym e) (n, q, o)
 
--- ---- what a step of the code tells
+pub too-long : (s a b h : List ℕ) (ρ : More) (ws : List Want) → 16384 < length s → Tells s a b h (checkText bounds ρ ws s) A.OverBound
+too-long s a b h ρ ws e = tells-over s a b h _ A.OverBound refl (check-long ρ ws s e)
 
--- the line that is demanded stands on top of the stack
-pub record Top (p l w c : List ℕ) (ρ : More) (before : List Want) (ρ′ : More) (h : ℕ) : Type 0 where
-  pub ws : List Want
-  pub same : demand ρ before ≡ demand ρ′ ws
-  pub stacked : Stacked p l w c h ws
-  pub waits : getD c (h - 1) 0 ≡ 0 → ⊥
+-- ---- bytes that are left are lines that are left
 
-top-of : (p l w c : List ℕ) (ρ : More) (before : List Want) (ρ′ : More) (h : ℕ) → Readied p l w c ρ before ρ′ h → (h ≡ 0 → ⊥) → Top p l w c ρ before ρ′ h
-unfolding Readied
-top-of p l w c ρ before ρ′ h q up = let t = q .1 up in record { ws = t .0; same = t .1; stacked = t .2; waits = t .3 }
+unfoldable Some : List Line → Type 0
+Some [] = ⊥
+Some (l ∷ ls) = Unit {0}
 
--- the same demand, the same run
-same-demand : (ls : List Line) (line : Line) (ρ ρ′ : More) (ws ws′ : List Want) (m : Tally) → demand ρ ws ≡ demand ρ′ ws′ → run bounds (line ∷ ls) ρ ws m ≡ run bounds (line ∷ ls) ρ′ ws′ m
-unfolding run
-same-demand ls line ρ ρ′ ws ws′ m e = ap (λ o. turn bounds o (run bounds ls) line m) e
+unfoldable Filled : List Bytes → Type 0
+Filled [] = ⊥
+Filled (p ∷ ps) = Unit {0}
 
-module _ (s p l w c x y z : List ℕ) (line : Line) (ls : List Line) (ρ : More) (ws : List Want) (m : Tally) (v : Turn) (q : TurnIs s p l w c x y z line ls ρ ws m v) where
-  was-malformed : v ≡ Malformed → run bounds (line ∷ ls) ρ ws m ≡ bad malformed
-  unfolding TurnIs
-  was-malformed e = subst (TurnIs s p l w c x y z line ls ρ ws m) e q
+onto-filled : (x : ℕ) (ps : List Bytes) → Filled (onto x ps)
+unfolding onto Filled
+onto-filled x [] = tt
+onto-filled x (p ∷ ps) = tt
 
-  was-over : v ≡ OverBound → run bounds (line ∷ ls) ρ ws m ≡ bad overBound
-  unfolding TurnIs
-  was-over e = subst (TurnIs s p l w c x y z line ls ρ ws m) e q
+split-filled : (c : ℕ) (xs : Bytes) → Filled (split c xs)
+unfolding split Filled
+split-filled c [] = tt
+split-filled c (x ∷ xs) = go (eqb x c)
+  where
+    go : (t : Bool) → Filled (cond t ([] ∷ split c xs) (onto x (split c xs)))
+    go true = tt
+    go false = onto-filled x (split c xs)
 
-  was-next : (t : Turned) → v ≡ Next t → (ws′ : List Want) × (m′ : Tally) × (run bounds (line ∷ ls) ρ ws m ≡ run bounds ls ρ ws′ m′) × Stacked p l w c (t .height) ws′ × (m′ .lines ≡ suc (m .lines)) × (m′ .wide ≤ 64) × Holds s x y z (t .names) (m′ .names) × (t .names ≤ 1024)
-  unfolding TurnIs
-  was-next t e = subst (TurnIs s p l w c x y z line ls ρ ws m) e q
+some-lines : (xs : Bytes) → 0 < length xs → Some (linesIn (split 10 xs))
+unfolding split linesIn Some Filled onto
+some-lines [] h = absurd (omega arith)
+some-lines (x ∷ xs) h = go (eqb x 10) (split 10 xs) (split-filled 10 xs)
+  where
+    go : (t : Bool) (ps : List Bytes) → Filled ps → Some (linesIn (cond t ([] ∷ ps) (onto x ps)))
+    go t [] f = absurd f
+    go true (p ∷ ps) f = tt
+    go false (p ∷ []) f = tt
+    go false (p ∷ q ∷ ps) f = tt
 
--- ---- an empty stack
+lines-left : (s : Bytes) (at : ℕ) → at < length s → Some (linesFrom s at)
+unfolding linesFrom
+lines-left s at h = some-lines (part at (length s) s) (let l : length (part at (length s) s) ≡ length s - at = simp (length-take, length-drop) (omega arith) in omega arith)
 
-pub empty-stack : (x y z u : ℕ) → Stacked (replicate 260 x) (replicate 260 y) (replicate 260 z) (replicate 260 u) 0 []
-unfolding Room
-empty-stack x y z u = record { entries = (length-replicate 260 x, length-replicate 260 y, length-replicate 260 z, length-replicate 260 u); low = omega arith; wants = wants-none _ _ _ _; room = tt }
+left-bad : (m : Tally) (ls : List Line) → Some ls → run bounds ls done [] m ≡ bad malformed
+unfolding Some
+left-bad m [] f = absurd f
+left-bad m (l ∷ ls) f = run-none ls l done [] m refl
 
-module _ (s : Bytes) (list : Bool) (sort level : ℕ) where
-  abbrev pub whole : Check
-  whole = checkText bounds (moreOf list 64 sort level) (wantsOf list sort level) s
+leb-or : (i j : ℕ) → (i ≤ j) ⊎ (j < i)
+leb-or zero j = inl (omega arith)
+leb-or (suc i) zero = inr (omega arith)
+leb-or (suc i) (suc j) = ⊎-elim (λ (q : i ≤ j). inl (omega (arith, q))) (λ (q : j < i). inr (omega (arith, q))) (leb-or i j)
 
-  -- what holds before a line: the rest of the text does what the whole does
-  pub record Going (a b h p l w c : List ℕ) (at k lines n left : ℕ) : Type 0 where
-    pub short : length s ≤ 16384
-    pub inside : at ≤ length s
-    pub few : lines ≤ at
-    pub names : n ≤ 1024
-    pub ws : List Want
-    pub m : Tally
-    pub stacked : Stacked p l w c k ws
-    pub so : whole ≡ run bounds (linesFrom s at) (moreOf list left sort level) ws m
-    pub counts : m .lines ≡ lines
-    pub wide : m .wide ≤ 64
-    pub holds : Holds s a b h n (m .names)
+-- ---- the end
 
-  roots-are : (n : ℕ) → n ≡ length (wantsOf list 0 0) → replicate n (want (sortAt sort) level 0) ++ [] ≡ wantsOf list sort level
-  roots-are n e = rw e (go list)
+module _ (s a b h : List ℕ) (x : Check) (p : Place) (r : Answer) (told : Told s p r) where
+  pub told-fault : (ρ : More) (ws : List Want) → Went s a b h ρ ws x p → (p .fault ≡ 0 → ⊥) → Tells s a b h x r
+  told-fault ρ ws w nz = go (p .fault) refl
     where
-      go : (t : Bool) → replicate (length (wantsOf t 0 0)) (want (sortAt sort) level 0) ++ [] ≡ wantsOf t sort level
-      go true = refl
-      go false = refl
+      go : (n : ℕ) → p .fault ≡ n → Tells s a b h x r
+      go zero e = absurd (nz e)
+      go (suc zero) e = tells-malformed s a b h x r (told .wrong e) (w .wrong e)
+      go (suc (suc n)) e = let no : p .fault ≡ 1 → ⊥ = λ z. absurd (omega (arith, e, z)) in tells-over s a b h x r (told .over nz no) (w .over nz no)
 
-  pub going-start : (a b h p l w c : List ℕ) (k n : ℕ) → length s ≤ 16384 → n ≡ length (wantsOf list 0 0) → Stacked p l w c k (replicate n (want (sortAt sort) level 0) ++ []) → Holds s a b h 0 [] → Going a b h p l w c 0 k 0 0 64
-  going-start a b h p l w c k n short e st q = record {
-    short = short;
-    inside = omega arith;
-    few = omega arith;
-    names = omega arith;
-    ws = wantsOf list sort level;
-    m = start;
-    stacked = subst (Stacked p l w c k) (roots-are n e) st;
-    so = check-start (moreOf list 64 sort level) (wantsOf list sort level) s short;
-    counts = refl;
-    wide = omega arith;
-    holds = q;
-  }
+  pub told-whole : (ρ : More) → Went s a b h ρ [] x p → p .fault ≡ 0 → length s ≤ p .from → Tells s a b h x r
+  told-whole ρ w z e = let o = w .on z in tells-good s a b h x r (o .0) (p .n) (told .whole z e) (o .1 ∙ ap (λ (ls : List Line). run bounds ls ρ [] (o .0)) (lines-end s (p .from) e) ∙ run-done ρ (o .0)) (o .2 .names)
 
-  module _ (a b h p l w c : List ℕ) (at k lines n left : ℕ) (g : Going a b h p l w c at k lines n left) where
-    -- the text is over
-    over : length s ≤ at → whole ≡ run bounds [] (moreOf list left sort level) (g .ws) (g .m)
-    over e = g .so ∙ ap (λ ls. run bounds ls (moreOf list left sort level) (g .ws) (g .m)) (lines-end s at e)
+  pub told-left : Went s a b h done [] x p → p .fault ≡ 0 → p .from < length s → Tells s a b h x r
+  told-left w z e = let o = w .on z in tells-malformed s a b h x r (told .left z e) (o .1 ∙ left-bad (o .0) (linesFrom s (p .from)) (lines-left s (p .from) e))
 
-    pub ends-well : (r : ℕ) → length s ≤ at → Settled c k r → r ≡ 0 → Tells s a b h whole (A.Good n)
-    ends-well r e q z =
-        let none-left : g .ws ≡ [] = sym (g .stacked .wants) ∙ (sym (settle-wants p l w c k r q) ∙ (ap (wantsIn p l w c) z ∙ wants-none p l w c)) in
-        tells-good s a b h whole (g .m) n (over e ∙ (ap (λ v. run bounds [] (moreOf list left sort level) v (g .m)) none-left ∙ run-done (moreOf list left sort level) (g .m))) (g .holds)
+  -- one line with what it asks for
+  pub told-one : Went s a b h done [] x p → Tells s a b h x r
+  told-one w = go (p .fault) refl (leb-or (length s) (p .from))
+    where
+      go : (n : ℕ) → p .fault ≡ n → (length s ≤ p .from) ⊎ (p .from < length s) → Tells s a b h x r
+      go zero e (inl q) = told-whole done w e q
+      go zero e (inr q) = told-left w e q
+      go (suc n) e q = told-fault done [] w (λ z. absurd (omega (arith, e, z)))
 
-    pub ends-short : (r : ℕ) → length s ≤ at → Settled c k r → (r ≡ 0 → ⊥) → Tells s a b h whole A.Malformed
-    ends-short r e q nz =
-        let i : r - 1 < length c = let x = g .stacked .entries .3 in let y = g .stacked .low in let z = q .high in omega arith in
-        let up : r ≡ r - 1 + 1 = omega arith in
-        let first : g .ws ≡ _ = sym (g .stacked .wants) ∙ (sym (settle-wants p l w c k r q) ∙ top-wants p l w c (r - 1) r i up (q .waits (r - 1) up)) in
-        tells-malformed s a b h whole (over e ∙ (ap (λ v. run bounds [] (moreOf list left sort level) v (g .m)) first ∙ run-missing (moreOf list left sort level) _ _ (g .m)))
+module _ (s a0 b0 h0 : List ℕ) (sort : Sort) (level : ℕ) (short : length s ≤ 16384) (none : Holds s a0 b0 h0 0 []) where
+  begun : Stood s a0 b0 h0 (record { from = 0; lines = 0; n = 0; fault = 0 }) start
+  begun = record { lines = refl; wide = omega arith; names = none }
 
-    module _ (d : Cursor) (here : d .at ≡ at) (line : First 10 s at (length s) (d .end)) where
-      pub line-open : (x y z : List ℕ) → at < length s → d .end ≡ length s → Tells s x y z whole A.Malformed
-      line-open x y z low e =
-          tells-malformed s x y z whole
-          (g .so ∙ (ap (λ ls. run bounds ls (moreOf list left sort level) (g .ws) (g .m)) (lines-open s at (d .end) low line e) ∙ run-open (moreOf list left sort level) (g .ws) (g .m)))
+  pub one-is : (a b h : List ℕ) (p : Place) (r : Answer) → Told s p r → Goes s a0 b0 h0 (record { from = 0; lines = 0; n = 0; fault = 0 }) a b h (replicate 1 (want sort level 0)) p → Tells s a b h (checkText bounds done (want sort level 0 ∷ []) s) r
+  one-is a b h p r told f = told-one s a b h _ p r told (subst (λ x. Went s a b h done [] x p) (sym (check-start done (want sort level 0 ∷ []) s short)) (f done [] start begun))
 
-      pub in-this-line : d .end < length s → InLine s d
-      in-this-line e = record { short = g .short; ends = e; plain = λ i lo hi q. line .before i hi (let z = here in omega arith) q }
+  pub list-begin : Went s a0 b0 h0 (entries 64 sort level) [] (checkText bounds (entries 64 sort level) [] s) (record { from = 0; lines = 0; n = 0; fault = 0 })
+  list-begin = subst (λ x. Went s a0 b0 h0 (entries 64 sort level) [] x (record { from = 0; lines = 0; n = 0; fault = 0 })) (sym (check-start (entries 64 sort level) [] s short)) (went-here s (entries 64 sort level) a0 b0 h0 [] (record { from = 0; lines = 0; n = 0; fault = 0 }) start begun refl)
 
-      pub starts-here : d .at ≤ d .end
-      starts-here = let z = line .low in omega arith
+-- ---- entries of a list
 
-      module _ (ended : d .end < length s) where
-        abbrev text : Line
-        text = split 9 (part (d .at) (d .end) s)
+pub level-none : (level left : ℕ) → left ≡ 0 → 0 ≡ levelFor left level
+level-none level left e = ap (λ (n : ℕ). levelFor n level) (sym e)
 
-        so-here : whole ≡ run bounds (text ∷ linesFrom s (d .end + 1)) (moreOf list left sort level) (g .ws) (g .m)
-        so-here = g .so ∙ (ap (λ ls. run bounds ls (moreOf list left sort level) (g .ws) (g .m)) (lines-next s at (d .end) line ended) ∙ ap (λ i. run bounds (split 9 (part i (d .end) s) ∷ linesFrom s (d .end + 1)) (moreOf list left sort level) (g .ws) (g .m)) (sym here))
+pub level-some : (left level : ℕ) → (left ≡ 0 → ⊥) → level ≡ levelFor left level
+level-some zero level nz = absurd (nz refl)
+level-some (suc n) level nz = refl
 
-        module _ (p′ l′ w′ c′ : List ℕ) (rest r : ℕ) (ready : Readied p′ l′ w′ c′ (moreOf list left sort level) (g .ws) (moreOf list rest sort level) r) where
-          pub nothing-wanted : (x y z : List ℕ) → r ≡ 0 → Tells s x y z whole A.Malformed
-          unfolding Readied
-          nothing-wanted x y z e = tells-malformed s x y z whole (so-here ∙ run-none (linesFrom s (d .end + 1)) text (moreOf list left sort level) (g .ws) (g .m) (ready .0 e))
+entry-run : (sort : Sort) (level left : ℕ) (ls : List Line) (m : Tally) → Some ls → run bounds ls (entries left sort level) [] m ≡ run bounds ls (entries (pred left) sort level) (want sort (levelFor left level) 0 ∷ []) m
+unfolding run Some
+entry-run sort level left [] m f = absurd f
+entry-run sort level zero (l ∷ ls) m f = refl
+entry-run sort level (suc n) (l ∷ ls) m f = refl
 
-          module _ (up : r ≡ 0 → ⊥) where
-            top : Top p′ l′ w′ c′ (moreOf list left sort level) (g .ws) (moreOf list rest sort level) r
-            top = top-of p′ l′ w′ c′ (moreOf list left sort level) (g .ws) (moreOf list rest sort level) r ready up
-
-            pub top-ready : (0 < r) × (r ≤ 258) × (getD c′ (r - 1) 0 ≡ 0 → ⊥) × (getD p′ (r - 1) 0 ≤ 11) × (r - 1 + 4 * getD l′ (r - 1) 0 + slack (sortAt (getD p′ (r - 1) 0)) ≤ 257)
-            top-ready =
-                let e : r ≡ r - 1 + 1 = omega arith in
-                let q = room-top p′ l′ (r - 1) (subst (Room p′ l′) e (top .stacked .room)) in
-                (omega arith, top .stacked .low, top .waits, q .1, q .0)
-
-            so-ready : whole ≡ run bounds (text ∷ linesFrom s (d .end + 1)) (moreOf list rest sort level) (top .ws) (g .m)
-            so-ready = so-here ∙ same-demand (linesFrom s (d .end + 1)) text (moreOf list left sort level) (moreOf list rest sort level) (g .ws) (top .ws) (g .m) (top .same)
-
-            module _ (p″ l″ w″ c″ x y z : List ℕ) (v : Turn) (takes : (ρ : More) (ws : List Want) (m : Tally) (ls : List Line) → Stacked p′ l′ w′ c′ r ws → m .lines ≡ lines → m .wide ≤ 64 → Holds s a b h n (m .names) → TurnIs s p″ l″ w″ c″ x y z text ls ρ ws m v) where
-              turned : TurnIs s p″ l″ w″ c″ x y z text (linesFrom s (d .end + 1)) (moreOf list rest sort level) (top .ws) (g .m) v
-              turned = takes (moreOf list rest sort level) (top .ws) (g .m) (linesFrom s (d .end + 1)) (top .stacked) (g .counts) (g .wide) (g .holds)
-
-              pub line-malformed : v ≡ Malformed → Tells s x y z whole A.Malformed
-              line-malformed e = tells-malformed s x y z whole (so-ready ∙ was-malformed s p″ l″ w″ c″ x y z text (linesFrom s (d .end + 1)) (moreOf list rest sort level) (top .ws) (g .m) v turned e)
-
-              pub line-over : v ≡ OverBound → Tells s x y z whole A.OverBound
-              line-over e = tells-over s x y z whole (so-ready ∙ was-over s p″ l″ w″ c″ x y z text (linesFrom s (d .end + 1)) (moreOf list rest sort level) (top .ws) (g .m) v turned e)
-
-              pub going-on : (t : Turned) → v ≡ Next t → Going x y z p″ l″ w″ c″ (d .end + 1) (t .height) (lines + 1) (t .names) rest
-              going-on t e =
-                  let q = was-next s p″ l″ w″ c″ x y z text (linesFrom s (d .end + 1)) (moreOf list rest sort level) (top .ws) (g .m) v turned t e in
-                  record {
-                    short = g .short;
-                    inside = omega arith;
-                    few = let f = g .few in let u = line .low in omega arith;
-                    names = q .7;
-                    ws = q .0;
-                    m = q .1;
-                    stacked = q .3;
-                    so = so-ready ∙ q .2;
-                    counts = q .4 ∙ (ap suc (g .counts) ∙ sym (add-one lines));
-                    wide = q .5;
-                    holds = q .6;
-                  }
-
--- ---- the same at equal places
-
-pub going-at : (s : Bytes) (list : Bool) (sort level : ℕ) (a b h p l w c : List ℕ) (at at′ k k′ lines n left : ℕ) → at′ ≡ at → k′ ≡ k → Going s list sort level a b h p l w c at k lines n left → Going s list sort level a b h p l w c at′ k′ lines n left
-going-at s list sort level a b h p l w c at at′ k k′ lines n left e f g =
-    subst (λ at. Going s list sort level a b h p l w c at k′ lines n left) (sym e) (subst (λ k. Going s list sort level a b h p l w c at k lines n left) (sym f) g)
-
-pub stacked-at : (p l w c : List ℕ) (k k′ : ℕ) (ws : List Want) → k′ ≡ k → Stacked p l w c k ws → Stacked p l w c k′ ws
-stacked-at p l w c k k′ ws e st = subst (λ k. Stacked p l w c k ws) (sym e) st
+pub list-next : (s a b h a′ b′ h′ : List ℕ) (sort : Sort) (level left d fewer : ℕ) (x : Check) (p r : Place) → d ≡ levelFor left level → fewer ≡ pred left → Went s a b h (entries left sort level) [] x p → p .fault ≡ 0 → p .from < length s
+    → Goes s a b h p a′ b′ h′ (replicate 1 (want sort d 0)) r → Went s a′ b′ h′ (entries fewer sort level) [] x r
+list-next s a b h a′ b′ h′ sort level left d fewer x p r e k w z low f =
+    let o = w .on z in
+    subst (λ y. Went s a′ b′ h′ (entries fewer sort level) [] y r)
+    (sym (o .1 ∙ entry-run sort level left (linesFrom s (p .from)) (o .0) (lines-left s (p .from) low) ∙ (λ i. run bounds (linesFrom s (p .from)) (entries (sym k i) sort level) (want sort (sym e i) 0 ∷ []) (o .0))))
+    (f (entries fewer sort level) [] (o .0) (o .2))

@@ -3,13 +3,12 @@ pub mod RepeatLaw
 pub mod LineTook
 pub mod LineLaw
 pub mod RunLaw
-pub mod StackLaw
+pub mod BelowLaw
 pub mod Zero
 pub mod FieldsLaw
 pub mod SlotLaw
 pub mod TailLaw
 pub mod SaysLaw
 pub mod LineIsLaw
-pub mod PushLaw
-pub mod TurnLaw
+pub mod DescentLaw
 pub mod CheckLaw

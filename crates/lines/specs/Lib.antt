@@ -1,5 +1,5 @@
 pub mod Line
-pub mod Stack
 pub mod Steps
 pub mod Says
+pub mod Below
 pub mod Run

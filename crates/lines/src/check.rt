@@ -1,235 +1,313 @@
-// A text line by line: what is to come, one line, what it asks for; then missing or left-over lines.
+// A text by descent: a line, then the groups of lines that it asks for, each line with what it asks for itself; then left-over lines.
+use crate::below::alone;
+use crate::below::amount;
+use crate::below::below_level;
 use crate::line::Line;
-use crate::line::opens_level;
 use crate::line::read_line;
-use crate::stack::push;
-use crate::stack::push_row;
 use algebra::Answer;
 use cursor::Cursor;
+use text::find;
+use words::Row;
 ghost use mathlib.Core.Path.{_≡_};
-ghost use Prim.Native.Nat.{ℕ, suc, _+_, _-_, _*_, _≤_, _<_};
-ghost use mathlib.Core.List.{List, [], _∷_};
-ghost use lib.ListN.{length, getD};
-ghost use Rattle.text.specs.Text.{Line as Fields, split, part};
+ghost use Prim.Native.Nat.{_≤_, _<_, pred};
+ghost use mathlib.Core.List.{List, [], _∷_, _++_};
+ghost use lib.ListN.{replicate};
+ghost use Rattle.text.specs.Text.{linesFrom};
 ghost use Rattle.algebra.specs.Tally.{Tally, bounds};
-ghost use Rattle.algebra.specs.Machine.{Want, More, checkText};
+ghost use Rattle.algebra.specs.Machine.{Want, want, More, done, entries, run, checkText};
 ghost use Rattle.names.specs.Names.{Holds};
-ghost use Rattle.lines.specs.Says.{below};
-ghost use Rattle.lines.specs.Steps.{InLine};
-ghost use Rattle.lines.specs.Stack.{slack, Stacked};
 ghost use Rattle.words.specs.Code.{sortAt};
-ghost use Rattle.lines.specs.Run.{Readied, TurnIs, Tells, moreOf, wantsOf};
+ghost use Rattle.lines.specs.Says.{below};
+ghost use Rattle.lines.specs.Below.{groups};
+ghost use Rattle.lines.specs.Run.{Ready, Stood, Went, Sound, Told, levelFor, Tells};
 
-// How many parents await children, and how many entries may still come.
-pub struct Demanded {
-    pub height: usize,
-    pub left: usize,
+// Where the text goes on, how many lines and names there were; and the fault that ended the check: 0 for none, 1 for malformed, else over a bound.
+pub struct Place {
+    pub from: usize,
+    pub lines: usize,
+    pub n: usize,
+    pub fault: usize,
 }
 
-// The next line to come stands on top, a new entry of a list if need be; a height of 0 says that nothing may come.
-fn ready(
-    sorts: &mut [u8; 260],
-    levels: &mut [u8; 260],
-    widths: &mut [usize; 260],
-    counts: &mut [u64; 260],
-    c: Cursor,
-    list: bool,
-    sort: u8,
+fn stopped(fault: usize) -> Place
+    ensures { λ r. ⌜ r .fault ≡ fault ⌝ }
+{
+    Place {
+        from: 0,
+        lines: 0,
+        n: 0,
+        fault,
+    }
+}
+
+// A line that was read: what it asks for, and the place behind it.
+pub struct Taken {
+    pub row: Row,
+    pub first: usize,
+    pub second: usize,
+    pub place: Place,
+}
+
+fn lost(fault: usize) -> Taken
+    ensures { λ r. ⌜ r .place .fault ≡ fault ⌝ }
+{
+    Taken {
+        row: Row(0, 0, 0, 0, 0, 0, 0, 0, 0, 0, 0, 0, 0, 0, 0, 0),
+        first: 0,
+        second: 0,
+        place: stopped(fault),
+    }
+}
+
+// The line of a sort that starts here.
+fn take_line(
+    p: Place,
     level: u8,
-    left: usize,
-) -> Demanded
-    requires { ⌜ (c .height ≤ 258) × (sort ≤ 11) × (level ≤ 64) ⌝ }
-    ensures { λ r. ⌜ ((ws : List Want) → Stacked (now (sorts .entry)) (now (levels .entry)) (now (widths .entry)) (now (counts .entry)) (c .height) ws → Readied (now (sorts .exit)) (now (levels .exit)) (now (widths .exit)) (now (counts .exit)) (moreOf list left sort level) ws (moreOf list (r .left) sort level) (r .height)) ⌝ }
-{
-    let d = c.child_done(counts);
-    let h = d.height;
-    if 0 < h {
-        return Demanded { height: h, left };
-    }
-    if !list {
-        return Demanded { height: 0, left };
-    }
-    if left == 0 {
-        let g = push(sorts, levels, widths, counts, 0, sort, 0, 0, 1);
-        return Demanded { height: g, left: 0 };
-    }
-    let g = push(sorts, levels, widths, counts, 0, sort, level, 0, 1);
-    Demanded {
-        height: g,
-        left: left - 1,
-    }
-}
-
-// What a line leaves: the parents that await children, and the number of names.
-pub struct Turned {
-    pub height: usize,
-    pub names: usize,
-}
-
-pub enum Turn {
-    Next(Turned),
-    Malformed,
-    OverBound,
-}
-
-// The levels that may be opened below a line.
-fn below_level(sort: u8, level: u8) -> u8
-    requires { ⌜ sort ≤ 11 ⌝ }
-    ensures { λ r. ⌜ r ≡ below sort level ⌝ }
-{
-    if opens_level(sort) {
-        if level == 0 {
-            return 0;
-        }
-        return level - 1;
-    }
-    level
-}
-
-// One line, of the sort that stands on top of the stack.
-fn take_turn(
+    sort: u8,
+    width: usize,
     s: &[u8],
-    c: Cursor,
-    h: usize,
-    lines: usize,
-    sorts: &mut [u8; 260],
-    levels: &mut [u8; 260],
-    widths: &mut [usize; 260],
-    counts: &mut [u64; 260],
     starts: &mut [u16; 1024],
     sizes: &mut [u16; 1024],
     hints: &mut [u16; 4096],
-    n: usize,
-) -> Turn
-    requires { ⌜ InLine (now s) c × (c .at ≤ c .end) × (0 < h) × (h ≤ 258) × (getD (now counts) (h - 1) 0 ≡ 0 → ⊥) × (getD (now sorts) (h - 1) 0 ≤ 11) × (h - 1 + 4 * getD (now levels) (h - 1) 0 + slack (sortAt (getD (now sorts) (h - 1) 0)) ≤ 257) ⌝ }
-    ensures { λ r. ⌜ ((ρ : More) (ws : List Want) (m : Tally) (ls : List Fields) → Stacked (now (sorts .entry)) (now (levels .entry)) (now (widths .entry)) (now (counts .entry)) h ws → m .lines ≡ lines → m .wide ≤ 64 → Holds (now (s .entry)) (now (starts .entry)) (now (sizes .entry)) (now (hints .entry)) n (m .names) → TurnIs (now (s .entry)) (now (sorts .exit)) (now (levels .exit)) (now (widths .exit)) (now (counts .exit)) (now (starts .exit)) (now (sizes .exit)) (now (hints .exit)) (split 9 (part (c .at) (c .end) (now (s .entry)))) ls ρ ws m r) ⌝ }
+) -> Taken
+    requires { ⌜ (sort ≤ 11) × Ready (now s) p ⌝ }
+    ensures { λ r. ⌜ ((ρ : More) (ws : List Want) (m : Tally) → Stood (now (s .entry)) (now (starts .entry)) (now (sizes .entry)) (now (hints .entry)) p m → Went (now (s .entry)) (now (starts .exit)) (now (sizes .exit)) (now (hints .exit)) ρ (groups (r .row) (below sort level) (r .first) (r .second) ++ ws) (run bounds (linesFrom (now (s .entry)) (p .from)) ρ (want (sortAt sort) level width ∷ ws) m) (r .place)) ⌝ }
+    ensures sound { λ r. ⌜ (r .place .fault ≡ 0 → Sound (now (s .entry)) p r) ⌝ }
 {
-    let i = h - 1;
-    let k = counts[i];
-    counts[i] = k - 1;
-    let sort = sorts[i];
-    let level = levels[i];
-    let width = widths[i];
-    let l = read_line(s, c, sort, level, width, lines, starts, sizes, hints, n);
+    let from = p.from;
+    if s.len() <= from {
+        return lost(1);
+    }
+    let end = find(s, from, s.len(), 10);
+    if end == s.len() {
+        return lost(1);
+    }
+    let c = Cursor {
+        at: from,
+        end,
+        height: 0,
+    };
+    let l = read_line(s, c, sort, level, width, p.lines, starts, sizes, hints, p.n);
     match l {
         Line::Asks(a) => {
             let row = a.row;
-            let d = below_level(sort, level);
-            let g = push_row(sorts, levels, widths, counts, h, row, d, a.first, a.second);
-            return Turn::Next(Turned {
-                height: g,
-                names: a.names,
-            });
+            return Taken {
+                row,
+                first: a.first,
+                second: a.second,
+                place: Place {
+                    from: end + 1,
+                    lines: p.lines + 1,
+                    n: a.names,
+                    fault: 0,
+                },
+            };
         }
         Line::Malformed => {
-            return Turn::Malformed;
+            return lost(1);
         }
         Line::OverBound => {
-            return Turn::OverBound;
+            return lost(2);
         }
     }
 }
 
-// The whole check of a text that is one line of a sort with what it asks for, or a list of such entries.
-pub fn check_text(
+// A line of a sort, with all that it asks for.
+fn check_entry(
+    p: Place,
+    level: u8,
+    sort: u8,
+    width: usize,
     s: &[u8],
-    list: bool,
+    starts: &mut [u16; 1024],
+    sizes: &mut [u16; 1024],
+    hints: &mut [u16; 4096],
+) -> Place
+    requires { ⌜ (sort ≤ 11) × Ready (now s) p ⌝ }
+    ensures { λ r. ⌜ ((ρ : More) (ws : List Want) (m : Tally) → Stood (now (s .entry)) (now (starts .entry)) (now (sizes .entry)) (now (hints .entry)) p m → Went (now (s .entry)) (now (starts .exit)) (now (sizes .exit)) (now (hints .exit)) ρ ws (run bounds (linesFrom (now (s .entry)) (p .from)) ρ (want (sortAt sort) level width ∷ ws) m) r) ⌝ }
+    ensures ready { λ r. ⌜ (r .fault ≡ 0 → (p .from < r .from) × Ready (now (s .entry)) r) ⌝ }
+{
+    let t = take_line(p, level, sort, width, s, starts, sizes, hints);
+    let q = t.place;
+    if q.fault != 0 {
+        return q;
+    }
+    if alone(t.row) {
+        return q;
+    }
+    let d = below_level(sort, level);
+    check_below(q, d, t.row, t.first, t.second, s, starts, sizes, hints)
+}
+
+// The groups of lines that a line with that row asks for.
+fn check_below(
+    p: Place,
+    level: u8,
+    row: Row,
+    first: usize,
+    second: usize,
+    s: &[u8],
+    starts: &mut [u16; 1024],
+    sizes: &mut [u16; 1024],
+    hints: &mut [u16; 4096],
+) -> Place
+    requires { ⌜ ((row .9 ≤ 11) × (row .12 ≤ 11) × (row .15 ≤ 11)) × (first < 4294967296) × (second < 4294967296) × Ready (now s) p ⌝ }
+    ensures { λ r. ⌜ ((ρ : More) (ws : List Want) (m : Tally) → Stood (now (s .entry)) (now (starts .entry)) (now (sizes .entry)) (now (hints .entry)) p m → Went (now (s .entry)) (now (starts .exit)) (now (sizes .exit)) (now (hints .exit)) ρ ws (run bounds (linesFrom (now (s .entry)) (p .from)) ρ (groups row level first second ++ ws) m) r) ⌝ }
+    ensures ready { λ r. ⌜ (r .fault ≡ 0 → (p .from ≤ r .from) × Ready (now (s .entry)) r) ⌝ }
+{
+    let k = amount(row.7, row.8, first, second);
+    let a = check_group(p, level, row.9, first, k, s, starts, sizes, hints);
+    if a.fault != 0 {
+        return a;
+    }
+    let l = amount(row.10, row.11, first, second);
+    let b = check_group(a, level, row.12, first, l, s, starts, sizes, hints);
+    if b.fault != 0 {
+        return b;
+    }
+    let x = amount(row.13, row.14, first, second);
+    check_group(b, level, row.15, first, x, s, starts, sizes, hints)
+}
+
+// So many lines of a sort, if any.
+fn check_group(
+    p: Place,
+    level: u8,
+    sort: u8,
+    width: usize,
+    times: u64,
+    s: &[u8],
+    starts: &mut [u16; 1024],
+    sizes: &mut [u16; 1024],
+    hints: &mut [u16; 4096],
+) -> Place
+    requires { ⌜ (sort ≤ 11) × Ready (now s) p ⌝ }
+    ensures { λ r. ⌜ ((ρ : More) (ws : List Want) (m : Tally) → Stood (now (s .entry)) (now (starts .entry)) (now (sizes .entry)) (now (hints .entry)) p m → Went (now (s .entry)) (now (starts .exit)) (now (sizes .exit)) (now (hints .exit)) ρ ws (run bounds (linesFrom (now (s .entry)) (p .from)) ρ (replicate times (want (sortAt sort) level width) ++ ws) m) r) ⌝ }
+    ensures ready { λ r. ⌜ (r .fault ≡ 0 → (p .from ≤ r .from) × Ready (now (s .entry)) r) ⌝ }
+{
+    if times == 0 {
+        return p;
+    }
+    check_lines(p, level, sort, width, times, s, starts, sizes, hints)
+}
+
+// So many lines of a sort, each with all that it asks for.
+fn check_lines(
+    p: Place,
+    level: u8,
+    sort: u8,
+    width: usize,
+    times: u64,
+    s: &[u8],
+    starts: &mut [u16; 1024],
+    sizes: &mut [u16; 1024],
+    hints: &mut [u16; 4096],
+) -> Place
+    requires { ⌜ (sort ≤ 11) × Ready (now s) p ⌝ }
+    ensures { λ r. ⌜ ((ρ : More) (ws : List Want) (m : Tally) → Stood (now (s .entry)) (now (starts .entry)) (now (sizes .entry)) (now (hints .entry)) p m → Went (now (s .entry)) (now (starts .exit)) (now (sizes .exit)) (now (hints .exit)) ρ ws (run bounds (linesFrom (now (s .entry)) (p .from)) ρ (replicate times (want (sortAt sort) level width) ++ ws) m) r) ⌝ }
+    ensures ready { λ r. ⌜ (r .fault ≡ 0 → (p .from ≤ r .from) × Ready (now (s .entry)) r) ⌝ }
+{
+    let mut q = p;
+    let mut left = times;
+    while 0 < left {
+        left -= 1;
+        q = check_entry(q, level, sort, width, s, starts, sizes, hints);
+        if q.fault != 0 {
+            return q;
+        }
+    }
+    q
+}
+
+// What a check that ended here says: a fault, lines that are left over, or the number of names.
+fn told(s: &[u8], p: Place) -> Answer
+    ensures { λ r. ⌜ Told (now (s .entry)) p r ⌝ }
+{
+    if p.fault == 0 {
+        if p.from < s.len() {
+            return Answer::Malformed;
+        }
+        return Answer::Good(p.n);
+    }
+    if p.fault == 1 {
+        return Answer::Malformed;
+    }
+    Answer::OverBound
+}
+
+// A text that is one line of a sort with all that it asks for.
+pub fn check_one(
+    s: &[u8],
     sort: u8,
     level: u8,
     starts: &mut [u16; 1024],
     sizes: &mut [u16; 1024],
     hints: &mut [u16; 4096],
 ) -> Answer
-    requires { ⌜ (sort ≤ 11) × (level ≤ 64) × Holds (now s) (now starts) (now sizes) (now hints) 0 [] ⌝ }
-    ensures { λ r. ⌜ Tells (now (s .entry)) (now (starts .exit)) (now (sizes .exit)) (now (hints .exit)) (checkText bounds (moreOf list 64 sort level) (wantsOf list sort level) (now (s .entry))) r ⌝ }
+    requires { ⌜ (sort ≤ 11) × Holds (now s) (now starts) (now sizes) (now hints) 0 [] ⌝ }
+    ensures { λ r. ⌜ Tells (now (s .entry)) (now (starts .exit)) (now (sizes .exit)) (now (hints .exit)) (checkText bounds done (want (sortAt sort) level 0 ∷ []) (now (s .entry))) r ⌝ }
 {
     if 16384 < s.len() {
         return Answer::OverBound;
     }
-    let mut sorts = [0u8; 260];
-    let mut levels = [0u8; 260];
-    let mut widths = [0usize; 260];
-    let mut counts = [0u64; 260];
-    let h = push(
-        &mut sorts,
-        &mut levels,
-        &mut widths,
-        &mut counts,
-        0,
-        sort,
-        level,
-        0,
-        roots(list),
-    );
-    let mut c = Cursor::new(h);
-    let mut lines = 0;
-    let mut n = 0;
-    let mut left = 64;
-    while c.at < s.len() {
-        let d = c.next_line(s);
-        if d.end == s.len() {
-            return Answer::Malformed;
-        }
-        let q = ready(
-            &mut sorts,
-            &mut levels,
-            &mut widths,
-            &mut counts,
-            d,
-            list,
-            sort,
-            level,
-            left,
-        );
-        if q.height == 0 {
-            return Answer::Malformed;
-        }
-        let t = take_turn(
-            s,
-            d,
-            q.height,
-            lines,
-            &mut sorts,
-            &mut levels,
-            &mut widths,
-            &mut counts,
-            starts,
-            sizes,
-            hints,
-            n,
-        );
-        match t {
-            Turn::Next(v) => {
-                c = Cursor {
-                    at: d.end + 1,
-                    end: d.end,
-                    height: v.height,
-                };
-                n = v.names;
-            }
-            Turn::Malformed => {
-                return Answer::Malformed;
-            }
-            Turn::OverBound => {
-                return Answer::OverBound;
-            }
-        }
-        left = q.left;
-        lines += 1;
-    }
-    let f = c.child_done(&counts);
-    if f.height == 0 {
-        return Answer::Good(n);
-    }
-    Answer::Malformed
+    let start = Place {
+        from: 0,
+        lines: 0,
+        n: 0,
+        fault: 0,
+    };
+    let p = check_entry(start, level, sort, 0, s, starts, sizes, hints);
+    told(s, p)
 }
 
-// How many lines are to come at the start.
-fn roots(list: bool) -> u64
-    ensures { λ r. ⌜ r ≡ length (wantsOf list 0 0) ⌝ }
+// An entry too many has no level.
+fn entry_level(left: usize, level: u8) -> u8
+    ensures { λ r. ⌜ r ≡ levelFor left level ⌝ }
 {
-    if list {
+    if left == 0 {
         return 0;
     }
-    1
+    level
+}
+
+fn fewer(left: usize) -> usize
+    ensures { λ r. ⌜ r ≡ pred left ⌝ }
+{
+    if left == 0 {
+        return 0;
+    }
+    left - 1
+}
+
+// A text that is a list of such entries, 64 at most.
+pub fn check_list(
+    s: &[u8],
+    sort: u8,
+    level: u8,
+    starts: &mut [u16; 1024],
+    sizes: &mut [u16; 1024],
+    hints: &mut [u16; 4096],
+) -> Answer
+    requires { ⌜ (sort ≤ 11) × Holds (now s) (now starts) (now sizes) (now hints) 0 [] ⌝ }
+    ensures { λ r. ⌜ Tells (now (s .entry)) (now (starts .exit)) (now (sizes .exit)) (now (hints .exit)) (checkText bounds (entries 64 (sortAt sort) level) [] (now (s .entry))) r ⌝ }
+{
+    if 16384 < s.len() {
+        return Answer::OverBound;
+    }
+    let mut p = Place {
+        from: 0,
+        lines: 0,
+        n: 0,
+        fault: 0,
+    };
+    let mut left = 64;
+    while p.from < s.len() {
+        let d = entry_level(left, level);
+        left = fewer(left);
+        p = check_entry(p, d, sort, 0, s, starts, sizes, hints);
+        if p.fault != 0 {
+            return told(s, p);
+        }
+    }
+    told(s, p)
 }

@@ -12,7 +12,7 @@ use Rattle.text.specs.Field.{Kind, variable, node, plain, name, constant, cell,
 use Rattle.cursor.specs.declared.Cursor.{Cursor}
 use Rattle.cursor.specs.Cursor.{left}
 use Rattle.cursor.proofs.Laws.{left-none}
-use Rattle.algebra.specs.Table.{text, Tail, nothing, texts, triples, patterns, expressions, rows, orders, aggregates, Row, rowsOf, rowFor}
+use Rattle.algebra.specs.Table.{text, Tail, nothing, texts, triples, patterns, expressions, rows, orders, aggregates, Row, rowsOf, rowFor, heads}
 use Rattle.words.specs.Code.{tailOf, sortAt}
 use Rattle.emit.specs.Emit.{Em, em, puts}
 use Rattle.emit.proofs.Laws.{puts-append}
@@ -21,7 +21,7 @@ use Rattle.lines.specs.Steps.{leftAt, termsIn}
 use Rattle.scoping.specs.Places.{Mark}
 use Rattle.walking.specs.Walk.{output, writes, putFields, putLine}
 use Rattle.passing.specs.Code.{Mild, Behind, pending, Wrote}
-use Rattle.passing.proofs.Rows.{row-every, Inner, triples-inner, columns-inner, rows-inner, orders-inner, aggregates-inner, Upper, patterns-upper, expressions-upper, plain-mild}
+use Rattle.passing.proofs.Rows.{row-every, Inner, triples-inner, columns-inner, rows-inner, orders-inner, aggregates-inner, Upper, patterns-upper, expressions-upper, heads-upper, plain-mild}
 use Rattle.passing.proofs.InkLaws.{part-join}
 use Rattle.passing.proofs.FieldLaws.{single}
 
@@ -85,7 +85,7 @@ module _ (new : Bytes → Bytes) (m : Mark) (stays : Bool) (s : Bytes) (ns : Lis
       ∙ wrote []
       ∙ (λ i. putFields (append-nil ns i) new m (is i) (row .slots) 0 (left s (word + 1) end) (writes (part from (y i) s) (output at o fl))))
 
-pub sort-mild : (sort : ℕ) (w : Bytes) (r : Row) → sort ≤ 6 → rowFor (sortAt sort) w ≡ some r → Mild (r .tail)
+pub sort-mild : (sort : ℕ) (w : Bytes) (r : Row) → sort ≤ 7 → rowFor (sortAt sort) w ≡ some r → Mild (r .tail)
 sort-mild zero w r h q = row-every Inner (rowsOf triples) w r triples-inner q .1
 sort-mild (suc zero) w r h q = row-every Inner (rowsOf (sortAt 1)) w r columns-inner q .1
 sort-mild (suc (suc zero)) w r h q = plain-mild (r .tail) (row-every Upper (rowsOf patterns) w r patterns-upper q .0)
@@ -93,4 +93,5 @@ sort-mild (suc (suc (suc zero))) w r h q = plain-mild (r .tail) (row-every Upper
 sort-mild (suc (suc (suc (suc zero)))) w r h q = row-every Inner (rowsOf rows) w r rows-inner q .1
 sort-mild (suc (suc (suc (suc (suc zero))))) w r h q = row-every Inner (rowsOf orders) w r orders-inner q .1
 sort-mild (suc (suc (suc (suc (suc (suc zero)))))) w r h q = row-every Inner (rowsOf aggregates) w r aggregates-inner q .1
-sort-mild (suc (suc (suc (suc (suc (suc (suc k))))))) w r h q = absurd (omega arith)
+sort-mild (suc (suc (suc (suc (suc (suc (suc zero))))))) w r h q = plain-mild (r .tail) (row-every Upper (rowsOf heads) w r heads-upper q .0)
+sort-mild (suc (suc (suc (suc (suc (suc (suc (suc k)))))))) w r h q = absurd (omega arith)

@@ -188,7 +188,7 @@ pub fn pass_line(
     flags: &mut [u8; 2048],
     out: &mut [u8],
 ) -> Lined
-    requires { ⌜ (sort ≤ 6) × (length (now text) ≤ 16384) × Kept (now text) (now starts) (now sizes) (now hints) (p .n) × (count ≤ 64) ⌝ }
+    requires { ⌜ (sort ≤ 7) × (length (now text) ≤ 16384) × Kept (now text) (now starts) (now sizes) (now hints) (p .n) × (count ≤ 64) ⌝ }
     ensures { λ r. ⌜ LineIs (aims (now (pool .entry)) (now (keys .entry)) count) (now (text .entry)) sort deep width mark (standing (now (text .entry)) p (now (starts .entry)) (now (sizes .entry)) (now (flags .entry)) (now (out .entry))) (now (starts .exit)) (now (sizes .exit)) (now (hints .exit)) (now (flags .exit)) (now (out .exit)) r ⌝ }
 {
     let from = p.from;

@@ -19,7 +19,7 @@ use Rattle.words.specs.declared.Found.the-variants.{Is, None}
 use Rattle.words.specs.Code.{sortAt, groupOf, rowOf, rowFound, noCode, Tidy}
 use Rattle.cursor.specs.Cursor.{left}
 use Rattle.parted.proofs.Laws.{part-join, part-line}
-use Rattle.lines.specs.Stack.{amountIn}
+use Rattle.lines.specs.Below.{amountIn}
 use Rattle.walking.specs.Walk.{rowOr, numberIn}
 use Rattle.walking.specs.Code.{LineEnd}
 use Rattle.walking.proofs.Laws.{tidy-is}

@@ -1,5 +1,5 @@
 // Where a pattern ends: line by line while something is to come, by the one table of words.
-use lines::stack::amount;
+use lines::below::amount;
 use text::find;
 use walking::line::count_at;
 use walking::line::line_end;

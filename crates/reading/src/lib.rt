@@ -1,6 +1,7 @@
 // The check of trees, queries, binding sets and filters: each text's number, and the table of its variables.
 use algebra::Answer;
-use lines::check::check_text;
+use lines::check::check_list;
+use lines::check::check_one;
 use names::clear;
 ghost use Rattle.algebra.specs.Texts.{readTree, readQuery, readSets, readFilters};
 ghost use Rattle.names.specs.Checked.{Checked};
@@ -16,7 +17,7 @@ pub fn check_tree(
     ensures { λ r. ⌜ Checked treeNames (now (text .entry)) (now (starts .exit)) (now (sizes .exit)) (now (hints .exit)) (readTree (now (text .entry))) r ⌝ }
 {
     clear(starts, sizes, hints);
-    check_text(text, false, 2, 64, starts, sizes, hints)
+    check_one(text, 2, 64, starts, sizes, hints)
 }
 
 // A query: its head line, then a tree.
@@ -29,7 +30,7 @@ pub fn check_query(
     ensures { λ r. ⌜ Checked queryNames (now (text .entry)) (now (starts .exit)) (now (sizes .exit)) (now (hints .exit)) (readQuery (now (text .entry))) r ⌝ }
 {
     clear(starts, sizes, hints);
-    check_text(text, false, 7, 64, starts, sizes, hints)
+    check_one(text, 7, 64, starts, sizes, hints)
 }
 
 // A list of binding sets.
@@ -42,7 +43,7 @@ pub fn check_sets(
     ensures { λ r. ⌜ Checked setNames (now (text .entry)) (now (starts .exit)) (now (sizes .exit)) (now (hints .exit)) (readSets (now (text .entry))) r ⌝ }
 {
     clear(starts, sizes, hints);
-    check_text(text, true, 8, 1, starts, sizes, hints)
+    check_list(text, 8, 1, starts, sizes, hints)
 }
 
 // A list of filters.
@@ -55,5 +56,5 @@ pub fn check_filters(
     ensures { λ r. ⌜ Checked filterNames (now (text .entry)) (now (starts .exit)) (now (sizes .exit)) (now (hints .exit)) (readFilters (now (text .entry))) r ⌝ }
 {
     clear(starts, sizes, hints);
-    check_text(text, true, 11, 64, starts, sizes, hints)
+    check_list(text, 11, 64, starts, sizes, hints)
 }

@@ -14,7 +14,7 @@ use Rattle.algebra.specs.Machine.{amountOf}
 use Rattle.words.specs.declared.Row.{Row as Code}
 use Rattle.words.specs.declared.Found.the-variants.{Is}
 use Rattle.words.specs.Code.{sortAt, groupOf, rowOf, Tidy}
-use Rattle.lines.specs.Stack.{amountIn}
+use Rattle.lines.specs.Below.{amountIn}
 use Rattle.scoping.specs.Places.{Mark, visible, covered, silent, under}
 use Rattle.walking.specs.declared.line.Head.{Head}
 use Rattle.walking.specs.declared.line.Walked.{Walked}

@@ -27,7 +27,7 @@ use Rattle.passing.proofs.tree.+pass_below+pass_child+pass_group+rename
 use Rattle.passing.proofs.tree.rename_in_graph_pattern.Reads as rename-in-graph-pattern
 use Rattle.passing.proofs.tree.rename_in_graph_pattern.Kinds as rename-in-graph-pattern-kinds
 use Rattle.passing.proofs.tree.+pass_below+pass_child+pass_group+rename_in_expression+rename_in_graph_pattern.Lts-rename_in_graph_pattern as rename-in-graph-pattern-lts
-use Rattle.lines.proofs.stack.amount.Reads as amount-reads
+use Rattle.lines.proofs.below.amount.Reads as amount-reads
 use Rattle.passing.proofs.line.pass_line.Reads as pass-line-reads
 use Rattle.passing.proofs.tree.mark_below.Reads as mark-below-reads
 use Rattle.passing.proofs.tree.+pass_below+pass_child+pass_group+rename_in_expression+rename_in_graph_pattern.{

@@ -27,7 +27,7 @@ use Rattle.walking.proofs.tree.+rename_below+rename_child+rename_group+
 use Rattle.walking.proofs.tree.rename_in_graph_pattern.Reads as rename-in-graph-pattern
 use Rattle.walking.proofs.tree.rename_in_graph_pattern.Kinds as rename-in-graph-pattern-kinds
 use Rattle.walking.proofs.tree.+rename_below+rename_child+rename_group+rename_in_expression+rename_in_graph_pattern.Lts-rename_in_graph_pattern as rename-in-graph-pattern-lts
-use Rattle.lines.proofs.stack.amount.Reads as amount-reads
+use Rattle.lines.proofs.below.amount.Reads as amount-reads
 use Rattle.walking.proofs.line.walk_line.Reads as walk-line-reads
 use Rattle.walking.proofs.tree.mark_below.Reads as mark-below-reads
 use Rattle.walking.proofs.tree.+rename_below+rename_child+rename_group+rename_in_expression+rename_in_graph_pattern.{

@@ -1,8 +1,8 @@
--- `lines::check/below_level` meets its contract. Assumes nothing.
+-- `lines::below/below_level` meets its contract. Assumes nothing.
 use borrow.Author.Needs.{needs}
-use Rattle.lines.proofs.TurnLaw as W
-use Rattle.lines.proofs.check.below_level.Statement.{statement}
-use Rattle.lines.proofs.check.below_level.Tie as tie
+use Rattle.lines.proofs.BelowLaw as W
+use Rattle.lines.proofs.below.below_level.Statement.{statement}
+use Rattle.lines.proofs.below.below_level.Tie as tie
 
 pub below-level-spec : {M : Type 1} → statement M
 below-level-spec =

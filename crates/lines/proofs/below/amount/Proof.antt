@@ -1,8 +1,8 @@
--- `lines::stack/amount` meets its contract. Assumes nothing.
+-- `lines::below/amount` meets its contract. Assumes nothing.
 use borrow.Author.Needs.{needs}
-use Rattle.lines.proofs.PushLaw as P
-use Rattle.lines.proofs.stack.amount.Statement.{statement}
-use Rattle.lines.proofs.stack.amount.Tie as tie
+use Rattle.lines.proofs.BelowLaw as P
+use Rattle.lines.proofs.below.amount.Statement.{statement}
+use Rattle.lines.proofs.below.amount.Tie as tie
 
 pub amount-spec : {M : Type 1} → statement M
 amount-spec =
