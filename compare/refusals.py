@@ -1,4 +1,4 @@
-"""The numbers with which document 01 refuses the inputs of `merge` to `filters`: the input itself, its texts in their order (by the
+"""The numbers by which docs/SPECIFICATION.md refuses the inputs of `merge` to `filters`: the input itself, its texts in their order (by the
 second reader of tests/), then 5, 4, 3, 7. Whether the answer is too long (6) is for its length to say. And what the Rust does there.
 """
 

@@ -1,13 +1,13 @@
-"""Texts at the bounds of document 01: each bound exactly met (0) and passed by
+"""Texts at the bounds of docs/SPECIFICATION.md: each exactly met (0) and passed by
 one (2), and which number comes first. Part of make_texts.py, which calls
 add(case); each call case(number, kind, label, text) has its number written by
-hand from document 01.
+hand.
 
-In a text given as str, / is a line end, the last not shown, and a space a tab.
+In a text given as str, / is a line end, the last one left out, and a space a tab.
 """
 
 def lines(written):
-    """The bytes of a text in document 01's notation."""
+    """The bytes of a text in that notation."""
     return written.replace(" ", "\t").replace("/", "\n").encode() + b"\n"
 
 

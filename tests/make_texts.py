@@ -1,5 +1,5 @@
 #!/usr/bin/env python3
-"""The recorded texts of document 01 with their numbers.
+"""The recorded texts with their numbers.
 
     python3 make_texts.py OUTDIR
 
@@ -8,16 +8,16 @@ describes, the same bytes each time. 0 is well formed, 1 malformed, 2 over a
 bound.
 
 How the numbers were obtained: each text but the damaged random ones at the
-end is made together with its number, written by hand from document 01 and the
-recorded readings of its open corners: text by text in small_texts and
+end is made together with its number, written by hand from the rules of
+docs/SPECIFICATION.md: text by text in small_texts and
 bound_texts.py; here, for each sort of field and each specimen, for each place
 and each form, for each domain and each extra; and in the examples of
 docs/SPECIFICATION.md and docs/VARIANTS.md. The program stops if
 second_reader.py gives another number. A damaged random text has the number of
 second_reader.py.
 
-As in document 01, a text is written here with / for a line end, the last not
-shown, and spaces for tabs.
+A text is written here with / for a line end, the last one left out, and spaces
+for tabs.
 """
 import os
 import random
@@ -41,7 +41,7 @@ def record(kind, label, data, expect):
 
 
 def case(expect, kind, label, data):
-    """A text with the number that document 01 gives it."""
+    """A text with its number."""
     data = text(data) if isinstance(data, str) else data
     found = number(kind, data)
     assert found == expect, "%s: %d by hand, %d by the reader\n%r" % (label, expect, found, data[:400])
@@ -49,7 +49,7 @@ def case(expect, kind, label, data):
 
 
 def text(written):
-    """The bytes of a text in document 01's notation; nothing written is no line."""
+    """The bytes of a text in that notation; nothing written is no line."""
     return written.replace(" ", "\t").replace("/", "\n").encode("latin-1") + b"\n" if written else b""
 
 

@@ -5,9 +5,9 @@
 
 writes OUTDIR/cases and OUTDIR/expected, the same bytes each time. First come
 the cases of vectors/, whose answers are those of nemo's Rust, then the inputs
-below, in written_merges.py and written_placings.py, whose answers are written by hand from document
-01 and the recorded readings of its open corners, then the calls of
-docs/SPECIFICATION.md. It stops where second_calls.py writes another answer.
+below, in written_merges.py and written_placings.py, whose answers are written
+by hand from the rules of docs/SPECIFICATION.md, then the calls of that page. It
+stops where second_calls.py writes another answer.
 
 vectors/NAME.txt: a head, then the cases; a line ==== follows each of them. A
 case is what the program NAME reads, a line ->, and what it must write. `%` and

@@ -1,5 +1,5 @@
 #!/usr/bin/env python3
-"""Random texts of every kind of document 01, for comparing readers at scale.
+"""Random texts of every kind, for comparing readers at scale.
 
     python3 random_texts.py SEED COUNT OUTDIR
 

@@ -1,11 +1,11 @@
 #!/usr/bin/env python3
-"""A second reader of the texts of document 01, "Lines of a tree".
+"""A second reader of the texts of docs/SPECIFICATION.md.
 
 number(kind, data) is 0 for a text that is well formed and within the bounds,
 1 for a malformed one and 2 for one over a bound. The kinds are tree, query,
 joins, constants, mapping, bindings and filters.
 
-Written from document 01 and the recorded readings of its open corners, and
+Written from the rules alone, and
 sharing no code with the product: here each function takes its own line, checks
 it against the forms of that place and then reads what stands below it. The
 first thing wrong ends the reading, so the order of the numbers is the order

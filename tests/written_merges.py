@@ -1,4 +1,4 @@
-"""Inputs of merge, merge_queries, push and negate with answers written by hand from document 01."""
+"""Inputs of merge, merge_queries, push and negate with answers written by hand."""
 from written_texts import BAR, LONG, MALFORMED, OVER, padded, refused, text
 
 SELECT = "query select - -/"
@@ -38,7 +38,7 @@ MANY_CONSTANTS = "/".join("%d <k>" % i for i in range(65))
 OVER_QUERY = text(SELECT[:-1]) + OVER
 BAD_QUERY = text(SELECT[:-1]) + MALFORMED
 
-# "Cases to be proved", in document 01's order.
+# The worked cases of docs/SPECIFICATION.md, in their order.
 CASES = [
     merge("case-1", MERGED, EVENT, BAY, "1 0"),
     merge("case-2", "project ?j0 ?j0Label ?j0Label/join/bgp 1/t ?j0 <l> ?j0Label/bgp 1/t ?j0 <m> ?j0Label",

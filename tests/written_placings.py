@@ -1,4 +1,4 @@
-"""Inputs of bindings and filters with answers written by hand from document 01."""
+"""Inputs of bindings and filters with answers written by hand."""
 from written_merges import answer, parted
 from written_texts import BAR, LONG, MALFORMED, OVER, padded, refused, text
 

@@ -5,7 +5,7 @@ LONG = 65536  # bytes of a program's input, and of its answer
 
 
 def text(written):
-    """The bytes of a text in document 01's notation: / for a line end, the last not shown, and spaces for tabs."""
+    """The bytes of a text with / for a line end, the last one left out, and spaces for tabs."""
     return written.replace(" ", "\t").replace("/", "\n").encode("latin-1") + b"\n" if written else b""
 
 

@@ -4,7 +4,7 @@ semantics.py (the definitions of crates/counting, transcribed) and by an indepen
 
 ref and main are Apache Jena ARQ's reference engine and its usual one, given the algebra itself (arq.py). rdflib is given query text:
 every pattern in braces of its own, an inner project as a subselect; it does not hand out a row that binds nothing, so these are left out.
-The trees meet document 01's premises on extend and values. The gate does not run this script; docs/COUNTING.md has a record."""
+The trees meet demand 3's premises on extend and values. The gate does not run this script; docs/COUNTING.md has a record."""
 import argparse, collections, random, sys
 from semantics import evaluate, in_scope, is_var
 

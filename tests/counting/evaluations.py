@@ -2,7 +2,7 @@
 """evaluations.py [FILE]: replays recorded evaluations by Apache Jena's reference engine against semantics.py; Jena is not needed.
 
 FILE, evaluations.txt beside this script if none is named, has a head, then the evaluations; a line ==== follows each. An evaluation
-is a tree in the layout of document 01, a line --, the triples, a line ->, the columns, and for each row its count and its cells, `-`
+is a tree in the layout, a line --, the triples, a line ->, the columns, and for each row its count and its cells, `-`
 for unbound. merges.py writes it. The one form in which Jena departs from section 18.5 (docs/COUNTING.md) is kept out."""
 import collections, os, sys
 

@@ -1,4 +1,4 @@
-"""Trees of the counting part, as semantics.py has them, in the layout of document 01, and back."""
+"""Trees of the counting part, as semantics.py has them, in the layout, and back."""
 
 
 def line(*fields):

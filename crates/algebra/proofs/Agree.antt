@@ -12,8 +12,8 @@ use Rattle.algebra.specs.Word.{PatternWord, BGP, PATH, JOIN, UNION, MINU
 use Rattle.algebra.specs.Tally.{Limits, Tally, noted}
 use Rattle.algebra.specs.Reader.{got, next, times, closeAt}
 use Rattle.algebra.specs.Reading.{taken, expressions as someExpressions, condition, triple, columns as columnsLine, listed, orders as someOrders, aggregates as someAggregates, patternAfter, expressionAfter, patternIn, expressionIn, inside, tree}
-use Rattle.algebra.specs.Table.{triples, columns, patterns, expressions, rows, orders, aggregates, patternRow, arityRow, expressionRow}
-use Rattle.algebra.specs.Machine.{Want, want, lineBy, lineOf, run}
+use Rattle.algebra.specs.bridge.Table.{triples, columns, patterns, expressions, rows, orders, aggregates, patternRow, arityRow, expressionRow}
+use Rattle.algebra.specs.bridge.Machine.{Want, want, lineBy, lineOf, run}
 use Rattle.algebra.proofs.Local.{local, one-local, one-nil, rest-local, counted-line, word-line, closes}
 use Rattle.algebra.proofs.AgreeLines.{Runs, Same, follow, times-runs, triple-runs, cols-runs, row-runs, expressions-runs, condition-runs, orders-runs, aggregates-runs}
 

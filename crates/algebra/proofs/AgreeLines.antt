@@ -12,8 +12,8 @@ use Rattle.algebra.specs.Word.{AggregateWord, AGG, AGGALL, spellD, spell
 use Rattle.algebra.specs.Tally.{Limits, Tally}
 use Rattle.algebra.specs.Reader.{Got, got, refused, Reader, next, times, end}
 use Rattle.algebra.specs.Reading.{expressions as someExpressions, condition, triple, columns as columnsLine, listed, orders as someOrders, aggregate, aggregates as someAggregates}
-use Rattle.algebra.specs.Table.{triples, columns, expressions, rows, orders, aggregates, row as rowOf, one as oneOf, _of_, aggregateRow}
-use Rattle.algebra.specs.Machine.{Want, want, lineBy, lineOf, resume, More, run}
+use Rattle.algebra.specs.bridge.Table.{triples, columns, expressions, rows, orders, aggregates, row as rowOf, one as oneOf, _of_, aggregateRow}
+use Rattle.algebra.specs.bridge.Machine.{Want, want, lineBy, lineOf, resume, More, run}
 use Rattle.algebra.proofs.Local.{local, one-local, one-nil, times-local, word-line, key-line, ends}
 
 module _ (β : Limits) where

@@ -13,8 +13,8 @@ use Rattle.algebra.specs.Tally.{Limits, Tally, noted}
 use Rattle.algebra.specs.Reader.{overBound, Got, got, refused, Reader, next, refuse, field, times, closeAt, several}
 use Rattle.algebra.specs.Reading.{taken, listed, tree}
 use Rattle.algebra.specs.ListReading.{parts as someParts, partAfter, valueRow, query, bindingSet, filterIn}
-use Rattle.algebra.specs.Table.{Sort, patterns, heads, sets, positions, valueRows, parts, functionRow, partRow}
-use Rattle.algebra.specs.Machine.{want, lineBy, lineOf, resume, done, entries, run}
+use Rattle.algebra.specs.bridge.Table.{Sort, patterns, heads, sets, positions, valueRows, parts, functionRow, partRow}
+use Rattle.algebra.specs.bridge.Machine.{want, lineBy, lineOf, resume, done, entries, run}
 use Rattle.algebra.proofs.Grow.{In}
 use Rattle.algebra.proofs.Local.{local, one-local, one-nil, times-local, value-local, counted-line, word-line, key-line, ends, closes-at}
 use Rattle.algebra.proofs.AgreeLines.{Runs, Same, follow, times-runs}

@@ -11,9 +11,9 @@ use Rattle.algebra.specs.Reader.{got, number-of, readText}
 use Rattle.algebra.specs.Reading.{tree}
 use Rattle.algebra.specs.ListReading.{query, bindingSet, bindingSets, filterIn, filters}
 use Rattle.algebra.specs.Texts.{readTree, readQuery, readSets, readFilters}
-use Rattle.algebra.specs.Table.{patterns, heads, sets, parts}
-use Rattle.algebra.specs.Machine.{want, done, entries, checkNumber, checkText}
-use Rattle.algebra.specs.Verdict.{checked}
+use Rattle.algebra.specs.bridge.Table.{patterns, heads, sets, parts}
+use Rattle.algebra.specs.bridge.Machine.{want, done, entries, checkNumber, checkText}
+use Rattle.algebra.specs.bridge.Verdict.{checked}
 use Rattle.algebra.proofs.Grow.{In, start-in}
 use Rattle.algebra.proofs.SoundLists.{set-sound, filter-sound}
 use Rattle.algebra.proofs.Exactly.{checks, check-number}
@@ -52,7 +52,7 @@ module _ (β : Limits) where
       none : (s t : List Line) (m n : Tally) (a : Filter) → In β m → filterIn β 0 s m ≡ got a t n → ⊥
       none s t m n a o e = let x = filter-sound β 0 s t m n a o e in let h = filter-deep a in omega arith
 
--- ---- within document 01's bounds, and by number
+-- ---- within the specification's bounds, and by number
 
 pub check-tree : (s : Bytes) → checkText bounds done (want patterns 64 0 ∷ []) s ≡ checked tally (readTree s)
 unfolding readTree

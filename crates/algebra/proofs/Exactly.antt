@@ -13,8 +13,8 @@ use Rattle.text.proofs.Texts.{Neat, Ended, neat-ended, lines-back, text-back}
 use Rattle.algebra.specs.Tally.{Limits, Tally, start}
 use Rattle.algebra.specs.Bounded.{Within, Just}
 use Rattle.algebra.specs.Reader.{malformed, overBound, Got, got, refused, Reader, Outcome, reads, refuses, number-of, outcome, readText}
-use Rattle.algebra.specs.Machine.{Want, good, bad, checkNumber, resume, More, done, run, checkText}
-use Rattle.algebra.specs.Verdict.{checked}
+use Rattle.algebra.specs.bridge.Machine.{Want, good, bad, checkNumber, resume, More, done, run, checkText}
+use Rattle.algebra.specs.bridge.Verdict.{checked}
 use Rattle.algebra.proofs.Grow.{In, counts, in-bounds}
 
 -- r reads the lines of each well formed value within the bounds as that value, and nothing else

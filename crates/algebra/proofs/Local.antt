@@ -13,8 +13,8 @@ use Rattle.algebra.specs.Tally.{Limits, Tally, within}
 use Rattle.algebra.specs.Reader.{Refusal, malformed, overBound, got, refused, Reader, next, orRefuse, one, kept, number, keyword, rest, times, end, tooMany, closeAt}
 use Rattle.algebra.specs.Reading.{taken, inside}
 use Rattle.algebra.specs.ListReading.{value}
-use Rattle.algebra.specs.Table.{Row, entry, rowIn}
-use Rattle.algebra.specs.Machine.{Check, resume}
+use Rattle.algebra.specs.bridge.Table.{Row, entry, rowIn}
+use Rattle.algebra.specs.bridge.Machine.{Check, resume}
 
 pub data Local {A : Type 0} (r : Reader A) (l : Line) (m : Tally) : Type 0 where
   stops : (n : Refusal) → ((ls : List Line) → r (l ∷ ls) m ≡ refused n) → Local r l m

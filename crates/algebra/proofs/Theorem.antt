@@ -104,7 +104,7 @@ module _ (β : Limits) where
   unfolding layoutFilters
   good-filters-exactly s = zero-exactly β _ _ _ _ _ _ filters-match s
 
--- ---- within document 01's bounds
+-- ---- within the specification's bounds
 
 pub tree-exactly : (s : Bytes) (p : Pattern) → (readTree s ≡ reads p) ↔ IsTree bounds s p
 unfolding readTree

@@ -1,4 +1,4 @@
--- The bounds of document 01 as orders, for every kind of text, and the texts of queries and lists. Assumes nothing.
+-- The bounds of docs/SPECIFICATION.md as orders, for every kind of text, and the texts of queries and lists. Assumes nothing.
 use Prim.Native.Nat.{ℕ, _≤_, max}
 use mathlib.Core.Path.{_≡_}
 use mathlib.Core.List.{List, [], _∷_}

@@ -1,4 +1,4 @@
--- How deep a tree is: the root is 1, and only patterns, expressions and filter parts add depth. Document 01, "Bounds". Assumes nothing.
+-- How deep a tree is: the root is 1, and only patterns, expressions and filter parts add depth. docs/SPECIFICATION.md, "Bounds". Assumes nothing.
 use Prim.Native.Nat.{ℕ, suc, max}
 use Rattle.algebra.specs.Tree.{Pattern, bgp, path, join, union, minus, leftjoin, filter, graph, extend, values, orderby, project, distinct, reduced, slice, group, service, Expression, term, bound, exists, apply, call, Condition, always, provided, Expressions, eend, econs, Orders, oend, ocons, Aggregates, aend, agg, aggall}
 use Rattle.algebra.specs.Query.{Filter, leaf, ref, function, Filters, fend, fcons}

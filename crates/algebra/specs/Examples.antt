@@ -1,4 +1,4 @@
--- Worked examples of every kind of text: document 01's own tree, a bigger one, queries, lists, and what each bound and each fault gives. Assumes nothing.
+-- Worked examples of every kind of text: the specification's own tree, a bigger one, queries, lists, and what each bound and each fault gives. Assumes nothing.
 use mathlib.Core.Path.{_≡_, refl}
 use mathlib.Core.List.{[], _∷_, _++_, map}
 use Prim.Native.Nat.{ℕ, zero, suc}
@@ -14,8 +14,8 @@ use Rattle.algebra.specs.Reader.{one, kept, rest, times, end, tooMany, s
 use Rattle.algebra.specs.Reading.{expressions, orders, aggregates, patternAfter, expressionAfter, inside}
 use Rattle.algebra.specs.ListReading.{parts, partAfter, filterIn}
 use Rattle.algebra.specs.Texts.{readTree, readQuery, readPairs, readSets, readFilters}
-use Rattle.algebra.specs.Table.{patterns, rowIn}
-use Rattle.algebra.specs.Machine.{want, good, done, lineOf, run, checkText}
+use Rattle.algebra.specs.bridge.Table.{patterns, rowIn}
+use Rattle.algebra.specs.bridge.Machine.{want, good, done, lineOf, run, checkText}
 use Rattle.algebra.specs.Bounded.{layoutQuery, layoutPairs, layoutSets, layoutFilters}
 
 -- the number of a tree's text; to unfold it is to unfold all reading

@@ -1,4 +1,4 @@
--- The text of a tree, a query and a list: one record a line, in preorder, patterns before expressions under one parent. Document 01, "Lines of a tree". Assumes nothing.
+-- The text of a tree, a query and a list: one record a line, in preorder, patterns before expressions under one parent. docs/SPECIFICATION.md, "Lines of a tree". Assumes nothing.
 use Prim.Native.Nat.{ℕ, suc, _-_}
 use mathlib.Core.List.{List, [], _∷_, _++_}
 use lib.ListN.{length}

@@ -9,9 +9,6 @@ pub mod Reader
 pub mod Reading
 pub mod ListReading
 pub mod Texts
-pub mod Table
-pub mod Machine
-pub mod Answers
 pub mod Bounded
-pub mod Verdict
 pub mod Examples
+pub mod bridge

@@ -1,4 +1,4 @@
--- Reading a query and the lists back: document 01, "Lines of a tree", its last paragraphs. Assumes nothing.
+-- Reading a query and the lists back: docs/SPECIFICATION.md, "Queries", and "Lists". Assumes nothing.
 use Prim.Native.Nat.{ℕ, zero, suc}
 use mathlib.Core.List.{List, [], _∷_}
 use Rattle.text.specs.Text.{Bytes}

@@ -1,4 +1,4 @@
--- Queries and the lists that come beside them: document 01, "Lines of a tree", its last paragraphs. Assumes nothing.
+-- Queries and the lists that come beside them: docs/SPECIFICATION.md, "Queries", and "Lists". Assumes nothing.
 use mathlib.Core.List.{List, [], _∷_}
 use mathlib.Core.Bool.{Bool, true, false}
 use Prim.Native.Nat.{ℕ, zero, suc}
@@ -33,7 +33,7 @@ secondKind joins = integer
 secondKind constants = constant
 secondKind mapping = variable
 
--- a repeated position in a constant list, or a repeated `?from`, is malformed
+-- whether the first field may stand in one line only
 abbrev pub unique : PairList → Bool
 unique joins = false
 unique constants = true
@@ -51,7 +51,7 @@ pub record Value : Type 0 where
   pub lexical : Bytes
   pub extra : Bytes
 
--- extra is the tag for LanguageTaggedString, - for PlainString, Iri, Null, Tuple and Map, else the datatype
+-- what the extra of each domain is: docs/SPECIFICATION.md, "Values"
 abbrev pub extraKind : Domain → Kind
 extraKind PlainString = absent
 extraKind LanguageTaggedString = tag

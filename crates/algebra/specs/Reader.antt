@@ -1,4 +1,4 @@
--- Reading lines top to bottom, or the first refusal: 1 before 2 on a line, and the first bad line decides. Document 01, "Operation by operation", first paragraph. Assumes nothing.
+-- Reading lines top to bottom, or the first refusal: 1 before 2 on a line, and the first bad line decides. docs/SPECIFICATION.md, "Numbers". Assumes nothing.
 use Prim.Native.Nat.{ℕ, zero, suc, _+_}
 use mathlib.Core.List.{List, [], _∷_, _++_}
 use mathlib.Core.Bool.{Bool, true, false, cond, not, _&&_}

@@ -1,4 +1,4 @@
--- Reading a tree back: what follows each word, document 01, "Lines of a tree", patterns and expressions. Assumes nothing.
+-- Reading a tree back: what follows each word. docs/SPECIFICATION.md, "Lines of a tree". Assumes nothing.
 use Prim.Native.Nat.{ℕ, zero, suc, _+_}
 use mathlib.Core.List.{List, [], _∷_}
 use mathlib.Core.Bool.{Bool, true, false}

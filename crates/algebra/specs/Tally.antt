@@ -1,4 +1,4 @@
--- What is counted line by line, and the bounds on it: document 01, "Bounds", and its order of first places. Assumes nothing.
+-- What is counted line by line, and the bounds on it, names by first place: docs/SPECIFICATION.md, "Bounds", and "Order of numbering". Assumes nothing.
 use Prim.Native.Nat.{ℕ, suc, max}
 use mathlib.Core.List.{List, [], _∷_, _++_}
 use mathlib.Core.Bool.{Bool, true, false, cond, _&&_}
@@ -19,7 +19,7 @@ pub record Limits : Type 0 where
   pub names : ℕ  -- distinct variables
   pub entries : ℕ  -- of one list
 
--- document 01's bounds
+-- the specification's bounds
 abbrev pub bounds : Limits
 bounds = record { bytes = 16384; lines = 2048; depth = 64; columns = 64; names = 1024; entries = 64 }
 

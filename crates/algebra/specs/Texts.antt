@@ -1,4 +1,4 @@
--- The texts of a public call, read within document 01's bounds; and a tree without bounds, as a merge may write it. Assumes nothing.
+-- The texts of a public call, read within the specification's bounds; and a tree without bounds, as a merge may write it. Assumes nothing.
 use mathlib.Core.List.{List}
 use lib.ListN.{length}
 use Rattle.text.specs.Text.{Bytes}

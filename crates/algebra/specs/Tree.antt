@@ -1,4 +1,4 @@
--- Pattern trees: the SPARQL algebra as document 01, "Lines of a tree", lists it. A field is kept as its bytes. Assumes nothing.
+-- Pattern trees: the SPARQL algebra as docs/SPECIFICATION.md, "Lines of a tree", lists it. A field is kept as its bytes. Assumes nothing.
 use mathlib.Core.List.{List, [], _∷_}
 use Prim.Native.Nat.{ℕ, zero, suc}
 use Rattle.text.specs.Text.{Bytes}

@@ -1,4 +1,4 @@
--- Which trees, queries and lists are well formed: the kind of each field and the number of children, document 01, "Lines of a tree". Assumes nothing.
+-- Which trees, queries and lists are well formed: the kind of each field and the number of children, docs/SPECIFICATION.md, "Lines of a tree". Assumes nothing.
 use Prim.Native.Nat.{ℕ, suc, _+_, _-_, _≤_}
 use mathlib.Core.Path.{_≡_}
 use mathlib.Core.List.{List, [], _∷_, _++_}
@@ -77,7 +77,7 @@ unfoldable mutual
   ValidAs (agg v n f e rs) = Fits variable v × Fits opaque n × Fits flag f × ValidE e × ValidAs rs
   ValidAs (aggall v f rs) = Fits variable v × Fits flag f × ValidAs rs
 
--- kind is select, ask, construct or describe, the other two opaque fields
+-- the kinds of a head's fields, and the tree
 unfoldable pub ValidQuery : Query → Type 0
 unfolding Valid
 ValidQuery q = Fits form (q .kind) × Fits opaque (q .dataset) × Fits opaque (q .base) × Valid (q .tree)

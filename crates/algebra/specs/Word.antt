@@ -1,4 +1,4 @@
--- The words that lines begin with, and how many children of one sort stand under a word: document 01, "Patterns", "Expressions" and "Lists". Assumes nothing.
+-- The words that lines begin with, and how many children of one sort stand under a word: docs/SPECIFICATION.md, "Patterns", "Expressions" and "Filters". Assumes nothing.
 use Prim.Native.Nat.{ℕ}
 use mathlib.Core.List.{List, [], _∷_}
 use Rattle.text.specs.Text.{Bytes}

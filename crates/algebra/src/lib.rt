@@ -1,6 +1,6 @@
 // The answer of a check: a good text with the number of its distinct names, or the refusal.
 ghost use mathlib.Core.Path.{_≡_};
-ghost use Rattle.algebra.specs.Answers.{answerNumber};
+ghost use Rattle.algebra.specs.bridge.Answers.{answerNumber};
 
 pub enum Answer {
     Good(usize),
@@ -8,7 +8,7 @@ pub enum Answer {
     OverBound,
 }
 
-// Document 01's number: 0 good, 1 malformed, 2 over a bound.
+// Its number: 0 good, 1 malformed, 2 over a bound (docs/SPECIFICATION.md, "Numbers").
 pub fn number(a: Answer) -> u64
     ensures { λ r. ⌜ r ≡ answerNumber a ⌝ }
 {

@@ -1,4 +1,4 @@
--- What a program makes of its input: document 01, "A merge in full", first sentence. Assumes nothing.
+-- What a program makes of its input: docs/SPECIFICATION.md, "Programs". Assumes nothing.
 use Prim.Native.Nat.{ℕ, _+_}
 use mathlib.Core.List.{List, []}
 use mathlib.Core.Bool.{cond}
@@ -15,7 +15,7 @@ use Rattle.merging.specs.Negate.{negateOutcome}
 use Rattle.filtering.specs.Bindings.{bindingsOutcome}
 use Rattle.filtering.specs.Filters.{filtersOutcome}
 
--- "at most 65,536 bytes (else 2, first), parted by … lines `--` (else 1)": with n such lines there are n + 1 texts, and the call decides
+-- first the length (2), then the number of lines `--` (1): with n of them there are n + 1 texts, and the call decides
 unfoldable pub inputOutcome : ℕ → (List Bytes → Outcome) → Bytes → Outcome
 unfolding texts
 inputOutcome n call s = cond (leb (length s) 65536) (cond (eqb (length (texts s)) (n + 1)) (call (texts s)) (refused 1)) (refused 2)
@@ -28,7 +28,7 @@ scopeInput = inputOutcome 0 (λ ts. scopeOutcome (getD ts 0 []))
 abbrev pub renameInput : Bytes → Outcome
 renameInput = inputOutcome 1 (λ ts. renameOutcome (getD ts 0 []) (getD ts 1 []))
 
--- the program `merge` "reads left tree, right tree, join list, left and right constants"
+-- the program `merge` reads two trees, a join list and two constant lists
 abbrev pub mergeInput : Bytes → Outcome
 mergeInput = inputOutcome 4 (λ ts. mergePatternsOutcome (getD ts 0 []) (getD ts 1 []) (getD ts 2 []) (getD ts 3 []) (getD ts 4 []))
 

@@ -7,7 +7,7 @@ use native.Mathlib.Omega.{arith}
 use lib.ListN.{length, take, drop}
 use lib.Seq.{sets, sets-eq, take-append-seam}
 use Rattle.text.specs.Text.{Bytes, piece}
-use Rattle.emit.specs.Emit.{Em, em, last, puts}
+use Rattle.emit.specs.bridge.Emit.{Em, em, last, puts}
 use Rattle.emit.proofs.Laws.{puts-at, puts-out}
 use Rattle.answers.specs.declared.Answer.{Answer}
 use Rattle.answers.specs.declared.Answer.the-variants.{Written, TooShort}

@@ -1,4 +1,4 @@
--- What a public call promises: document 01, "Operation by operation", first paragraph. Assumes nothing.
+-- What a public call promises: docs/SPECIFICATION.md, "Operation by operation". Assumes nothing.
 use Prim.Native.Nat.{ℕ, _≤_, _<_}
 use mathlib.Core.Path.{_≡_}
 use mathlib.Core.Bool.{Bool, true, false}
@@ -34,7 +34,7 @@ refusedUnless n false o = refused n
 
 -- ---- what the call does
 
--- "1 malformed, 2 over a bound, 3 position outside, 4 root isn't Project, 5 heads differ or kind not mergeable, 6 output too short, 7 value not usable"; 0 where bytes were written
+-- the number of docs/SPECIFICATION.md, "Numbers"; 0 where bytes were written
 abbrev pub number : Answer → ℕ
 number (Written n) = 0
 number Malformed = 1
@@ -45,7 +45,7 @@ number NotMergeable = 5
 number TooShort = 6
 number NotUsable = 7
 
--- "A refusal returns its number and length 0"
+-- a refusal has length 0
 abbrev pub size : Answer → ℕ
 size (Written n) = n
 size Malformed = 0
@@ -56,7 +56,7 @@ size NotMergeable = 0
 size TooShort = 0
 size NotUsable = 0
 
--- number, length and every byte of the buffer. "Success returns the exact length; bytes past it are unchanged"; "6 only if the answer is longer than the buffer"
+-- number, length and every byte of the buffer: what stood behind the answer stays, and 6 means that it is longer than the buffer
 unfoldable pub Reported : Outcome → Bytes → Bytes → ℕ → ℕ → Type 0
 Reported (refused k) before after n s = (n ≡ k) × (s ≡ 0) × (after ≡ before)
 Reported (written b) before after n s =

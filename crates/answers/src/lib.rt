@@ -1,4 +1,4 @@
-// What a public call answers, and document 01's number and length of it.
+// What a public call answers, and its number and length: docs/SPECIFICATION.md, "Numbers".
 ghost use mathlib.Core.Path.{_≡_};
 ghost use Rattle.answers.specs.Outcome.{number as numberOf, size as sizeOf};
 
@@ -14,7 +14,7 @@ pub enum Answer {
     NotUsable,
 }
 
-// Document 01's number.
+// Its number: docs/SPECIFICATION.md, "Numbers".
 pub fn number(a: Answer) -> u8
     ensures { λ r. ⌜ r ≡ numberOf a ⌝ }
 {

@@ -10,19 +10,19 @@ use borrow.Author.Tests.{lt-ltb, le-ltb, eq-eqb, ne-eqb}
 use Rattle.text.specs.Text.{Bytes, Line, same, split, part, linesFrom, First}
 use Rattle.text.specs.Word.{bytes}
 use Rattle.text.proofs.Places.{lines-next, lines-end}
-use Rattle.cursor.specs.Cursor.{left}
+use Rattle.cursor.specs.bridge.Cursor.{left}
 use Rattle.cursor.proofs.Laws.{left-none}
 use Rattle.scoping.specs.Sets.{all}
-use Rattle.walking.specs.Code.{LineEnd}
+use Rattle.walking.specs.bridge.Code.{LineEnd}
 use Rattle.walking.proofs.Lines.{nothing-here}
 use Rattle.walking.proofs.Laws.{line-split}
 use Rattle.merging.specs.Request.{position}
-use Rattle.filtering.specs.Terms.{formOf}
-use Rattle.filtering.specs.SetLines.{setsIn, isUsable, allUsable, rowUsable}
+use Rattle.filtering.specs.bridge.Terms.{formOf}
+use Rattle.filtering.specs.bridge.SetLines.{setsIn, isUsable, allUsable, rowUsable}
 use Rattle.placing.specs.declared.field.Field.{Field}
-use Rattle.placing.specs.Fields.{FieldIs}
+use Rattle.placing.specs.bridge.Fields.{FieldIs}
 use Rattle.placing.proofs.Repeated.{with-true, and-next}
-use Rattle.binding.specs.Judged.{allBelow, atBelow, JudgedAll}
+use Rattle.binding.specs.bridge.Judged.{allBelow, atBelow, JudgedAll}
 
 -- ---- the fields of a line
 

@@ -10,25 +10,25 @@ use Rattle.text.specs.Text.{Bytes, Line, same, ended, textOf, split, part, line
 use Rattle.text.specs.Word.{bytes}
 use Rattle.text.proofs.Texts.{Ended, glue, glue-split}
 use Rattle.text.proofs.Places.{lines-next, lines-end}
-use Rattle.cursor.specs.Cursor.{left}
+use Rattle.cursor.specs.bridge.Cursor.{left}
 use Rattle.cursor.proofs.Laws.{left-none}
 use Rattle.parted.proofs.Laws.{part-join}
-use Rattle.emit.specs.Emit.{Em, puts}
+use Rattle.emit.specs.bridge.Emit.{Em, puts}
 use Rattle.emit.proofs.Laws.{puts-append, puts-nil}
-use Rattle.walking.specs.Walk.{tabbed}
-use Rattle.walking.specs.Code.{LineEnd}
+use Rattle.walking.specs.bridge.Walk.{tabbed}
+use Rattle.walking.specs.bridge.Code.{LineEnd}
 use Rattle.walking.proofs.Lines.{nothing-here}
 use Rattle.walking.proofs.Laws.{line-split}
 use Rattle.walking.proofs.Written.{puts-ended}
 use Rattle.merging.specs.Request.{position}
 use Rattle.heads.proofs.Cut.{ended-append}
-use Rattle.filtering.specs.Terms.{formOf, termOf}
-use Rattle.filtering.specs.SetLines.{cellFrom, cellsFrom, valuesLine}
+use Rattle.filtering.specs.bridge.Terms.{formOf, termOf}
+use Rattle.filtering.specs.bridge.SetLines.{cellFrom, cellsFrom, valuesLine}
 use Rattle.placing.specs.declared.field.Field.{Field}
-use Rattle.placing.specs.Fields.{FieldIs}
+use Rattle.placing.specs.bridge.Fields.{FieldIs}
 use Rattle.placing.proofs.Copied.{behind-line}
 use Rattle.placing.proofs.Inner.{cancel}
-use Rattle.binding.specs.Bound.{boundFrom}
+use Rattle.binding.specs.bridge.Bound.{boundFrom}
 
 -- ---- the fields of a line
 

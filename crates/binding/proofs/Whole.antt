@@ -16,7 +16,7 @@ use Rattle.algebra.specs.Query.{BindingSet}
 use Rattle.algebra.specs.Layout.{put, putSets, layout}
 use Rattle.algebra.specs.Reader.{reads, refuses, malformed, overBound}
 use Rattle.algebra.specs.Texts.{readTree, readSets}
-use Rattle.emit.specs.Emit.{Em, em, last, puts}
+use Rattle.emit.specs.bridge.Emit.{Em, em, last, puts}
 use Rattle.emit.proofs.Laws.{puts-append}
 use Rattle.answers.specs.declared.Answer.the-variants.{Written, Malformed, OverBound, Outside, TooShort, NotUsable}
 use Rattle.answers.specs.Outcome.{written, refused, refusedUnless, Reported, Answered}
@@ -26,20 +26,20 @@ use Rattle.scoping.specs.Premises.{inside}
 use Rattle.merging.specs.Request.{Projection, position}
 use Rattle.merging.specs.Negate.{modifyOutermostProjection}
 use Rattle.heads.proofs.Cut.{text-append}
-use Rattle.negating.specs.Lines.{word, fromProject, Projects}
+use Rattle.negating.specs.bridge.Lines.{word, fromProject, Projects}
 use Rattle.negating.proofs.TreeLines.{behind}
 use Rattle.filtering.specs.Bindings.{joinedWithValues, patternWithBindings, positionsInside, valuesUsable, bindingsOutcome}
-use Rattle.filtering.specs.SetLines.{repeated, setsIn, valuesLine, atInside, rowUsable}
+use Rattle.filtering.specs.bridge.SetLines.{repeated, setsIn, valuesLine, atInside, rowUsable}
 use Rattle.filtering.proofs.BindingLines.{putAllValues, joined-lines, values-lines, positions-lines, usable-lines, sets-in}
 use Rattle.filtering.proofs.Theorem.{found-same, bindings-not-found}
 use Rattle.filtering.proofs.Read.{sets-at}
-use Rattle.placing.specs.Fields.{columnsOn}
-use Rattle.placing.specs.Ends.{EndsAt}
+use Rattle.placing.specs.bridge.Fields.{columnsOn}
+use Rattle.placing.specs.bridge.Ends.{EndsAt}
 use Rattle.placing.proofs.Repeated.{repeated-append}
 use Rattle.placing.proofs.Inner.{none-found, Found, is-found, way, columns-are, modified, inner-copied, rest-text}
 use Rattle.binding.specs.declared.judge.Judged.{Judged}
-use Rattle.binding.specs.Judged.{allBelow, atBelow, JudgedAll}
-use Rattle.binding.specs.Bound.{boundAt}
+use Rattle.binding.specs.bridge.Judged.{allBelow, atBelow, JudgedAll}
+use Rattle.binding.specs.bridge.Bound.{boundAt}
 
 -- ---- the five pieces
 

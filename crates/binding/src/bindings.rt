@@ -22,11 +22,11 @@ ghost use Rattle.algebra.specs.Tree.{Pattern};
 ghost use Rattle.algebra.specs.Query.{BindingSet};
 ghost use Rattle.algebra.specs.Reader.{reads};
 ghost use Rattle.algebra.specs.Texts.{readTree, readSets};
-ghost use Rattle.names.specs.Names.{listing};
-ghost use Rattle.emit.specs.Emit.{em, puts};
+ghost use Rattle.names.specs.bridge.Names.{listing};
+ghost use Rattle.emit.specs.bridge.Emit.{em, puts};
 ghost use Rattle.answers.specs.Outcome.{Answered};
 ghost use Rattle.filtering.specs.Bindings.{bindingsOutcome};
-ghost use Rattle.binding.specs.Bound.{boundAt};
+ghost use Rattle.binding.specs.bridge.Bound.{boundAt};
 
 const JOIN: [u8; 4] = *b"join";
 

@@ -13,9 +13,9 @@ ghost use mathlib.Core.List.{[]};
 ghost use lib.ListN.{length, getD};
 ghost use Rattle.text.specs.Text.{same, part, split, linesFrom};
 ghost use Rattle.text.specs.Word.{bytes};
-ghost use Rattle.cursor.specs.Cursor.{left};
-ghost use Rattle.filtering.specs.SetLines.{rowUsable, allUsable};
-ghost use Rattle.binding.specs.Judged.{allBelow, atBelow, JudgedAll};
+ghost use Rattle.cursor.specs.bridge.Cursor.{left};
+ghost use Rattle.filtering.specs.bridge.SetLines.{rowUsable, allUsable};
+ghost use Rattle.binding.specs.bridge.Judged.{allBelow, atBelow, JudgedAll};
 
 const SET: [u8; 3] = *b"set";
 

@@ -15,12 +15,12 @@ ghost use mathlib.Core.List.{[], _∷_, map};
 ghost use lib.ListN.{length};
 ghost use Rattle.text.specs.Text.{part, split, ended, textOf, linesFrom};
 ghost use Rattle.text.proofs.Texts.{Ended};
-ghost use Rattle.cursor.specs.Cursor.{left};
-ghost use Rattle.emit.specs.Emit.{em, puts};
-ghost use Rattle.walking.specs.Walk.{tabbed};
-ghost use Rattle.names.specs.Names.{listing};
-ghost use Rattle.filtering.specs.SetLines.{cellsFrom, valuesLine};
-ghost use Rattle.binding.specs.Bound.{boundFrom};
+ghost use Rattle.cursor.specs.bridge.Cursor.{left};
+ghost use Rattle.emit.specs.bridge.Emit.{em, puts};
+ghost use Rattle.walking.specs.bridge.Walk.{tabbed};
+ghost use Rattle.names.specs.bridge.Names.{listing};
+ghost use Rattle.filtering.specs.bridge.SetLines.{cellsFrom, valuesLine};
+ghost use Rattle.binding.specs.bridge.Bound.{boundFrom};
 
 const SET: [u8; 3] = *b"set";
 

@@ -175,7 +175,7 @@ unfolding sameRow sameOn all
 sameRow-cells [] a b = refl
 sameRow-cells (v ∷ vs) a b = ap (λ c. sameCell (a v) (b v) && c) (sameRow-cells vs a b)
 
--- bgp: each row of just its variables that makes every `t` line one of the triples, once; no other
+-- bgp: the rows that bind its variables, no more, and turn each `t` line into a triple, once each; no other
 pub bgp-count : (g ts : List Triple) (r : Row) → count sameRow (cells (scopeOf (bgp ts)) r) (answer (scopeOf (bgp ts)) g (bgp ts)) ≡ tick (all (isIn g r) ts)
 unfolding variablesInPattern eval count
 bgp-count g ts r = count-rows (tripleVariables ts) (cells (tripleVariables ts) r) g (bgp ts) ∙ (total-cong _ _ (bgpRows g ts) (λ x. ap tick (sameRow-cells (tripleVariables ts) r x)) ∙ by-rows g ts r)

@@ -1,4 +1,4 @@
--- The count of a row in the answer of each kind of pattern, as document 01's "Counting part" states it. Assumes nothing.
+-- The count of a row in the answer of each kind of pattern, as docs/SPECIFICATION.md, "Counting part", states it. Assumes nothing.
 -- Rows are lists of cells over U, any list that has the variables in scope.
 use mathlib.Core.Path.{_≡_, refl, sym, _∙_, ap, ap₂}
 use mathlib.Core.Bool.{Bool, true, false, cond, not, _&&_, _||_}
@@ -44,7 +44,7 @@ pub filter-count : (U : List Bytes) (g : List Triple) (p : Pattern) (e : Express
 unfolding eval
 filter-count U g p e s m = count-rows U m g (filter p e) ∙ (total-keep (λ a. tick (sameRow m (cells U a))) (passes (provided e)) (eval g p) ∙ kept-count U m (passes (provided e)) g p s)
 
--- minus: left rows, save where a right row agrees and shares a bound variable
+-- minus: the left rows with which no right row agrees while sharing a bound variable
 pub minus-count : (U : List Bytes) (g : List Triple) (p q : Pattern) → Sub (scopeOf p ++ scopeOf q) U → (m : List Cell) → count sameRow m (answer U g (minus p q)) ≡ cond (not (removed U (eval g q) (named U m))) (count sameRow m (answer U g p)) 0
 unfolding eval
 minus-count U g p q s m =
@@ -71,12 +71,12 @@ made-count U cs f g p s m =
     ∙ sym (total-cong _ _ (once sameRow (map (cells U) (eval g p))) (λ x. weigh (sameRow m (cells cs (f (named U x)))) (count sameRow x (map (cells U) (eval g p))))
     ∙ sum-once sameRow sameRow-refl sameRow-eq (λ x. tick (sameRow m (cells cs (f (named U x))))) (map (cells U) (eval g p))))
 
--- extend: `?v` bound to the term or, for a variable, to its term; if unbound, the row as it is
+-- extend: `?v` bound to what the term is in the row, if it is anything there
 pub extend-count : (U cs : List Bytes) (g : List Triple) (v : Bytes) (p : Pattern) (e : Expression) → Sub (scopeOf p) U → (m : List Cell) → count sameRow m (answer cs g (extend v p e)) ≡ sums U cs (λ r. extendBy v (termOf e r) r) g p m
 unfolding eval
 extend-count U cs g v p e s m = count-rows cs m g (extend v p e) ∙ (total-map (λ a. tick (sameRow m (cells cs a))) (λ r. extendBy v (termOf e r) r) (eval g p) ∙ made-count U cs (λ r. extendBy v (termOf e r) r) g p s m)
 
--- project: rows cut to its columns; one row's counts add up
+-- project: counts of the rows that become one under its columns add up
 pub project-count : (U cs : List Bytes) (g : List Triple) (p : Pattern) → Sub (scopeOf p) U → (m : List Cell) → count sameRow m (answer cs g (project cs p)) ≡ sums U cs (λ r. r) g p m
 unfolding eval
 project-count U cs g p s m =
@@ -84,7 +84,7 @@ project-count U cs g p s m =
     ∙ (total-map (λ a. tick (sameRow m (cells cs a))) (cut cs) (eval g p)
     ∙ (total-cong _ _ (eval g p) (λ a. ap (λ x. tick (sameRow m x)) (cells-cut cs a)) ∙ made-count U cs (λ r. r) g p s m))
 
--- values: its `row` lines, `-` unbound, save a line that gives one variable two terms
+-- values: a row for each `row` line that gives no variable two terms
 pub values-count : (U : List Bytes) (g : List Triple) (cs : List Bytes) (rs : List (List Bytes)) (m : List Cell) → count sameRow m (answer U g (values cs rs)) ≡ total (λ xs. tick (oneTerm cs (map cell xs) && sameRow m (cells U (named cs (map cell xs))))) rs
 unfolding eval lineRows
 values-count U g cs rs m =
@@ -172,7 +172,7 @@ unfolding pairs each any filled paired
 filled-pairs vs c a [] = refl
 filled-pairs vs c a (b ∷ bs) = filled-when (pass vs c a b) (merge a b) (pairs vs c a bs) ∙ ap (λ t. pass vs c a b || t) (filled-pairs vs c a bs)
 
--- leftjoin: the join's pairs whose union makes the expression, if any, true, and left rows in none of these
+-- leftjoin: the pairs of a join that pass the expression, if any, and the left rows that are in no such pair
 pub leftjoin-count : (U : List Bytes) (g : List Triple) (p q : Pattern) (c : Condition) → Sub (scopeOf p ++ scopeOf q) U → (m : List Cell) → count sameRow m (answer U g (leftjoin p q c)) ≡ products U g p q c m + cond (not (paired U c (eval g q) (named U m))) (count sameRow m (answer U g p)) 0
 unfolding eval
 leftjoin-count U g p q c s m =

@@ -1,4 +1,4 @@
--- Worked examples of SPARQL 1.1, sections 5 to 8, 10, 15 and 17, that stay in the counting part, computed; and four of document 01's sentences. Assumes nothing.
+-- Worked examples of SPARQL 1.1, sections 5 to 8, 10, 15 and 17, that stay in the counting part, computed; and four rules of docs/SPECIFICATION.md, "Counting part". Assumes nothing.
 -- Written from knowledge of the standard, with shortened IRIs and literals.
 use mathlib.Core.Path.{_≡_, refl}
 use mathlib.Core.Bool.{true}
@@ -130,7 +130,7 @@ undefined-cells : Gives (fields ("?b" ∷ "?t" ∷ "?p" ∷ [])) books (join pri
 unfolding isCountable answer
 undefined-cells = (refl, refl)
 
--- document 01: a line that gives one variable two terms is none; one that gives it one term twice, or once, is a row
+-- a line with two terms for one variable is none; one that gives it one term twice, or once, is a row
 repeated-column : Gives (fields ("?x" ∷ [])) [] (values (fields ("?x" ∷ "?x" ∷ [])) (fields ("<1>" ∷ "<2>" ∷ []) ∷ fields ("<1>" ∷ "<1>" ∷ []) ∷ fields ("-" ∷ "<2>" ∷ []) ∷ fields ("-" ∷ "-" ∷ []) ∷ []))
     (row ("<1>" ∷ []) ∷ row ("<2>" ∷ []) ∷ row ("-" ∷ []) ∷ [])
 unfolding isCountable answer
@@ -190,7 +190,7 @@ without-date : Gives (fields ("?n" ∷ [])) given (dated (no (bound (bytes "?d")
 unfolding isCountable answer
 without-date = (refl, refl)
 
--- document 01: an unbound variable in `same` is an error, `not` keeps it, and neither makes a row
+-- `same` on an unbound variable is an error and so is its `not`; neither makes a row
 error-drops : Gives (fields ("?n" ∷ [])) given (filter (one "?x" "<given>" "?n") (sameTerms "?z" "\"A\""))
     []
 unfolding isCountable answer
@@ -201,7 +201,7 @@ error-kept : Gives (fields ("?n" ∷ [])) given (filter (one "?x" "<given>" "?n"
 unfolding isCountable answer
 error-kept = (refl, refl)
 
--- document 01: an error in a leftjoin's expression is no pair, so the left row stays
+-- an error in a leftjoin's expression is no pair, so the left row stays
 error-in-leftjoin : Gives (fields ("?n" ∷ "?d" ∷ [])) given (leftjoin (one "<b>" "<given>" "?n") (one "<b>" "<date>" "?d") (provided (sameTerms "?z" "?d")))
     (row ("\"B\"" ∷ "-" ∷ []) ∷ [])
 unfolding isCountable answer

@@ -1,4 +1,4 @@
--- Which trees belong to the counting part, and what its last paragraph supposes of them: document 01, "Counting part". Assumes nothing.
+-- Which trees belong to the counting part, and what is supposed of them: docs/SPECIFICATION.md, "Counting part", and "Demand 3". Assumes nothing.
 use mathlib.Core.Bool.{Bool, true, false, not, _&&_}
 use mathlib.Core.List.{List}
 use Prim.Native.Nat.{ℕ}
@@ -97,7 +97,7 @@ unfoldable pub isCountable : Pattern → Bool
 unfolding everywhere all isBlank isCondition areConditions
 isCountable = everywhere (record { triples = all noBlank; condition = isCondition; extended = λ v vs e. isTerm e; columns = λ cs. true; others = false })
 
--- no extend sets a variable in scope beneath it
+-- an extend's variable isn't in scope beneath it
 unfoldable pub extendsFresh : Pattern → Bool
 unfolding everywhere mem same
 extendsFresh = everywhere (record { triples = λ ts. true; condition = λ e. true; extended = λ v vs e. not (mem v vs); columns = λ cs. true; others = true })
@@ -107,7 +107,7 @@ unfoldable pub valuesOnce : Pattern → Bool
 unfolding everywhere different
 valuesOnce = everywhere (record { triples = λ ts. true; condition = λ e. true; extended = λ v vs e. true; columns = different; others = true })
 
--- every variable in an expression is in scope or hidden in that tree
+-- expressions name only variables that are in scope or hidden in that tree
 unfoldable pub expressionsKnown : Pattern → Bool
 unfolding all mem same namesWith expressionVars
 expressionsKnown p = all (λ v. mem v (scopedOrHidden p)) (names p)

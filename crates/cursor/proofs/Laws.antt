@@ -14,7 +14,7 @@ use Rattle.text.proofs.Lists.{split-here, split-last}
 use Rattle.cursor.specs.declared.Cursor.{Cursor}
 use Rattle.cursor.specs.declared.Field.{Field}
 use Rattle.cursor.specs.declared.Field.the-variants.{At, None}
-use Rattle.cursor.specs.Cursor.{left, Reads}
+use Rattle.cursor.specs.bridge.Cursor.{left, Reads}
 
 -- past the end of the line no field is left
 pub left-none : (s : Bytes) (at end : ℕ) → end < at → left s at end ≡ []

@@ -4,7 +4,7 @@ ghost use mathlib.Core.Path.{_≡_};
 ghost use Prim.Native.Nat.{ℕ, _+_, _≤_, _<_};
 ghost use lib.ListN.{length, getD};
 ghost use Rattle.text.specs.Text.{First};
-ghost use Rattle.cursor.specs.Cursor.{Reads, Settled};
+ghost use Rattle.cursor.specs.bridge.Cursor.{Reads, Settled};
 
 // `at` is the next byte to read and `end` the end of the line. Behind the last field of a line `at` is one past `end`, where the
 // next line starts; two past `end` says that a field was missing or not what it should be.

@@ -7,7 +7,7 @@ use native.Mathlib.Omega.{arith}
 use native.Mathlib.Decide.{decLt}
 use lib.ListN.{length, drop, getD, set, length-set, drop-of-length-le}
 use lib.Seq.{drop-cons, sets, set-out}
-use Rattle.emit.specs.Emit.{Em, em, last, put1, puts}
+use Rattle.emit.specs.bridge.Emit.{Em, em, last, put1, puts}
 
 pub puts-append : (a b : List ℕ) (e : Em) → puts (a ++ b) e ≡ puts b (puts a e)
 unfolding puts

@@ -4,7 +4,7 @@ ghost use mathlib.Core.List.{[], _∷_};
 ghost use Prim.Native.Nat.{ℕ, _+_, _<_, _≤_, min};
 ghost use lib.ListN.{length};
 ghost use lib.Seq.{sets};
-ghost use Rattle.emit.specs.Emit.{em, last, puts};
+ghost use Rattle.emit.specs.bridge.Emit.{em, last, puts};
 
 // One byte.
 pub fn put(out: &mut [u8], at: usize, b: u8) -> usize

@@ -11,21 +11,21 @@ use borrow.Author.Tests.{not-true, not-false}
 use Rattle.text.specs.Text.{Bytes, Line, same, textOf, split, part, linesFrom, First}
 use Rattle.text.specs.Word.{bytes}
 use Rattle.text.proofs.Places.{lines-next, lines-end}
-use Rattle.cursor.specs.Cursor.{left}
-use Rattle.emit.specs.Emit.{Em, puts}
+use Rattle.cursor.specs.bridge.Cursor.{left}
+use Rattle.emit.specs.bridge.Emit.{Em, puts}
 use Rattle.emit.proofs.Laws.{puts-append, puts-nil}
 use Rattle.scoping.specs.Sets.{all}
-use Rattle.walking.specs.Code.{LineEnd}
+use Rattle.walking.specs.bridge.Code.{LineEnd}
 use Rattle.walking.proofs.Lines.{nothing-here}
 use Rattle.walking.proofs.Laws.{line-split}
 use Rattle.merging.specs.Request.{position}
 use Rattle.heads.proofs.Cut.{text-append}
-use Rattle.filtering.specs.FilterLines.{isTrueLine, partsBelow, expressionLines, Walked, severalParts, treeToExpression, Placed, oneMore, placedFilters}
+use Rattle.filtering.specs.bridge.FilterLines.{isTrueLine, partsBelow, expressionLines, Walked, severalParts, treeToExpression, Placed, oneMore, placedFilters}
 use Rattle.placing.specs.declared.field.Field.{Field}
-use Rattle.placing.specs.Fields.{FieldIs}
+use Rattle.placing.specs.bridge.Fields.{FieldIs}
 use Rattle.expressing.specs.declared.place.Placed.{Placed as Said}
-use Rattle.expressing.specs.Walks.{Places}
-use Rattle.expressing.specs.Filtered.{refBelow}
+use Rattle.expressing.specs.bridge.Walks.{Places}
+use Rattle.expressing.specs.bridge.Filtered.{refBelow}
 
 -- ---- references
 

@@ -9,16 +9,16 @@ use native.Mathlib.Omega.{arith}
 use lib.ListN.{length}
 use Rattle.text.specs.Text.{Bytes, Line, same, textOf, split, part, linesFrom}
 use Rattle.text.proofs.Places.{lines-next, lines-end}
-use Rattle.emit.specs.Emit.{Em, puts}
+use Rattle.emit.specs.bridge.Emit.{Em, puts}
 use Rattle.emit.proofs.Laws.{puts-append, puts-nil}
-use Rattle.walking.specs.Code.{LineEnd}
+use Rattle.walking.specs.bridge.Code.{LineEnd}
 use Rattle.walking.proofs.Lines.{nothing-here}
 use Rattle.heads.proofs.Cut.{text-append}
-use Rattle.filtering.specs.FilterLines.{partsBelow, expressionLines, Walked, inFront, andThen, severalParts, treeToExpression}
+use Rattle.filtering.specs.bridge.FilterLines.{partsBelow, expressionLines, Walked, inFront, andThen, severalParts, treeToExpression}
 use Rattle.placing.proofs.Repeated.{with-true, and-next}
 use Rattle.expressing.specs.declared.express.Walked.{Walked as Said}
-use Rattle.expressing.specs.Heads.{Heads}
-use Rattle.expressing.specs.Walks.{Walks}
+use Rattle.expressing.specs.bridge.Heads.{Heads}
+use Rattle.expressing.specs.bridge.Walks.{Walks}
 
 no-text : (e : Em) → e ≡ puts (textOf []) e
 unfolding textOf

@@ -10,17 +10,17 @@ use lib.Dec.{eqb}
 use borrow.Author.Tests.{eq-eqb, ne-eqb, not-true, not-false}
 use Rattle.text.specs.Text.{Bytes, same, ended, textOf, split, part, First}
 use Rattle.text.specs.Word.{bytes}
-use Rattle.cursor.specs.Cursor.{left}
-use Rattle.emit.specs.Emit.{Em, puts}
+use Rattle.cursor.specs.bridge.Cursor.{left}
+use Rattle.emit.specs.bridge.Emit.{Em, puts}
 use Rattle.emit.proofs.Laws.{puts-append, puts-nil}
-use Rattle.walking.specs.Walk.{numberIn}
+use Rattle.walking.specs.bridge.Walk.{numberIn}
 use Rattle.walking.proofs.Laws.{line-split}
 use Rattle.merging.specs.Request.{position}
-use Rattle.filtering.specs.Terms.{formOf, isExpressed, termOf}
-use Rattle.filtering.specs.FilterLines.{isTrueLine, partsBelow, leafLines, unaryLines, binaryLines, expressionLines}
+use Rattle.filtering.specs.bridge.Terms.{formOf, isExpressed, termOf}
+use Rattle.filtering.specs.bridge.FilterLines.{isTrueLine, partsBelow, leafLines, unaryLines, binaryLines, expressionLines}
 use Rattle.placing.specs.declared.field.Field.{Field}
-use Rattle.placing.specs.Fields.{FieldIs}
-use Rattle.expressing.specs.Heads.{Heads}
+use Rattle.placing.specs.bridge.Fields.{FieldIs}
+use Rattle.expressing.specs.bridge.Heads.{Heads}
 
 -- ---- a value's form
 

@@ -15,7 +15,7 @@ use Rattle.algebra.specs.Query.{Filter}
 use Rattle.algebra.specs.Layout.{put, putFilters, layout}
 use Rattle.algebra.specs.Reader.{reads, refuses, malformed, overBound}
 use Rattle.algebra.specs.Texts.{readTree, readFilters}
-use Rattle.emit.specs.Emit.{Em, em, last, puts}
+use Rattle.emit.specs.bridge.Emit.{Em, em, last, puts}
 use Rattle.emit.proofs.Laws.{puts-append}
 use Rattle.answers.specs.declared.Answer.the-variants.{Written, Malformed, OverBound, Outside, TooShort}
 use Rattle.answers.specs.Outcome.{written, refusedUnless, Reported, Answered}
@@ -23,22 +23,22 @@ use Rattle.answers.proofs.Answers.{too-short, all-written, answered}
 use Rattle.scoping.specs.Sets.{all}
 use Rattle.merging.specs.Request.{Projection}
 use Rattle.heads.proofs.Cut.{text-append}
-use Rattle.negating.specs.Lines.{fromProject, Projects}
+use Rattle.negating.specs.bridge.Lines.{fromProject, Projects}
 use Rattle.negating.proofs.TreeLines.{behind}
-use Rattle.filtering.specs.SetLines.{repeated}
-use Rattle.filtering.specs.FilterLines.{refInside, Placed, placedFilters}
+use Rattle.filtering.specs.bridge.SetLines.{repeated}
+use Rattle.filtering.specs.bridge.FilterLines.{refInside, Placed, placedFilters}
 use Rattle.filtering.specs.Filters.{expressions, filtered, patternWithFilters, referencesInside, filtersOutcome}
 use Rattle.filtering.proofs.FilterLines.{references-lines}
 use Rattle.filtering.proofs.PlacedLines.{putExpressions, placed-lines, PlacedAs, filters-placed}
 use Rattle.filtering.proofs.Theorem.{found-same, filters-not-found}
 use Rattle.filtering.proofs.Read.{tree-text, filters-at, filters-valid, filters-long}
-use Rattle.placing.specs.Fields.{columnsOn}
-use Rattle.placing.specs.Ends.{EndsAt}
+use Rattle.placing.specs.bridge.Fields.{columnsOn}
+use Rattle.placing.specs.bridge.Ends.{EndsAt}
 use Rattle.placing.proofs.Repeated.{repeated-append}
 use Rattle.placing.proofs.Inner.{none-found, Found, is-found, way, columns-are, modified, inner-copied, rest-text}
 use Rattle.expressing.specs.declared.place.Placed.{Placed as Said}
-use Rattle.expressing.specs.Walks.{Places}
-use Rattle.expressing.specs.Filtered.{refBelow, filteredAt}
+use Rattle.expressing.specs.bridge.Walks.{Places}
+use Rattle.expressing.specs.bridge.Filtered.{refBelow, filteredAt}
 
 -- ---- the six pieces
 

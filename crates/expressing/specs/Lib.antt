@@ -1,3 +1,1 @@
-pub mod Heads
-pub mod Walks
-pub mod Filtered
+pub mod bridge

@@ -5,10 +5,10 @@ use placing::steps::both;
 use walking::line::line_end;
 ghost use Prim.Native.Nat.{_≤_};
 ghost use Rattle.text.specs.Text.{linesFrom};
-ghost use Rattle.emit.specs.Emit.{em};
-ghost use Rattle.names.specs.Names.{listing};
-ghost use Rattle.filtering.specs.FilterLines.{treeToExpression};
-ghost use Rattle.expressing.specs.Walks.{Walks};
+ghost use Rattle.emit.specs.bridge.Emit.{em};
+ghost use Rattle.names.specs.bridge.Names.{listing};
+ghost use Rattle.filtering.specs.bridge.FilterLines.{treeToExpression};
+ghost use Rattle.expressing.specs.bridge.Walks.{Walks};
 
 // Whether all of a filter is expressed, and where its text and the output go on.
 pub struct Walked {

@@ -25,13 +25,13 @@ ghost use Rattle.algebra.specs.Tree.{Pattern};
 ghost use Rattle.algebra.specs.Query.{Filter};
 ghost use Rattle.algebra.specs.Reader.{reads};
 ghost use Rattle.algebra.specs.Texts.{readTree, readFilters};
-ghost use Rattle.names.specs.Names.{listing};
-ghost use Rattle.emit.specs.Emit.{em, puts};
+ghost use Rattle.names.specs.bridge.Names.{listing};
+ghost use Rattle.emit.specs.bridge.Emit.{em, puts};
 ghost use Rattle.answers.specs.Outcome.{Answered};
 ghost use Rattle.scoping.specs.Sets.{all};
-ghost use Rattle.filtering.specs.FilterLines.{placedFilters};
+ghost use Rattle.filtering.specs.bridge.FilterLines.{placedFilters};
 ghost use Rattle.filtering.specs.Filters.{filtersOutcome};
-ghost use Rattle.expressing.specs.Filtered.{refBelow, filteredAt};
+ghost use Rattle.expressing.specs.bridge.Filtered.{refBelow, filteredAt};
 
 const REF: [u8; 3] = *b"ref";
 

@@ -16,13 +16,13 @@ ghost use mathlib.Core.Option.{some};
 ghost use lib.ListN.{length, getD, drop};
 ghost use Rattle.text.specs.Text.{part, split};
 ghost use Rattle.text.specs.Word.{bytes};
-ghost use Rattle.cursor.specs.Cursor.{left};
-ghost use Rattle.emit.specs.Emit.{em};
-ghost use Rattle.names.specs.Names.{listing};
+ghost use Rattle.cursor.specs.bridge.Cursor.{left};
+ghost use Rattle.emit.specs.bridge.Emit.{em};
+ghost use Rattle.names.specs.bridge.Names.{listing};
 ghost use Rattle.merging.specs.Request.{position};
-ghost use Rattle.filtering.specs.Terms.{isExpressed};
-ghost use Rattle.filtering.specs.FilterLines.{isTrueLine, partsBelow, leafLines, unaryLines, binaryLines, expressionLines};
-ghost use Rattle.expressing.specs.Heads.{Heads};
+ghost use Rattle.filtering.specs.bridge.Terms.{isExpressed};
+ghost use Rattle.filtering.specs.bridge.FilterLines.{isTrueLine, partsBelow, leafLines, unaryLines, binaryLines, expressionLines};
+ghost use Rattle.expressing.specs.bridge.Heads.{Heads};
 
 const LEAF: [u8; 4] = *b"leaf";
 

@@ -9,10 +9,10 @@ ghost use Prim.Native.Nat.{_+_, _≤_, _<_};
 ghost use mathlib.Core.Bool.{cond};
 ghost use lib.ListN.{length};
 ghost use Rattle.text.specs.Text.{textOf, linesFrom};
-ghost use Rattle.emit.specs.Emit.{em, puts};
-ghost use Rattle.names.specs.Names.{listing};
-ghost use Rattle.filtering.specs.FilterLines.{treeToExpression, placedFilters};
-ghost use Rattle.expressing.specs.Walks.{Places};
+ghost use Rattle.emit.specs.bridge.Emit.{em, puts};
+ghost use Rattle.names.specs.bridge.Names.{listing};
+ghost use Rattle.filtering.specs.bridge.FilterLines.{treeToExpression, placedFilters};
+ghost use Rattle.expressing.specs.bridge.Walks.{Places};
 
 // A filter, and nothing written.
 fn try_filter(

@@ -18,8 +18,8 @@ use Rattle.merging.specs.Request.{position}
 use Rattle.merging.proofs.Lists.{map-length}
 use Rattle.filtering.specs.Values.{groundTerm, groundTermFromDatavalue}
 use Rattle.filtering.specs.Bindings.{orNone, cellOf, positionsOf, boundVariables, valuesOf, joinedWithValues, positionsInside, valuesUsable}
-use Rattle.filtering.specs.Terms.{formOf, termOf}
-use Rattle.filtering.specs.SetLines.{repeated, setsIn, isUsable, cellFrom, cellsFrom, valuesLine, atInside, allUsable, rowUsable}
+use Rattle.filtering.specs.bridge.Terms.{formOf, termOf}
+use Rattle.filtering.specs.bridge.SetLines.{repeated, setsIn, isUsable, cellFrom, cellsFrom, valuesLine, atInside, allUsable, rowUsable}
 use Rattle.filtering.proofs.Valid.{bound-length}
 
 -- ---- values and rows

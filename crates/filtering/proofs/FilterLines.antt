@@ -18,13 +18,13 @@ use Rattle.algebra.specs.Word.{spellV, spellF, filterArity}
 use Rattle.algebra.specs.Valid.{Takes, ValidFilter, ValidParts}
 use Rattle.algebra.specs.Layout.{putArity, putE, putEs, putValues, putFilter, putParts, putFilters}
 use Rattle.scoping.specs.Sets.{all}
-use Rattle.walking.specs.Walk.{orZero}
+use Rattle.walking.specs.bridge.Walk.{orZero}
 use Rattle.negating.proofs.TreeLines.{behind}
 use Rattle.filtering.specs.Values.{expressionTerm}
 use Rattle.filtering.specs.Functions.{asTerm, referenced, tryExpressionFromUnary, tryExpressionFromBinary, tryExpressionFromFunction, if-some, tryExpressionFromTree, tryExpressionsFromParts}
 use Rattle.filtering.specs.Filters.{expressions, referencesInside, partsInside}
-use Rattle.filtering.specs.Terms.{formOf, termOf}
-use Rattle.filtering.specs.FilterLines.{refInside, partsBelow, leafLines, unaryLines, binaryLines, expressionLines, Walked, walked, inFront, andThen, severalParts, treeToExpression}
+use Rattle.filtering.specs.bridge.Terms.{formOf, termOf}
+use Rattle.filtering.specs.bridge.FilterLines.{refInside, partsBelow, leafLines, unaryLines, binaryLines, expressionLines, Walked, walked, inFront, andThen, severalParts, treeToExpression}
 use Rattle.filtering.proofs.Valid.{if-some-gives}
 
 -- ---- 3, line by line

@@ -16,7 +16,7 @@ use Rattle.algebra.specs.Tree.{Expression, term, apply, Expressions, eend, econ
 use Rattle.algebra.specs.Query.{BindingSet, FilterWord, UN, BIN, TERN, NARY, Filter, leaf, ref, function, Filters, fend, fcons}
 use Rattle.algebra.specs.Valid.{Fits, mem, ValidFilter, ValidParts, ValidFilters}
 use Rattle.scoping.specs.Sets.{variablesOf, keep, all}
-use Rattle.scoping.specs.Places.{Mark, silent, Place, namesOf, marked, placesE, placesEs}
+use Rattle.scoping.specs.bridge.Places.{Mark, silent, Place, namesOf, marked, placesE, placesEs}
 use Rattle.scoping.specs.Premises.{columnsAt, inside}
 use Rattle.scoping.proofs.Sets.{and-none, mem-append, mem-keep}
 use Rattle.scoping.proofs.Index.{mem-at}

@@ -17,8 +17,8 @@ use Rattle.algebra.specs.Layout.{putArity, put, putE, putValues, putFilter, put
 use Rattle.scoping.specs.Sets.{all}
 use Rattle.filtering.specs.Functions.{tryExpressionFromTree, isConstantTrue}
 use Rattle.filtering.specs.Filters.{placedExpression, andThose, expressions, both, conjunction, filtered}
-use Rattle.filtering.specs.SetLines.{repeated}
-use Rattle.filtering.specs.FilterLines.{isTrueLine, Walked, treeToExpression, Placed, oneMore, placedFilters}
+use Rattle.filtering.specs.bridge.SetLines.{repeated}
+use Rattle.filtering.specs.bridge.FilterLines.{isTrueLine, Walked, treeToExpression, Placed, oneMore, placedFilters}
 use Rattle.filtering.proofs.FilterLines.{Made, filter-made, filter-long}
 use Rattle.filtering.proofs.BindingLines.{repeated-in}
 

@@ -48,7 +48,7 @@ found-fails (some x) t e = (x, refl, e)
 
 -- ---- bindings
 
--- "3 only if a projection is found and a set is given": some position is outside
+-- 3: there is a projection, and some position is outside
 pub record Outside (tree sets : Bytes) : Type 0 where
   pub pattern : Pattern
   pub list : List BindingSet
@@ -73,7 +73,7 @@ bindings-three tree sets e =
     let f = found-fails (outermostProjection (x .0)) (λ cs. positionsInside cs (y .0)) t in
     record { pattern = x .0; list = y .0; projection = f .0; tree-read = x .1; sets-read = y .1; found = f .1; set-given = set-inside (f .0 .columns) (y .0) (f .2); outside = f .2 }
 
--- "7 likewise": every position is inside, and some value is not usable
+-- 7: there is a projection, every position is inside, and some value is not usable
 pub record Unusable (tree sets : Bytes) : Type 0 where
   pub pattern : Pattern
   pub list : List BindingSet
@@ -112,7 +112,7 @@ bindings-seven tree sets e =
 
 -- ---- filters
 
--- "3 for any reference not below the outermost projection's width, if one is found"
+-- 3: there is a projection, and some reference is outside
 pub record OutsideFilters (tree filters : Bytes) : Type 0 where
   pub pattern : Pattern
   pub list : List Filter

@@ -147,7 +147,7 @@ none-placed p fs h = go (outermostProjection p) refl
     go none e = not-found (λ cs inner. filtered (expressions cs fs) inner) p e
     go (some x) e = found-same (λ cs inner. filtered (expressions cs fs) inner) (found p x e) (ap (λ es. filtered es (x .inner)) (h x e))
 
--- "pattern_with_bindings with no binding sets copies the tree"
+-- without sets pattern_with_bindings copies
 pub bindings-no-sets : (tree : Bytes) (p : Pattern) → readTree tree ≡ reads p → bindingsOutcome tree [] ≡ written tree
 unfolding bindingsOutcome positionsInside valuesUsable all patternWithBindings
 bindings-no-sets tree p e =

@@ -36,7 +36,7 @@ unfolding columnsAt
 columns-length cs [] = refl
 columns-length cs (i ∷ is) = ap suc (columns-length cs is)
 
--- "values have as many columns as positions"
+-- values have as many columns as positions
 pub bound-length : (cs : List Bytes) (x : BindingSet) → length (boundVariables cs x) ≡ length (x .positions)
 unfolding boundVariables
 bound-length cs x = columns-length cs (positionsOf x) ∙ map-length position (x .positions)

@@ -48,7 +48,7 @@ unfolding valuesOf
 joinedWithValues cs previous [] = previous
 joinedWithValues cs previous (x ∷ xs) = joinedWithValues cs (join previous (valuesOf cs x)) xs
 
--- pattern_with_bindings: "with no binding sets copies the tree"
+-- pattern_with_bindings: without sets a copy
 unfoldable pub patternWithBindings : Pattern → List BindingSet → Pattern
 unfolding modifyOutermostProjection joinedWithValues
 patternWithBindings p [] = p
@@ -66,7 +66,7 @@ unfoldable pub valuesUsable : List BindingSet → Bool
 unfolding all groundTerm
 valuesUsable xs = all (λ x. all (all (λ v. given (groundTermFromDatavalue v))) (x .rows)) xs
 
--- "Bindings: 1, 2; 3 only if a projection is found and a set is given; 7 likewise": all positions before any value
+-- docs/SPECIFICATION.md, "Operation by operation", bindings: all positions before any value
 unfoldable pub bindingsOutcome : Bytes → Bytes → Outcome
 unfolding readTree readSets outermostProjection positionsInside valuesUsable patternWithBindings layout
 bindingsOutcome tree sets =

@@ -55,7 +55,7 @@ pub record WithFilters : Type 0 where
   pub pattern : Pattern
   pub remaining : List Filter
 
--- pattern_with_filters: "returns its outer, always empty list of remaining filters. The port returns an empty list"
+-- pattern_with_filters: its list of remaining filters is always empty
 unfoldable pub patternWithFilters : Pattern → List Filter → WithFilters
 unfolding modifyOutermostProjection filtered expressions
 patternWithFilters p fs = record { pattern = modifyOutermostProjection (λ cs inner. filtered (expressions cs fs) inner) p; remaining = [] }
@@ -75,7 +75,7 @@ unfoldable mutual
   partsInside cs fend = true
   partsInside cs (fcons f fs) = referencesInside cs f && partsInside cs fs
 
--- "Filters: 1, 2; 3 for any reference not below the outermost projection's width, if one is found"
+-- docs/SPECIFICATION.md, "Operation by operation", filters
 unfoldable pub filtersOutcome : Bytes → Bytes → Outcome
 unfolding readTree readFilters outermostProjection all referencesInside patternWithFilters layout
 filtersOutcome tree filters =

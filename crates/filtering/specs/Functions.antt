@@ -24,12 +24,12 @@ unfoldable pub referenced : List Bytes → Bytes → Bytes
 unfolding position
 referenced cs k = columnAt cs (position k)
 
--- try_expression_from_unary: "Datatype (written `call DATATYPE 1`), LanguageTag (`call LANG 1`)"
+-- try_expression_from_unary: Datatype as `call DATATYPE 1`, LanguageTag as `call LANG 1`
 unfoldable pub tryExpressionFromUnary : Bytes → Expressions → Option Expression
 unfolding same
 tryExpressionFromUnary n es = cond (same n (bytes "Datatype")) (some (call (bytes "DATATYPE") es)) (cond (same n (bytes "LanguageTag")) (some (call (bytes "LANG") es)) none)
 
--- try_expression_from_binary: "Equals, and Unequals as Not of Equal"
+-- try_expression_from_binary: Equals as `eq`, Unequals as `not` of it
 unfoldable pub tryExpressionFromBinary : Bytes → Expressions → Option Expression
 unfolding same
 tryExpressionFromBinary n es = cond (same n (bytes "Equals")) (some (apply EQ es)) (cond (same n (bytes "Unequals")) (some (apply NOT (econs (apply EQ es) eend))) none)
@@ -47,7 +47,7 @@ abbrev pub if-some : {A B : Type 0} → Option A → (A → Option B) → Option
 if-some none k = none
 if-some (some x) k = k x
 
--- try_expression_from_tree: "One part that can't be expressed drops the whole filter"
+-- try_expression_from_tree: none where a part has none
 unfoldable mutual
   unfolding expressionTerm referenced tryExpressionFromFunction
 
@@ -60,7 +60,7 @@ unfoldable mutual
   tryExpressionsFromParts cs fend = some eend
   tryExpressionsFromParts cs (fcons f fs) = if-some (tryExpressionFromTree cs f) λ e. if-some (tryExpressionsFromParts cs fs) λ es. some (econs e es)
 
--- is_constant_true: "only a leaf Boolean with lexical form `true` is so", whatever its datatype
+-- is_constant_true: a leaf Boolean spelled `true`, whatever its datatype
 unfoldable pub isConstantTrue : Filter → Bool
 unfolding same
 isConstantTrue (leaf v) = same (spellV (v .domain)) (bytes "Boolean") && same (v .lexical) (bytes "true")

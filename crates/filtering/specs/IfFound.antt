@@ -5,7 +5,7 @@ use mathlib.Core.Option.{Option, none, some}
 use Rattle.text.specs.Text.{Bytes}
 use Rattle.merging.specs.Request.{Projection}
 
--- "if one is found": nothing fails where there is none
+-- nothing fails where there is none
 abbrev pub ifFound : Option Projection → (List Bytes → Bool) → Bool
 ifFound none f = true
 ifFound (some x) f = f (x .columns)

@@ -4,7 +4,4 @@ pub mod Bindings
 pub mod Functions
 pub mod Filters
 pub mod Cases
-pub mod Terms
-pub mod SetLines
-pub mod FilterLines
-pub mod Copying
+pub mod bridge

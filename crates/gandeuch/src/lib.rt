@@ -1,4 +1,4 @@
-// The calls for C: a slice is a pointer and a length, the answer is document 01's number, and the length goes through `size`.
+// The calls for C: a slice is a pointer and a length, the answer is the specification's number, and the length goes through `size`.
 use answers::number;
 use answers::size_of;
 use binding::bindings::bindings;

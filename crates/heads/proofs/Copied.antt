@@ -5,7 +5,7 @@ use mathlib.Core.List.{[]}
 use native.Mathlib.Omega.{arith}
 use lib.ListN.{length}
 use Rattle.text.specs.Text.{Bytes}
-use Rattle.emit.specs.Emit.{em, last, puts}
+use Rattle.emit.specs.bridge.Emit.{em, last, puts}
 use Rattle.emit.proofs.Laws.{puts-past}
 use Rattle.answers.specs.declared.Answer.the-variants.{Written, TooShort}
 use Rattle.answers.specs.Outcome.{written, Answered}

@@ -18,14 +18,14 @@ use Rattle.algebra.specs.Reader.{reads}
 use Rattle.algebra.specs.Texts.{readQuery}
 use Rattle.algebra.proofs.Neat.{query-neat}
 use Rattle.algebra.proofs.Theorem.{query-exactly}
-use Rattle.cursor.specs.Cursor.{left}
+use Rattle.cursor.specs.bridge.Cursor.{left}
 use Rattle.cursor.proofs.Laws.{left-none}
 use Rattle.counting.proofs.Basics.{both-ways}
 use Rattle.merging.specs.Merge.{isSelectOrAsk, mergeable}
-use Rattle.walking.specs.Code.{LineEnd}
+use Rattle.walking.specs.bridge.Code.{LineEnd}
 use Rattle.walking.proofs.Lines.{nothing-here}
 use Rattle.walking.proofs.Laws.{line-split, next-field}
-use Rattle.heads.specs.TreeAt.{headLine, TreeAt}
+use Rattle.heads.specs.bridge.TreeAt.{headLine, TreeAt}
 use Rattle.heads.proofs.Cut.{text-from, text-before}
 use Rattle.heads.proofs.Queries.{query-text, query-lines, tree-ended}
 

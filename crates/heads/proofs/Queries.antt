@@ -19,7 +19,7 @@ use Rattle.algebra.proofs.Theorem.{query-exactly}
 use Rattle.scoping.specs.Numbering.{byPlace}
 use Rattle.merging.specs.Merge.{over}
 use Rattle.merging.proofs.Others.{tree-valid, tree-names}
-use Rattle.heads.specs.TreeAt.{headLine}
+use Rattle.heads.specs.bridge.TreeAt.{headLine}
 use Rattle.heads.proofs.Cut.{ended-append}
 
 -- what is written of a query over a tree: the head's bytes, then the tree's

@@ -1,2 +1,1 @@
-pub mod TreeAt
-pub mod Known
+pub mod bridge

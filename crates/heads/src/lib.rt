@@ -13,7 +13,7 @@ ghost use Rattle.algebra.specs.Reader.{reads};
 ghost use Rattle.algebra.specs.Texts.{readQuery};
 ghost use Rattle.answers.specs.Outcome.{written, Answered};
 ghost use Rattle.merging.specs.Merge.{isSelectOrAsk, mergeable};
-ghost use Rattle.heads.specs.TreeAt.{TreeAt};
+ghost use Rattle.heads.specs.bridge.TreeAt.{TreeAt};
 
 // Where the tree starts: behind the first line.
 pub fn tree_start(query: &[u8]) -> usize

@@ -1,4 +1,4 @@
--- The calls as a whole: the texts, then heads, roots and positions, in document 01's order. Assumes nothing.
+-- The calls as a whole: the texts, then heads, roots and positions, in the specification's order. Assumes nothing.
 use Prim.Native.Nat.{ℕ, _≤_}
 use mathlib.Core.Path.{_≡_, refl, sym, ap, ap₂, subst, _∙_}
 use mathlib.Core.List.{List, [], _∷_, _++_}
@@ -22,10 +22,10 @@ use Rattle.answers.specs.declared.Answer.the-variants.{Malformed, OverBound, No
 use Rattle.merging.specs.Request.{Projection, tree, asProject, readConstants, joinPositions, byPosition, constantsIn}
 use Rattle.merging.specs.Merge.{isSelectOrAsk, mergeable, over, mergeTrees, mergePatternsOutcome, mergeQueriesOutcome}
 use Rattle.merging.specs.Push.{pushConstantsInProjectPattern, pushed, pushConstants, pushConstantsOutcome}
-use Rattle.heads.specs.Known.{Known, KnownQuery}
-use Rattle.heads.specs.TreeAt.{headLine, TreeAt}
+use Rattle.heads.specs.bridge.Known.{Known, KnownQuery}
+use Rattle.heads.specs.bridge.TreeAt.{headLine, TreeAt}
 use Rattle.heads.proofs.Queries.{over-layout, query-layout}
-use Rattle.projects.specs.Joining.{Terms, KnownTerms, Lists, ListsRead, ListsChecked, pushedBehind, mergedBehind}
+use Rattle.projects.specs.bridge.Joining.{Terms, KnownTerms, Lists, ListsRead, ListsChecked, pushedBehind, mergedBehind}
 
 -- ---- push constants
 

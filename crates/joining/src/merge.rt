@@ -15,8 +15,8 @@ ghost use Rattle.algebra.specs.Query.{Pair};
 ghost use Rattle.answers.specs.Outcome.{Answered};
 ghost use Rattle.algebra.specs.Tree.{Pattern};
 ghost use Rattle.merging.specs.Merge.{mergePatternsOutcome, mergeQueriesOutcome};
-ghost use Rattle.heads.specs.Known.{Known, KnownQuery};
-ghost use Rattle.projects.specs.Joining.{Stands, Lists, mergedBehind, ListsRead, TermsChecked, ListsChecked};
+ghost use Rattle.heads.specs.bridge.Known.{Known, KnownQuery};
+ghost use Rattle.projects.specs.bridge.Joining.{Stands, Lists, mergedBehind, ListsRead, TermsChecked, ListsChecked};
 
 // merge_project_patterns: two trees that were checked, behind the left text's head.
 fn merge_trees(
@@ -66,7 +66,7 @@ fn merge_trees(
     )
 }
 
-// The check of two constant lists, in document 01's order.
+// The check of two constant lists, in the specification's order.
 fn check_terms(left_constants: &[u8], right_constants: &[u8]) -> Check
     ensures { λ r. ⌜ TermsChecked (now («left_constants» .entry)) (now («right_constants» .entry)) r ⌝ }
 {
@@ -80,7 +80,7 @@ fn check_terms(left_constants: &[u8], right_constants: &[u8]) -> Check
     }
 }
 
-// The check of the three lists, in document 01's order.
+// The check of the three lists, in the specification's order.
 fn check_lists(pairs: &[u8], left_constants: &[u8], right_constants: &[u8]) -> Check
     ensures { λ r. ⌜ ListsChecked (now (pairs .entry)) (now («left_constants» .entry)) (now («right_constants» .entry)) r ⌝ }
 {

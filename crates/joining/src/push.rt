@@ -10,8 +10,8 @@ use reading::check_query;
 use sides::side::is_project;
 ghost use Rattle.answers.specs.Outcome.{Answered};
 ghost use Rattle.merging.specs.Push.{pushConstantsOutcome};
-ghost use Rattle.heads.specs.Known.{KnownQuery};
-ghost use Rattle.projects.specs.Joining.{KnownTerms};
+ghost use Rattle.heads.specs.bridge.Known.{KnownQuery};
+ghost use Rattle.projects.specs.bridge.Joining.{KnownTerms};
 
 // push_constants, for a query and constants that were checked.
 fn push_of(

@@ -5,12 +5,12 @@ use mathlib.Core.List.{List, [], _∷_, _++_, append-nil}
 use mathlib.Core.Bool.{Bool, true, false}
 use native.Mathlib.Numerals.{sub-one}
 use lib.ListN.{getD, replicate}
-use Rattle.algebra.specs.Table.{Sort, Below, opens}
-use Rattle.algebra.specs.Machine.{Want, want, amountOf, wants}
+use Rattle.algebra.specs.bridge.Table.{Sort, Below, opens}
+use Rattle.algebra.specs.bridge.Machine.{Want, want, amountOf, wants}
 use Rattle.words.specs.declared.Row.{Row as Code}
-use Rattle.words.specs.Code.{sortAt, groupOf, rowOf}
-use Rattle.lines.specs.Says.{below}
-use Rattle.lines.specs.Below.{amountIn, groups, Alone}
+use Rattle.words.specs.bridge.Code.{sortAt, groupOf, rowOf}
+use Rattle.lines.specs.bridge.Says.{below}
+use Rattle.lines.specs.bridge.Below.{amountIn, groups, Alone}
 
 -- ---- amounts
 

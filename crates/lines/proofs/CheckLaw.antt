@@ -11,13 +11,13 @@ use Rattle.text.specs.Text.{Bytes, Line, onto, split, linesIn, linesFrom, part}
 use Rattle.text.proofs.Places.{lines-end}
 use Rattle.algebra.specs.Tally.{Tally, bounds, start}
 use Rattle.algebra.specs.Reader.{malformed, overBound}
-use Rattle.algebra.specs.Table.{Sort}
-use Rattle.algebra.specs.Machine.{Want, want, More, done, entries, demand, Check, good, bad, run, turn, checkText}
+use Rattle.algebra.specs.bridge.Table.{Sort}
+use Rattle.algebra.specs.bridge.Machine.{Want, want, More, done, entries, demand, Check, good, bad, run, turn, checkText}
 use Rattle.algebra.specs.declared.Answer.{Answer}
 use Rattle.algebra.specs.declared.Answer.the-variants as A
-use Rattle.names.specs.Names.{Holds}
+use Rattle.names.specs.bridge.Names.{Holds}
 use Rattle.lines.specs.declared.check.Place.{Place}
-use Rattle.lines.specs.Run.{Stood, Went, Told, levelFor, Tells}
+use Rattle.lines.specs.bridge.Run.{Stood, Went, Told, levelFor, Tells}
 use Rattle.lines.proofs.RunLaw.{run-none, run-done, check-long, check-start}
 use Rattle.lines.proofs.DescentLaw.{went-here, Goes}
 

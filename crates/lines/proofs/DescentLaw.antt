@@ -10,16 +10,16 @@ use Rattle.text.proofs.Places.{lines-end, lines-open, lines-next}
 use Rattle.cursor.specs.declared.Cursor.{Cursor}
 use Rattle.algebra.specs.Tally.{Tally, bounds}
 use Rattle.algebra.specs.Reader.{Refusal, malformed, overBound, refused}
-use Rattle.algebra.specs.Machine.{Want, want, wants, More, Demand, Check, bad, run, lineOf}
+use Rattle.algebra.specs.bridge.Machine.{Want, want, wants, More, Demand, Check, bad, run, lineOf}
 use Rattle.words.specs.declared.Row.{Row as Code}
-use Rattle.words.specs.Code.{sortAt, rowOf}
+use Rattle.words.specs.bridge.Code.{sortAt, rowOf}
 use Rattle.lines.specs.declared.check.Place.{Place}
 use Rattle.lines.specs.declared.line.Asked.{Asked}
 use Rattle.lines.specs.declared.line.Line.{Line as Read}
 use Rattle.lines.specs.declared.line.Line.the-variants.{Asks, Malformed, OverBound}
-use Rattle.lines.specs.Says.{LineIs, below}
-use Rattle.lines.specs.Below.{amountIn, groups, Alone}
-use Rattle.lines.specs.Run.{Ready, Stood, Went}
+use Rattle.lines.specs.bridge.Says.{LineIs, below}
+use Rattle.lines.specs.bridge.Below.{amountIn, groups, Alone}
+use Rattle.lines.specs.bridge.Run.{Ready, Stood, Went}
 use Rattle.lines.proofs.BelowLaw.{below-row, alone-none}
 use Rattle.lines.proofs.RunLaw.{run-open, run-refused, run-next, run-missing}
 

@@ -11,11 +11,11 @@ use borrow.Author.Tests.{le-leb, lt-leb}
 use Rattle.text.specs.Text.{Bytes, split, onto, part}
 use Rattle.text.specs.Field.{numberOf}
 use Rattle.cursor.specs.declared.Cursor.{Cursor}
-use Rattle.cursor.specs.Cursor.{left}
-use Rattle.algebra.specs.Table.{Slot, count, choice}
-use Rattle.words.specs.Code.{mapped}
-use Rattle.lines.specs.Line.{andThen, Took, took, takeField, Fields, fields, takeTimes}
-use Rattle.lines.specs.Steps.{InLine, leftAt, restOf, termsOf, termsIn, numberTaken}
+use Rattle.cursor.specs.bridge.Cursor.{left}
+use Rattle.algebra.specs.bridge.Table.{Slot, count, choice}
+use Rattle.words.specs.bridge.Code.{mapped}
+use Rattle.lines.specs.bridge.Line.{andThen, Took, took, takeField, Fields, fields, takeTimes}
+use Rattle.lines.specs.bridge.Steps.{InLine, leftAt, restOf, termsOf, termsIn, numberTaken}
 use Rattle.lines.proofs.Zero.{choice-none, choice-big, choice-is}
 
 -- ---- terms taken so far, in front of those that are taken still

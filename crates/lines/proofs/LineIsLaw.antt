@@ -11,19 +11,19 @@ use Rattle.cursor.specs.declared.Cursor.{Cursor}
 use Rattle.cursor.proofs.Laws.{left-all, Next}
 use Rattle.algebra.specs.Tally.{Tally, bounds, within, notes}
 use Rattle.algebra.specs.Reader.{malformed, overBound, got, refused}
-use Rattle.algebra.specs.Table.{Row, rowFor, opens}
-use Rattle.algebra.specs.Machine.{want, wants, lineOf}
+use Rattle.algebra.specs.bridge.Table.{Row, rowFor, opens}
+use Rattle.algebra.specs.bridge.Machine.{want, wants, lineOf}
 use Rattle.words.specs.declared.Row.{Row as Code}
 use Rattle.words.specs.declared.Found.{Found}
 use Rattle.words.specs.declared.Found.the-variants.{Is, None}
-use Rattle.words.specs.Code.{sortAt, rowOf, rowFound, Tidy}
-use Rattle.names.specs.Names.{Holds}
+use Rattle.words.specs.bridge.Code.{sortAt, rowOf, rowFound, Tidy}
+use Rattle.names.specs.bridge.Names.{Holds}
 use Rattle.names.proofs.Laws.{holds-long}
 use Rattle.lines.specs.declared.line.Line.{Line}
 use Rattle.lines.specs.declared.line.Line.the-variants.{Asks, Malformed, OverBound}
-use Rattle.lines.specs.Line.{Fields, takeLine, columnsOf}
-use Rattle.lines.specs.Steps.{InLine, leftAt, termsIn}
-use Rattle.lines.specs.Says.{Says, LineIs}
+use Rattle.lines.specs.bridge.Line.{Fields, takeLine, columnsOf}
+use Rattle.lines.specs.bridge.Steps.{InLine, leftAt, termsIn}
+use Rattle.lines.specs.bridge.Says.{Says, LineIs}
 use Rattle.lines.proofs.StepLaw.{field, left-is}
 use Rattle.lines.proofs.LineTook.{counted}
 use Rattle.lines.proofs.LineLaw.{line-unknown, line-wrong, line-deep, line-over, line-asks, counted-lines, counted-names, within-yes, within-no-lines, within-no-columns, within-no-names}

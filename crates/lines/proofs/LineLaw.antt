@@ -13,11 +13,11 @@ use Rattle.text.specs.Field.{isVar}
 use Rattle.algebra.specs.Valid.{mem}
 use Rattle.algebra.specs.Tally.{bounds, Tally, within, notes, noted, headed}
 use Rattle.algebra.specs.Reader.{malformed, overBound, Got, got, refused, one, end, tooMany}
-use Rattle.algebra.specs.Table.{Slot, Tail, nothing, columns, variables, texts, values, value, Sort, Row, rowFor, opens}
-use Rattle.algebra.specs.Machine.{Want, want, wants, closing, lineOf}
-use Rattle.words.specs.Code.{tailOf, slotsUnder, rowOf}
+use Rattle.algebra.specs.bridge.Table.{Slot, Tail, nothing, columns, variables, texts, values, value, Sort, Row, rowFor, opens}
+use Rattle.algebra.specs.bridge.Machine.{Want, want, wants, closing, lineOf}
+use Rattle.words.specs.bridge.Code.{tailOf, slotsUnder, rowOf}
 use Rattle.words.specs.declared.Row.{Row as Code}
-use Rattle.lines.specs.Line.{Fields, takeLine, columnsOf}
+use Rattle.lines.specs.bridge.Line.{Fields, takeLine, columnsOf}
 use Rattle.lines.proofs.LineTook.{counted, Refuses, lineGot, line-took}
 
 no-right : (b : Bool) → (b && false) ≡ false

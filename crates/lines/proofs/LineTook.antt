@@ -12,10 +12,10 @@ use Rattle.algebra.specs.Word.{spellV, domains}
 use Rattle.algebra.specs.Tally.{Tally, noted, headed}
 use Rattle.algebra.specs.Reader.{malformed, Got, got, refused, Reader, next, orRefuse, one, kept, field, zeroOne, rest, times}
 use Rattle.algebra.specs.ListReading as L
-use Rattle.algebra.specs.Table.{Slot, term, text, count, choice, Tail, nothing, columns, variables, texts, values, value, Row}
-use Rattle.algebra.specs.Machine.{Want, wants, slotsThen, tailThen, lineBy}
-use Rattle.words.specs.Code.{mapped}
-use Rattle.lines.specs.Line.{andThen, Took, took, takeField, Fields, fields, takeSlots, takeTimes, takeValue, takeValues, takeTail, whole, takeLine}
+use Rattle.algebra.specs.bridge.Table.{Slot, term, text, count, choice, Tail, nothing, columns, variables, texts, values, value, Row}
+use Rattle.algebra.specs.bridge.Machine.{Want, wants, slotsThen, tailThen, lineBy}
+use Rattle.words.specs.bridge.Code.{mapped}
+use Rattle.lines.specs.bridge.Line.{andThen, Took, took, takeField, Fields, fields, takeSlots, takeTimes, takeValue, takeValues, takeTail, whole, takeLine}
 
 -- what is taken, and then k; or malformed
 abbrev onTaken : {A B : Type 0} → Option A → (A → Got B) → Got B

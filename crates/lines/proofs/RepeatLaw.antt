@@ -11,17 +11,17 @@ use Rattle.text.specs.Text.{Bytes}
 use Rattle.text.specs.Field.{Kind, variable, lexical, numberOf, fits, allFit}
 use Rattle.text.specs.declared.Number.{Number}
 use Rattle.text.specs.declared.Number.the-variants.{Is, Not}
-use Rattle.text.specs.Code.{numberIn, kindAt}
+use Rattle.text.specs.bridge.Code.{numberIn, kindAt}
 use Rattle.cursor.specs.declared.Cursor.{Cursor}
-use Rattle.cursor.specs.Cursor.{left}
+use Rattle.cursor.specs.bridge.Cursor.{left}
 use Rattle.cursor.proofs.Laws.{left-none, Next}
 use Rattle.algebra.specs.Reader.{kept}
 use Rattle.algebra.specs.Tally.{notes}
-use Rattle.algebra.specs.Table.{Slot, term, text, count, choice}
-use Rattle.words.specs.Code.{mapped, extraOf, extraFound}
-use Rattle.names.specs.Names.{Holds}
-use Rattle.lines.specs.Line.{andThen, Took, took, takeField, Fields, fields, takeTimes, takeValue, takeValues}
-use Rattle.lines.specs.Steps.{InLine, leftAt, Along, Follows, restOf, restIn, termsOf, termsIn, numberTaken}
+use Rattle.algebra.specs.bridge.Table.{Slot, term, text, count, choice}
+use Rattle.words.specs.bridge.Code.{mapped, extraOf, extraFound}
+use Rattle.names.specs.bridge.Names.{Holds}
+use Rattle.lines.specs.bridge.Line.{andThen, Took, took, takeField, Fields, fields, takeTimes, takeValue, takeValues}
+use Rattle.lines.specs.bridge.Steps.{InLine, leftAt, Along, Follows, restOf, restIn, termsOf, termsIn, numberTaken}
 use Rattle.lines.proofs.StepLaw.{Failed, field, left-is, in-line, step-follows}
 
 -- ---- where a step left the cursor

@@ -15,8 +15,8 @@ use Rattle.text.specs.Field.{Kind, clean, isKind, fits}
 use Rattle.text.proofs.Places.{lines-start}
 use Rattle.algebra.specs.Tally.{bounds, Tally, start}
 use Rattle.algebra.specs.Reader.{Refusal, malformed, overBound, Got, got, refused, one}
-use Rattle.algebra.specs.Machine.{Want, lineOf, Check, good, bad, resume, More, Demand, demand, turn, run, checkText}
-use Rattle.cursor.specs.Cursor.{left}
+use Rattle.algebra.specs.bridge.Machine.{Want, lineOf, Check, good, bad, resume, More, Demand, demand, turn, run, checkText}
+use Rattle.cursor.specs.bridge.Cursor.{left}
 use Rattle.cursor.proofs.Laws.{left-next, left-all}
 
 -- ---- a turn of the run

@@ -11,14 +11,14 @@ use lib.Dec.{eqb, leb}
 use borrow.Author.Tests.{le-leb}
 use Rattle.text.specs.Text.{Bytes, split, onto, part}
 use Rattle.cursor.specs.declared.Cursor.{Cursor}
-use Rattle.cursor.specs.Cursor.{left}
+use Rattle.cursor.specs.bridge.Cursor.{left}
 use Rattle.cursor.proofs.Laws.{left-none}
-use Rattle.algebra.specs.Table.{Sort, Tail, nothing, columns, variables, texts, values, value, opens, sorts, parts}
+use Rattle.algebra.specs.bridge.Table.{Sort, Tail, nothing, columns, variables, texts, values, value, opens, sorts, parts}
 use Rattle.words.specs.declared.Row.{Row as Code}
-use Rattle.words.specs.Code.{rowOf, sortAt}
-use Rattle.lines.specs.Line.{andThen, Fields, fields, takeSlots, takeTail, whole, takeLine, columnsOf}
-use Rattle.lines.specs.Steps.{InLine, leftAt, Along, Follows, restIn, termsIn, numbersIn, TookSlots}
-use Rattle.lines.specs.Says.{Says}
+use Rattle.words.specs.bridge.Code.{rowOf, sortAt}
+use Rattle.lines.specs.bridge.Line.{andThen, Fields, fields, takeSlots, takeTail, whole, takeLine, columnsOf}
+use Rattle.lines.specs.bridge.Steps.{InLine, leftAt, Along, Follows, restIn, termsIn, numbersIn, TookSlots}
+use Rattle.lines.specs.bridge.Says.{Says}
 use Rattle.lines.proofs.RepeatLaw.{follows-along, follows-fine, follows-fault, follows-line}
 use Rattle.lines.proofs.SlotLaw.{le-or-lt}
 use Rattle.lines.proofs.LineLaw.{columns-bare}

@@ -13,13 +13,13 @@ use Rattle.text.specs.Text.{Bytes}
 use Rattle.text.specs.Field.{Kind, fits, numberOf}
 use Rattle.algebra.specs.Reader.{kept, zeroOne}
 use Rattle.algebra.specs.Tally.{notes}
-use Rattle.names.specs.Names.{Holds}
+use Rattle.names.specs.bridge.Names.{Holds}
 use Rattle.cursor.specs.declared.Cursor.{Cursor}
 use Rattle.cursor.proofs.Laws.{left-none}
-use Rattle.algebra.specs.Table.{Slot, term, text, count, choice}
-use Rattle.words.specs.Code.{mapped, slotThen, slotsUnder, tailOf}
-use Rattle.lines.specs.Line.{andThen, Took, took, takeField, Fields, fields, takeSlots}
-use Rattle.lines.specs.Steps.{InLine, leftAt, Along, Follows, restOf, restIn, termsOf, termsIn, numberTaken, numbersIn, oneSlot, TookSlots}
+use Rattle.algebra.specs.bridge.Table.{Slot, term, text, count, choice}
+use Rattle.words.specs.bridge.Code.{mapped, slotThen, slotsUnder, tailOf}
+use Rattle.lines.specs.bridge.Line.{andThen, Took, took, takeField, Fields, fields, takeSlots}
+use Rattle.lines.specs.bridge.Steps.{InLine, leftAt, Along, Follows, restOf, restIn, termsOf, termsIn, numberTaken, numbersIn, oneSlot, TookSlots}
 use Rattle.lines.proofs.RepeatLaw.{follows-along, follows-fine, follows-fault}
 
 pub le-or-lt : (a b : ℕ) → (a ≤ b) ⊎ (b < a)

@@ -12,15 +12,15 @@ use borrow.Author.Tests.{ne-eqb}
 use Rattle.text.specs.Text.{Bytes, part, First}
 use Rattle.text.specs.Field.{Kind, clean, isKind, fits}
 use Rattle.cursor.specs.declared.Cursor.{Cursor}
-use Rattle.cursor.specs.Cursor.{left}
+use Rattle.cursor.specs.bridge.Cursor.{left}
 use Rattle.cursor.proofs.Laws.{left-none, left-next, Next}
 use Rattle.algebra.specs.Reader.{kept}
 use Rattle.algebra.specs.Tally.{notes}
-use Rattle.algebra.specs.Table.{Slot, term, text}
-use Rattle.words.specs.Code.{mapped}
-use Rattle.names.specs.Names.{Holds}
-use Rattle.lines.specs.Line.{Took, takeField}
-use Rattle.lines.specs.Steps.{InLine, leftAt, Along, Follows, restOf, termsOf}
+use Rattle.algebra.specs.bridge.Table.{Slot, term, text}
+use Rattle.words.specs.bridge.Code.{mapped}
+use Rattle.names.specs.bridge.Names.{Holds}
+use Rattle.lines.specs.bridge.Line.{Took, takeField}
+use Rattle.lines.specs.bridge.Steps.{InLine, leftAt, Along, Follows, restOf, termsOf}
 
 -- bytes without a tab and without a line end
 clean-bytes : (f : Bytes) → ((k : ℕ) → k < length f → getD f k 0 ≡ 9 → ⊥) → ((k : ℕ) → k < length f → getD f k 0 ≡ 10 → ⊥) → clean f ≡ true

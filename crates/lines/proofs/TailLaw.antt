@@ -10,10 +10,10 @@ use Rattle.text.specs.Text.{Bytes}
 use Rattle.text.specs.Field.{Kind, variable, cell, integer, fits, allFit}
 use Rattle.cursor.specs.declared.Cursor.{Cursor}
 use Rattle.algebra.specs.Reader.{kept}
-use Rattle.algebra.specs.Table.{Slot, term, text, Tail, nothing, columns, variables, texts, values, value}
-use Rattle.words.specs.Code.{mapped, tailOf}
-use Rattle.lines.specs.Line.{andThen, Took, took, takeField, Fields, fields, takeTimes, takeValue, takeValues, takeTail, columnsOf}
-use Rattle.lines.specs.Steps.{leftAt, Follows, restIn, termsIn, termsOf}
+use Rattle.algebra.specs.bridge.Table.{Slot, term, text, Tail, nothing, columns, variables, texts, values, value}
+use Rattle.words.specs.bridge.Code.{mapped, tailOf}
+use Rattle.lines.specs.bridge.Line.{andThen, Took, took, takeField, Fields, fields, takeTimes, takeValue, takeValues, takeTail, columnsOf}
+use Rattle.lines.specs.bridge.Steps.{leftAt, Follows, restIn, termsIn, termsOf}
 use Rattle.lines.proofs.RepeatLaw.{stay}
 use Rattle.lines.proofs.SlotLaw.{text-bare}
 

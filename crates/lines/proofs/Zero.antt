@@ -11,8 +11,8 @@ use Rattle.text.specs.Field.{digitsOf, numberOf, digits, decimal}
 use Rattle.text.proofs.Basics.{same-eq}
 use Rattle.text.proofs.Numbers.{number-sound}
 use Rattle.algebra.specs.Reader.{zeroOne}
-use Rattle.algebra.specs.Table.{choice}
-use Rattle.lines.specs.Line.{Took, took, takeField}
+use Rattle.algebra.specs.bridge.Table.{choice}
+use Rattle.lines.specs.bridge.Line.{Took, took, takeField}
 
 -- a field with another number is another field
 differs : (f w : Bytes) (v : ℕ) → numberOf w ≡ some v → (numberOf f ≡ some v → ⊥) → same f w ≡ false

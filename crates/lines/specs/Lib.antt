@@ -1,5 +1,1 @@
-pub mod Line
-pub mod Steps
-pub mod Says
-pub mod Below
-pub mod Run
+pub mod bridge

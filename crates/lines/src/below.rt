@@ -4,8 +4,8 @@ use words::Row;
 ghost use mathlib.Core.Path.{_≡_};
 ghost use Prim.Native.Nat.{_≤_, _<_};
 ghost use mathlib.Core.Bool.{true};
-ghost use Rattle.lines.specs.Says.{below};
-ghost use Rattle.lines.specs.Below.{amountIn, Alone};
+ghost use Rattle.lines.specs.bridge.Says.{below};
+ghost use Rattle.lines.specs.bridge.Below.{amountIn, Alone};
 
 // How many lines a group has.
 pub fn amount(base: u8, from: u8, first: usize, second: usize) -> u64

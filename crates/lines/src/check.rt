@@ -14,12 +14,12 @@ ghost use mathlib.Core.List.{List, [], _∷_, _++_};
 ghost use lib.ListN.{replicate};
 ghost use Rattle.text.specs.Text.{linesFrom};
 ghost use Rattle.algebra.specs.Tally.{Tally, bounds};
-ghost use Rattle.algebra.specs.Machine.{Want, want, More, done, entries, run, checkText};
-ghost use Rattle.names.specs.Names.{Holds};
-ghost use Rattle.words.specs.Code.{sortAt};
-ghost use Rattle.lines.specs.Says.{below};
-ghost use Rattle.lines.specs.Below.{groups};
-ghost use Rattle.lines.specs.Run.{Ready, Stood, Went, Sound, Told, levelFor, Tells};
+ghost use Rattle.algebra.specs.bridge.Machine.{Want, want, More, done, entries, run, checkText};
+ghost use Rattle.names.specs.bridge.Names.{Holds};
+ghost use Rattle.words.specs.bridge.Code.{sortAt};
+ghost use Rattle.lines.specs.bridge.Says.{below};
+ghost use Rattle.lines.specs.bridge.Below.{groups};
+ghost use Rattle.lines.specs.bridge.Run.{Ready, Stood, Went, Sound, Told, levelFor, Tells};
 
 // Where the text goes on, how many lines and names there were; and the fault that ended the check: 0 for none, 1 for malformed, else over a bound.
 pub struct Place {

@@ -11,12 +11,12 @@ ghost use Prim.Native.Nat.{ℕ, _+_, _≤_, _<_};
 ghost use mathlib.Core.List.{List, [], _∷_};
 ghost use lib.ListN.{length, getD};
 ghost use Rattle.text.specs.Field.{variable};
-ghost use Rattle.text.specs.Code.{kindAt};
+ghost use Rattle.text.specs.bridge.Code.{kindAt};
 ghost use Rattle.algebra.specs.Tally.{notes};
-ghost use Rattle.algebra.specs.Table.{term, text, count, choice};
-ghost use Rattle.names.specs.Names.{Holds};
-ghost use Rattle.lines.specs.Line.{takeField, takeTimes, takeValue, takeValues};
-ghost use Rattle.lines.specs.Steps.{InLine, leftAt, Follows, restOf, restIn, termsOf, termsIn, numberTaken};
+ghost use Rattle.algebra.specs.bridge.Table.{term, text, count, choice};
+ghost use Rattle.names.specs.bridge.Names.{Holds};
+ghost use Rattle.lines.specs.bridge.Line.{takeField, takeTimes, takeValue, takeValues};
+ghost use Rattle.lines.specs.bridge.Steps.{InLine, leftAt, Follows, restOf, restIn, termsOf, termsIn, numberTaken};
 
 // A cursor and the number of names in the table, or the number in a field.
 pub struct Taken {

@@ -17,14 +17,14 @@ ghost use mathlib.Core.Path.{_≡_};
 ghost use Prim.Native.Nat.{ℕ, _+_, _≤_, _<_};
 ghost use mathlib.Core.List.{List, []};
 ghost use lib.ListN.{length, getD};
-ghost use Rattle.text.specs.Code.{kindAt};
+ghost use Rattle.text.specs.bridge.Code.{kindAt};
 ghost use Rattle.algebra.specs.Tally.{notes, Tally};
-ghost use Rattle.algebra.specs.Table.{opens};
-ghost use Rattle.names.specs.Names.{Holds};
-ghost use Rattle.words.specs.Code.{tailOf, rowOf, sortAt};
-ghost use Rattle.lines.specs.Line.{takeField, takeSlots, takeTail, takeLine, columnsOf};
-ghost use Rattle.lines.specs.Says.{Says, LineIs, Small};
-ghost use Rattle.lines.specs.Steps.{InLine, leftAt, Follows, restOf, restIn, termsOf, termsIn, numberTaken, numbersIn, oneSlot, TookSlots};
+ghost use Rattle.algebra.specs.bridge.Table.{opens};
+ghost use Rattle.names.specs.bridge.Names.{Holds};
+ghost use Rattle.words.specs.bridge.Code.{tailOf, rowOf, sortAt};
+ghost use Rattle.lines.specs.bridge.Line.{takeField, takeSlots, takeTail, takeLine, columnsOf};
+ghost use Rattle.lines.specs.bridge.Says.{Says, LineIs, Small};
+ghost use Rattle.lines.specs.bridge.Steps.{InLine, leftAt, Follows, restOf, restIn, termsOf, termsIn, numberTaken, numbersIn, oneSlot, TookSlots};
 
 // A cursor, the number of names in the table, and the number in a field or of a project's columns.
 pub struct Step {

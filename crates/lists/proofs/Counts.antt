@@ -11,7 +11,7 @@ use Rattle.text.specs.Text.{Bytes}
 use Rattle.algebra.specs.Query.{PairList, unique}
 use Rattle.algebra.specs.Valid.{mem}
 use Rattle.algebra.specs.Tally.{bounds, Tally, within, notes, noted, paired, tallyPair}
-use Rattle.lists.specs.Pairs.{fresh, keptIn}
+use Rattle.lists.specs.bridge.Pairs.{fresh, keptIn}
 
 -- so many lines are counted, and these first fields are kept
 abbrev pub state : ℕ → List Bytes → Tally

@@ -9,12 +9,12 @@ use lib.Dec.{eqb}
 use borrow.Author.Tests.{not-true, not-false}
 use Rattle.text.specs.Text.{Bytes, Line, split, onto, part, First}
 use Rattle.text.specs.Field.{Kind, isKind}
-use Rattle.cursor.specs.Cursor.{left, Reads}
+use Rattle.cursor.specs.bridge.Cursor.{left, Reads}
 use Rattle.cursor.proofs.Laws.{left-all, left-next, left-none}
 use Rattle.cursor.specs.declared.Cursor.{Cursor}
 use Rattle.cursor.specs.declared.Field.{Field}
 use Rattle.cursor.specs.declared.Field.the-variants.{At, None}
-use Rattle.lists.specs.Pairs.{isPair, Finds}
+use Rattle.lists.specs.bridge.Pairs.{isPair, Finds}
 
 not-first : (k j : Kind) (f : Bytes) (fs : Line) → isKind k f ≡ false → isPair k j (f ∷ fs) ≡ false
 unfolding isPair

@@ -13,9 +13,9 @@ use Rattle.algebra.specs.Reader.{readText}
 use Rattle.algebra.specs.Texts.{readPairs}
 use Rattle.algebra.specs.declared.Answer.{Answer}
 use Rattle.algebra.specs.declared.Answer.the-variants.{Good, OverBound}
-use Rattle.names.specs.Names.{listing, Hinted, Holds}
-use Rattle.names.specs.Checked.{Checked}
-use Rattle.lists.specs.Pairs.{keysOf, Stands}
+use Rattle.names.specs.bridge.Names.{listing, Hinted, Holds}
+use Rattle.names.specs.bridge.Checked.{Checked}
+use Rattle.lists.specs.bridge.Pairs.{keysOf, Stands}
 use Rattle.text.proofs.Places.{lines-start, lines-end}
 use Rattle.lists.proofs.Outcomes.{by, is-good, is-over}
 use Rattle.lists.proofs.Counts.{state}

@@ -10,9 +10,9 @@ use lib.Dec.{leb}
 use borrow.Author.Tests.{le-leb, lt-leb, not-true, not-false}
 use Rattle.text.specs.Text.{Bytes, same}
 use Rattle.algebra.specs.Valid.{mem}
-use Rattle.names.specs.Names.{nameAt, listing, Hinted, Holds, kept}
+use Rattle.names.specs.bridge.Names.{nameAt, listing, Hinted, Holds, kept}
 use Rattle.names.proofs.Laws.{listed}
-use Rattle.lists.specs.Pairs.{fresh, keptIn}
+use Rattle.lists.specs.bridge.Pairs.{fresh, keptIn}
 
 pub fresh-any : (apart : Bool) (f : Bytes) (ns : List Bytes) → not apart ≡ true → true ≡ fresh apart f ns
 unfolding fresh

@@ -13,7 +13,7 @@ use Rattle.text.specs.Field.{clean, Kind, isKind, fits}
 use Rattle.text.proofs.Basics.{and-left, and-right}
 use Rattle.text.proofs.Places.{lines-next}
 use Rattle.text.proofs.Texts.{lacks, AllClean}
-use Rattle.cursor.specs.Cursor.{left}
+use Rattle.cursor.specs.bridge.Cursor.{left}
 use Rattle.cursor.proofs.Laws.{left-all}
 
 lacks-all : (b : ℕ) (p : Bytes) → ((k : ℕ) → k < length p → getD p k 0 ≡ b → ⊥) → lacks b p ≡ true

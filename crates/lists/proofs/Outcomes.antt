@@ -6,8 +6,8 @@ use native.Mathlib.Omega.{arith}
 use Rattle.text.specs.Text.{Bytes}
 use Rattle.algebra.specs.Reader.{malformed, overBound, Outcome, reads, refuses}
 use Rattle.algebra.specs.declared.Answer.the-variants.{Good, Malformed, OverBound}
-use Rattle.names.specs.Names.{Holds}
-use Rattle.names.specs.Checked.{Checked}
+use Rattle.names.specs.bridge.Names.{Holds}
+use Rattle.names.specs.bridge.Checked.{Checked}
 
 -- what a text says, by f
 abbrev pub by : {A B : Type 0} → (A → B) → Outcome A → Outcome B

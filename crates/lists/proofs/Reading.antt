@@ -11,7 +11,7 @@ use Rattle.algebra.specs.Query.{PairList, Pair, firstKind, secondKind, unique}
 use Rattle.algebra.specs.Tally.{bounds, Tally, within, tallyPair, tallyPairs}
 use Rattle.algebra.specs.Reader.{malformed, overBound, Got, got, refused, next, _>>=_, return, refuse, one, kept, end, tooMany, several, Outcome, reads, refuses, outcome}
 use Rattle.algebra.specs.ListReading.{pair}
-use Rattle.lists.specs.Pairs.{isPair, fresh}
+use Rattle.lists.specs.bridge.Pairs.{isPair, fresh}
 use Rattle.lists.proofs.Lines.{fits-kind}
 use Rattle.lists.proofs.Outcomes.{by}
 

@@ -7,18 +7,18 @@ use native.Mathlib.Omega.{arith}
 use lib.ListN.{length}
 use borrow.Author.Tests.{not-true, not-false}
 use Rattle.text.specs.Text.{Bytes, part, First, linesFrom}
-use Rattle.text.specs.Code.{kindAt}
+use Rattle.text.specs.bridge.Code.{kindAt}
 use Rattle.text.proofs.Texts.{AllClean}
 use Rattle.algebra.specs.Query.{PairList, firstKind, secondKind, unique}
 use Rattle.algebra.specs.Tally.{bounds, within, tallyPair}
 use Rattle.algebra.specs.Texts.{readPairs}
 use Rattle.algebra.specs.declared.Answer.the-variants.{Malformed, OverBound}
-use Rattle.names.specs.Names.{Holds}
-use Rattle.cursor.specs.Cursor.{left}
+use Rattle.names.specs.bridge.Names.{Holds}
+use Rattle.cursor.specs.bridge.Cursor.{left}
 use Rattle.cursor.specs.declared.Cursor.{Cursor}
 use Rattle.cursor.specs.declared.Field.{Field}
 use Rattle.cursor.specs.declared.Field.the-variants.{At, None}
-use Rattle.lists.specs.Pairs.{keysOf, Stands, isPair, Finds, fresh, keptIn}
+use Rattle.lists.specs.bridge.Pairs.{keysOf, Stands, isPair, Finds, fresh, keptIn}
 use Rattle.text.proofs.Places.{lines-open}
 use Rattle.lists.proofs.Lines.{line-next, line-clean}
 use Rattle.lists.proofs.Outcomes.{by, is-malformed, is-over}

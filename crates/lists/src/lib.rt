@@ -11,12 +11,12 @@ ghost use Prim.Native.Nat.{ℕ, _+_, _≤_, _<_};
 ghost use mathlib.Core.List.{List};
 ghost use lib.ListN.{length};
 ghost use Rattle.text.specs.Text.{part};
-ghost use Rattle.text.specs.Code.{kindAt};
+ghost use Rattle.text.specs.bridge.Code.{kindAt};
 ghost use Rattle.algebra.specs.Query.{PairList, joins, constants, mapping};
 ghost use Rattle.algebra.specs.Texts.{readPairs};
-ghost use Rattle.names.specs.Names.{Holds};
-ghost use Rattle.names.specs.Checked.{Checked};
-ghost use Rattle.lists.specs.Pairs.{keysOf, Stands, Finds, fresh, keptIn};
+ghost use Rattle.names.specs.bridge.Names.{Holds};
+ghost use Rattle.names.specs.bridge.Checked.{Checked};
+ghost use Rattle.lists.specs.bridge.Pairs.{keysOf, Stands, Finds, fresh, keptIn};
 
 // A line of two fields of these kinds: the end of the first, and the cursor behind the line.
 fn pair_at(text: &[u8], c: Cursor, first: u8, second: u8) -> Field

@@ -1,4 +1,4 @@
--- Document 01's premises and the laws of naming make the two sides of a merge fit. Assumes nothing.
+-- Demand 3's premises and the laws of naming make the two sides of a merge fit. Assumes nothing.
 use mathlib.Core.Path.{_≡_, refl, sym, _∙_, ap, ap₂, subst}
 use mathlib.Core.Bool.{Bool, true, false, not, false≢true}
 use mathlib.Core.List.{List, [], _∷_, map}

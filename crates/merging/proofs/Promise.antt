@@ -43,7 +43,7 @@ module _ (m : Request) (a : Known prefixL (m .left) (lefts (m .joins)) (m .left-
     columns-named : mergedColumns (leftSide m) (rightSide m) (m .joins) ≡ mergedNames m
     columns-named = merged-names m (left-names m a b s) (right-names m a b s) (sides-fit m a b s)
 
-    -- under nemo's names, then under 01's
+    -- under nemo's names, then under those that demand 3 says
     counts-named : (g : List Triple) (row : List Cell) → count sameRow row (answer (mergedNames m) g (mergeProjectPatterns m)) ≡ expectedCount m g row
     unfolding mergeProjectPatterns
     counts-named g row =

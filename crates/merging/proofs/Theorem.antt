@@ -1,5 +1,5 @@
--- Demand 3 on bytes: where a merge is written, the bytes are one tree's, and each row's count in its answer is document 01's sum. Assumes nothing.
--- The statements cite specs/Merge.antt (the outcomes) and specs/Demand3.antt (what the texts ask for, 01's premises, the promise).
+-- Demand 3 on bytes: where a merge is written, the bytes are one tree's, and each row's count in its answer is demand 3's sum. Assumes nothing.
+-- The statements cite specs/Merge.antt (the outcomes) and specs/Demand3.antt (what the texts ask for, the premises, the promise).
 use mathlib.Core.Path.{_≡_, refl, sym, ap, _∙_}
 use mathlib.Core.Bool.{true, _&&_}
 use Rattle.text.specs.Text.{Bytes, same, textOf}
@@ -22,7 +22,7 @@ bytes-of a b e = cc
 
 -- ---- demand 3
 
--- where merge patterns writes bytes, they are those of one tree, and under 01's premises each row stands in its answer as often as 01's sum says
+-- where merge patterns writes bytes, they are those of one tree, and under demand 3's premises each row stands in its answer as often as its sum says
 pub merge-patterns-counts : (left right pairs leftConstants rightConstants b : Bytes)
     → mergePatternsOutcome left right pairs leftConstants rightConstants ≡ written b
     → (m : Request) × Trees left right m × Lists pairs leftConstants rightConstants m × Counted m b
@@ -58,7 +58,7 @@ pub query-over : (a : Query) (t : Pattern) → layoutQuery (over a t) ≡ behind
 unfolding layoutQuery putQuery textOf layout behindHead
 query-over a t = refl
 
--- where merge queries writes bytes, they are a head line and those of one tree, and under 01's premises each row stands in its answer as often as 01's sum says
+-- where merge queries writes bytes, they are a head line and those of one tree, and under demand 3's premises each row stands in its answer as often as its sum says
 pub merge-queries-counts : (left right pairs leftConstants rightConstants b : Bytes)
     → mergeQueriesOutcome left right pairs leftConstants rightConstants ≡ written b
     → (m : Request) × (kind dataset base text : Bytes) × Queries left right kind dataset base m × Lists pairs leftConstants rightConstants m

@@ -1,4 +1,4 @@
--- Document 01, "Cases to be proved": its ten, and some more, as one table of calls and their outcomes. Assumes nothing.
+-- docs/SPECIFICATION.md, "Worked cases": its ten, and some more, as one table of calls and their outcomes. Assumes nothing.
 use mathlib.Core.List.{List, [], _∷_}
 use Prim.Native.Nat.{ℕ}
 use Prim.Native.String.{String}
@@ -33,30 +33,30 @@ refuses c n = record { call = c; gives = refused n }
 
 abbrev pub cases : List Case
 cases =
-    -- 1: "that merge"
+    -- 1: relays and bays
     gives (mergePatterns "project\t?event\t?relay\nbgp\t1\nt\t?event\t<by>\t?relay\n" "project\t?r\t?bay\nbgp\t1\nt\t?r\t<in>\t?bay\n" "1\t0\n" "" "")
     "project\t?l0\t?j0\t?r1\njoin\nbgp\t1\nt\t?l0\t<by>\t?j0\nbgp\t1\nt\t?j0\t<in>\t?r1\n"
     -- 2: Label partners are linked too
     ∷ gives (mergePatterns "project\t?s\t?sLabel\nbgp\t0\n" "project\t?t\t?tLabel\nbgp\t0\n" "0\t0\n" "" "") "project\t?j0\t?j0Label\t?j0Label\njoin\nbgp\t0\nbgp\t0\n"
     -- 3: a left position twice equates the first pair only
     ∷ gives (mergePatterns "project\t?a\nbgp\t0\n" "project\t?b\t?c\nbgp\t0\n" "0\t0\n0\t1\n" "" "") "project\t?j0\t?j1\njoin\nbgp\t0\nbgp\t0\n"
-    -- 4: "position 2 of two columns, 3", in the join list and among the constants
+    -- 4: a position outside, in the join list and among the constants
     ∷ refuses (mergePatterns "project\t?a\t?b\nbgp\t0\n" "project\t?c\nbgp\t0\n" "2\t0\n" "" "") 3
     ∷ refuses (mergePatterns "project\t?a\nbgp\t0\n" "project\t?b\t?c\nbgp\t0\n" "" "" "2\t<k>\n") 3
-    -- 5: "distinct over project, 4", before 3
+    -- 5: a root that isn't project, before 3
     ∷ refuses (mergePatterns "distinct\nproject\t?a\nbgp\t0\n" "project\t?b\nbgp\t0\n" "7\t7\n" "" "") 4
     ∷ refuses (mergePatterns "project\t?a\nbgp\t0\n" "bgp\t0\n" "7\t7\n" "" "") 4
-    -- 6: "select with ask, 5", before 4
+    -- 6: kinds that differ, before 4
     ∷ refuses (mergeQueries "query\tselect\t-\t-\ndistinct\nproject\t?a\nbgp\t0\n" "query\task\t-\t-\nproject\t?b\nbgp\t0\n" "" "" "") 5
-    -- 7: push "on `?a ?b`"
+    -- 7: a push on two columns
     ∷ gives (pushConstants "query\tselect\t-\t-\nproject\t?a\t?b\nbgp\t0\n" "0\t<k>\n") "query\tselect\t-\t-\nproject\t?v1\njoin\nbgp\t0\nvalues\t1\t1\ncols\t?v0\nrow\t<k>\n"
     -- 8: the v-mapping of `?xLabelLabel`, then `?x`
     ∷ gives (pushConstants "query\tselect\t-\t-\nproject\t?xLabelLabel\t?x\nbgp\t0\n" "") "query\tselect\t-\t-\nproject\t?v0Label\t?v1\nbgp\t0\n"
-    -- 9: "`?Label` alone"
+    -- 9: `?Label` and no other
     ∷ gives (pushConstants "query\task\t-\t-\nproject\t?Label\nbgp\t0\n" "") "query\task\t-\t-\nproject\t?v0Label\nbgp\t0\n"
-    -- 10: "no text for the left tree, 1"
+    -- 10: no left tree
     ∷ refuses (mergePatterns "" "project\t?b\nbgp\t0\n" "" "" "") 1
-    -- beyond 01's: constants on both sides by rising position, and a head line
+    -- beyond the ten: constants on both sides by rising position, and a head line
     ∷ gives (mergeQueries "query\task\t-\t<b>\nproject\t?a\t?b\t?c\nbgp\t0\n" "query\task\t-\t<b>\nproject\t?d\nbgp\t0\n" "1\t0\n" "2\t\"x\"\n0\t<k>\n" "")
     "query\task\t-\t<b>\nproject\t?j0\njoin\njoin\nbgp\t0\nvalues\t2\t1\ncols\t?l0\t?l2\nrow\t<k>\t\"x\"\nbgp\t0\n"
     -- push copies what it can't take, and says 3 only where it can

@@ -17,7 +17,7 @@ unfoldable pub mergeProjectPatterns : Request → Pattern
 unfolding merged
 mergeProjectPatterns m = merged (leftSide m) (rightSide m) (m .joins)
 
--- "join list, left and right constants", checked in this order
+-- the three lists, checked in this order
 abbrev pub lists : Bytes → Bytes → Bytes → (List Pair → List Constant → List Constant → Outcome) → Outcome
 lists pairs leftConstants rightConstants k =
     then (readJoins pairs) λ js.
@@ -33,7 +33,7 @@ mergeTrees left right js ks ls k =
     orRefused 4 (asProject right) λ r.
     refusedUnless 3 (allInside (request l r js ks ls)) (k (mergeProjectPatterns (request l r js ks ls)))
 
--- "Merge patterns: the same without 5": 1, 2 for left, right, join list, left and right constants; 4; 3; the merged tree
+-- docs/SPECIFICATION.md, "Operation by operation", merge patterns: the five texts, 4, 3, the merged tree
 unfoldable pub mergePatternsOutcome : Bytes → Bytes → Bytes → Bytes → Bytes → Outcome
 unfolding readTree readJoins readConstants mergeTrees layout
 mergePatternsOutcome left right pairs leftConstants rightConstants =
@@ -49,7 +49,7 @@ unfoldable pub isSelectOrAsk : Bytes → Bool
 unfolding same
 isSelectOrAsk kind = same kind (bytes "select") || same kind (bytes "ask")
 
--- "5 heads differ or kind not mergeable": kind, dataset and base are compared by their bytes
+-- else 5: kind, dataset and base are compared by their bytes
 unfoldable pub mergeable : Query → Query → Bool
 unfolding isSelectOrAsk
 mergeable a b = isSelectOrAsk (a .kind) && (same (a .kind) (b .kind) && (same (a .dataset) (b .dataset) && same (a .base) (b .base)))
@@ -58,7 +58,7 @@ mergeable a b = isSelectOrAsk (a .kind) && (same (a .kind) (b .kind) && (same (a
 abbrev pub over : Query → Pattern → Query
 over q t = record { kind = q .kind; dataset = q .dataset; base = q .base; tree = t }
 
--- "Merge queries: 1, 2 for left, right, join list, left and right constants; 5; 4; 3"; the head and the merged tree
+-- docs/SPECIFICATION.md, "Operation by operation", merge queries: the five texts, 5, 4, 3, the head and the merged tree
 unfoldable pub mergeQueriesOutcome : Bytes → Bytes → Bytes → Bytes → Bytes → Outcome
 unfolding readQuery readJoins readConstants mergeable mergeTrees layoutQuery
 mergeQueriesOutcome left right pairs leftConstants rightConstants =

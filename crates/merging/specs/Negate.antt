@@ -9,7 +9,7 @@ use Rattle.algebra.specs.Bounded.{layoutQuery}
 use Rattle.answers.specs.Outcome.{Outcome, written, then}
 use Rattle.merging.specs.Merge.{isSelectOrAsk, over}
 
--- modify_outermost_projection: "goes down through Distinct, Reduced, Slice, OrderBy and Group only"; the modified inner pattern may depend on the columns
+-- modify_outermost_projection: the way down goes through distinct, reduced, slice, orderby and group; the modified inner pattern may depend on the columns
 unfoldable pub modifyOutermostProjection : (List Bytes → Pattern → Pattern) → Pattern → Pattern
 modifyOutermostProjection f (project cs p) = project cs (f cs p)
 modifyOutermostProjection f (distinct p) = distinct (modifyOutermostProjection f p)
@@ -34,12 +34,12 @@ unfoldable pub negateProjectPattern : Pattern → Pattern
 unfolding modifyOutermostProjection
 negateProjectPattern p = modifyOutermostProjection (λ cs q. filter (bgp []) (apply NOT (econs (exists q) eend))) p
 
--- negate_query: "copy a construct or describe"
+-- negate_query: a construct or describe is copied
 unfoldable pub negateQuery : Query → Query
 unfolding isSelectOrAsk negateProjectPattern
 negateQuery q = cond (isSelectOrAsk (q .kind)) (over q (negateProjectPattern (q .tree))) q
 
--- "Negate: 1, 2"
+-- docs/SPECIFICATION.md, "Operation by operation", negate
 unfoldable pub negateOutcome : Bytes → Outcome
 unfolding readQuery negateQuery layoutQuery
 negateOutcome query = then (readQuery query) λ q. written (layoutQuery (negateQuery q))

@@ -23,18 +23,18 @@ unfoldable pub pushConstantsInProjectPattern : Projection → List Constant → 
 unfolding freeColumns renamedPattern
 pushConstantsInProjectPattern x ks = project (freeColumns (onlySide x ks)) (renamedPattern (onlySide x ks))
 
--- "3 only for select or ask with a Project root"; "also copies when the root isn't Project"
+-- a copy where the root isn't project; else 3 for a position outside
 unfoldable pub pushed : Query → List Constant → Option Projection → Outcome
 unfolding inside pushConstantsInProjectPattern layoutQuery
 pushed q ks none = written (layoutQuery q)
 pushed q ks (some x) = refusedUnless 3 (inside (x .columns) (positions ks)) (written (layoutQuery (over q (pushConstantsInProjectPattern x ks))))
 
--- push_constants: "copy a construct or describe"
+-- push_constants: a construct or describe is copied
 unfoldable pub pushConstants : Query → List Constant → Outcome
 unfolding pushed asProject isSelectOrAsk
 pushConstants q ks = cond (isSelectOrAsk (q .kind)) (pushed q ks (asProject (q .tree))) (written (layoutQuery q))
 
--- "Push constants: 1, 2; 3 only for select or ask with a Project root"
+-- docs/SPECIFICATION.md, "Operation by operation", push constants
 unfoldable pub pushConstantsOutcome : Bytes → Bytes → Outcome
 unfolding readQuery readConstants pushConstants
 pushConstantsOutcome query constants =

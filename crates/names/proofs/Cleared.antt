@@ -2,7 +2,7 @@
 use Prim.Native.Nat.{ℕ, zero, suc}
 use mathlib.Core.Path.{_≡_, refl}
 use lib.ListN.{getD, replicate, length-replicate}
-use Rattle.names.specs.Names.{Zeros}
+use Rattle.names.specs.bridge.Names.{Zeros}
 
 each-zero : (n i : ℕ) → getD {A = ℕ} (replicate n 0) i 0 ≡ 0
 each-zero zero i = refl

@@ -6,7 +6,7 @@ use native.Mathlib.Omega.{arith}
 use lib.ListN.{length, getD, set, length-set}
 use lib.Seq.{getD-set-other}
 use Rattle.text.specs.Text.{Bytes}
-use Rattle.names.specs.Names.{hashOf, after, Leads, HintedFrom, Grows}
+use Rattle.names.specs.bridge.Names.{hashOf, after, Leads, HintedFrom, Grows}
 
 -- ---- from place to place
 

@@ -14,7 +14,7 @@ use Rattle.text.specs.Field.{isVar}
 use Rattle.text.proofs.Basics.{same-eq}
 use Rattle.algebra.specs.Valid.{mem}
 use Rattle.algebra.specs.Tally.{notes}
-use Rattle.names.specs.Names.{hashOf, nameAt, listing, after, Leads, HintedFrom, Hinted, Grows, kept, Holds}
+use Rattle.names.specs.bridge.Names.{hashOf, nameAt, listing, after, Leads, HintedFrom, Hinted, Grows, kept, Holds}
 use Rattle.names.proofs.Hints.{leads-on, leads-past, leads-back, leads-here, leads-none, grows-set, grows-same, hinted-grows, hinted-more, hinted-last}
 
 -- ---- the hash

@@ -11,7 +11,7 @@ ghost use lib.ListN.{length, getD};
 ghost use Rattle.text.specs.Text.{same, piece as pieceOf};
 ghost use Rattle.algebra.specs.Valid.{mem};
 ghost use Rattle.algebra.specs.Tally.{notes};
-ghost use Rattle.names.specs.Names.{hashOf, nameAt, listing, after as afterOf, Leads, Hinted, Grows, Holds, kept, Zeros};
+ghost use Rattle.names.specs.bridge.Names.{hashOf, nameAt, listing, after as afterOf, Leads, Hinted, Grows, Holds, kept, Zeros};
 
 // A number of the table as a place.
 pub fn wide(x: u16) -> usize

@@ -11,12 +11,12 @@ use lib.ListN.{length, take, drop, getD, set, length-take, length-append, length
 use lib.Seq.{take-take, getD-set-same, getD-set-other, getD-append-seam}
 use Rattle.text.specs.Text.{Bytes, same, piece}
 use Rattle.algebra.specs.Valid.{mem}
-use Rattle.names.specs.Names.{nameAt, listing, kept, Holds}
+use Rattle.names.specs.bridge.Names.{nameAt, listing, kept, Holds}
 use Rattle.names.proofs.Laws.{listing-long, holds-long, holds-none}
 use Rattle.walking.proofs.Laws.{listing-at}
 use Rattle.scoping.specs.Label.{base}
-use Rattle.scoping.specs.Pushes.{Push, aPush, contains, pushed}
-use Rattle.naming.specs.Code.{book, Stored, LabelAt}
+use Rattle.scoping.specs.bridge.Pushes.{Push, aPush, contains, pushed}
+use Rattle.naming.specs.bridge.Code.{book, Stored, LabelAt}
 use Rattle.naming.proofs.Lookup.{contains-at, contains-none, contains-listed}
 
 -- a push is kept for each

@@ -8,7 +8,7 @@ use lib.ListN.{length, length-append}
 use Rattle.text.specs.Text.{Bytes}
 use Rattle.text.specs.Field.{digits, decimal}
 use Rattle.text.proofs.Numbers.{digits-small, digits-big}
-use Rattle.emit.specs.Emit.{Em, puts}
+use Rattle.emit.specs.bridge.Emit.{Em, puts}
 use Rattle.scoping.specs.Label.{generated}
 
 -- any number of digits that is enough

@@ -12,16 +12,16 @@ use Rattle.text.specs.Text.{Bytes, same}
 use Rattle.text.specs.Field.{given}
 use Rattle.text.proofs.Basics.{same-eq}
 use Rattle.algebra.specs.Valid.{mem}
-use Rattle.names.specs.Names.{nameAt, listing, Hinted}
+use Rattle.names.specs.bridge.Names.{nameAt, listing, Hinted}
 use Rattle.names.proofs.Laws.{listing-long, listed}
 use Rattle.walking.proofs.Laws.{listing-at}
 use Rattle.scoping.specs.Label.{label, isLabel, base, generated}
-use Rattle.scoping.specs.Pushes.{Push, aPush, lookup, contains, pushed, pushes, allPushes}
+use Rattle.scoping.specs.bridge.Pushes.{Push, aPush, lookup, contains, pushed, pushes, allPushes}
 use Rattle.scoping.specs.Sets.{indexOf}
 use Rattle.scoping.proofs.Agree.{contains-given}
 use Rattle.scoping.proofs.Index.{at-index, index-below}
 use Rattle.scoping.proofs.Sets.{eq-same}
-use Rattle.naming.specs.Code.{book, Apart, LabelAt}
+use Rattle.naming.specs.bridge.Code.{book, Apart, LabelAt}
 use Rattle.naming.proofs.Labels.{base-label, label-of, label-of-none}
 use Rattle.naming.proofs.Room.{contains-more}
 

@@ -13,13 +13,13 @@ use borrow.Author.Tests.{eq-eqb, ne-eqb}
 use Rattle.text.specs.Text.{Bytes, same}
 use Rattle.text.proofs.Basics.{same-refl}
 use Rattle.algebra.specs.Valid.{mem}
-use Rattle.names.specs.Names.{nameAt, listing}
+use Rattle.names.specs.bridge.Names.{nameAt, listing}
 use Rattle.names.proofs.Laws.{listing-long, listed}
 use Rattle.walking.proofs.Laws.{listing-at}
 use Rattle.scoping.specs.Label.{base}
-use Rattle.scoping.specs.Pushes.{Push, aPush, contains, pushed, pushes, allPushes}
-use Rattle.walking.specs.Flags.{chosen}
-use Rattle.naming.specs.Code.{book, Room, numberedBy, namesAt}
+use Rattle.scoping.specs.bridge.Pushes.{Push, aPush, contains, pushed, pushes, allPushes}
+use Rattle.walking.specs.bridge.Flags.{chosen}
+use Rattle.naming.specs.bridge.Code.{book, Room, numberedBy, namesAt}
 use Rattle.naming.proofs.Book.{book-long}
 use Rattle.naming.proofs.Room.{Among, room-none, room-new, room-pushes}
 

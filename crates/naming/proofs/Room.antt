@@ -9,8 +9,8 @@ use Rattle.text.specs.Text.{Bytes, same}
 use Rattle.text.proofs.Basics.{same-eq, same-refl}
 use Rattle.algebra.specs.Valid.{mem}
 use Rattle.scoping.specs.Label.{label, base}
-use Rattle.scoping.specs.Pushes.{Push, aPush, contains, pushed, pushes}
-use Rattle.naming.specs.Code.{fresh, Room}
+use Rattle.scoping.specs.bridge.Pushes.{Push, aPush, contains, pushed, pushes}
+use Rattle.naming.specs.bridge.Code.{fresh, Room}
 
 -- a base that is there stays there
 pub contains-more : (b : Bytes) (p : Push) (ps : List Push) → contains b ps ≡ true → contains b (p ∷ ps) ≡ true

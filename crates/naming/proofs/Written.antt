@@ -13,20 +13,20 @@ use lib.Dec.{eqb}
 use borrow.Author.Tests.{ne-eqb}
 use Rattle.text.specs.Text.{Bytes, piece}
 use Rattle.algebra.specs.Valid.{mem}
-use Rattle.names.specs.Names.{nameAt, listing}
+use Rattle.names.specs.bridge.Names.{nameAt, listing}
 use Rattle.names.proofs.Laws.{listing-long}
-use Rattle.emit.specs.Emit.{Em, em, last, puts}
+use Rattle.emit.specs.bridge.Emit.{Em, em, last, puts}
 use Rattle.emit.proofs.Laws.{puts-nil, puts-append, puts-at, puts-out}
 use Rattle.scoping.specs.Sets.{indexOf}
 use Rattle.scoping.specs.Label.{label, generated}
 use Rattle.scoping.specs.Standardize.{orSelf}
-use Rattle.scoping.specs.Pushes.{Push, lookup, newName}
+use Rattle.scoping.specs.bridge.Pushes.{Push, lookup, newName}
 use Rattle.scoping.proofs.Index.{at-index, index-below}
-use Rattle.walking.specs.Code.{replacement}
+use Rattle.walking.specs.bridge.Code.{replacement}
 use Rattle.walking.proofs.Laws.{listing-at}
 use Rattle.naming.specs.declared.Hit.{Hit}
 use Rattle.naming.specs.declared.Hit.the-variants.{Missing, Plain, Labelled}
-use Rattle.naming.specs.Code.{said, written, Laid, becomesAt, Settled, SettledTo, Standard}
+use Rattle.naming.specs.bridge.Code.{said, written, Laid, becomesAt, Settled, SettledTo, Standard}
 use Rattle.naming.proofs.Decimals.{digits-five}
 
 -- ---- what is written for a hit

@@ -13,12 +13,12 @@ ghost use lib.ListN.{length, getD, take, set};
 ghost use lib.Dec.{eqb};
 ghost use Rattle.text.specs.Text.{piece as pieceOf};
 ghost use Rattle.text.specs.Field.{decimal};
-ghost use Rattle.names.specs.Names.{nameAt, listing, Hinted};
-ghost use Rattle.emit.specs.Emit.{em, puts};
+ghost use Rattle.names.specs.bridge.Names.{nameAt, listing, Hinted};
+ghost use Rattle.emit.specs.bridge.Emit.{em, puts};
 ghost use Rattle.scoping.specs.Label.{isLabel, base as baseOf, generated};
-ghost use Rattle.scoping.specs.Pushes.{lookup, contains, pushed, pushes, allPushes};
-ghost use Rattle.walking.specs.Flags.{chosen};
-ghost use Rattle.naming.specs.Code.{book, Stored, Apart, LabelAt, Room, numberedBy, namesAt, said, written, Laid, Settled, Standard};
+ghost use Rattle.scoping.specs.bridge.Pushes.{lookup, contains, pushed, pushes, allPushes};
+ghost use Rattle.walking.specs.bridge.Flags.{chosen};
+ghost use Rattle.naming.specs.bridge.Code.{book, Stored, Apart, LabelAt, Room, numberedBy, namesAt, said, written, Laid, Settled, Standard};
 
 fn wide(x: u16) -> usize
     ensures { λ r. ⌜ (r ≡ x) × (r < 65536) ⌝ }

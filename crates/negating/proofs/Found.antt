@@ -42,7 +42,7 @@ found (minus p q) x e = nothing x e
 found (values cs rs) x e = nothing x e
 found (service n s p) x e = nothing x e
 
--- "the second where no outermost projection is found": a copy
+-- where there is no outermost projection: a copy
 pub not-found : (f : List Bytes → Pattern → Pattern) (p : Pattern) → outermostProjection p ≡ none → modifyOutermostProjection f p ≡ p
 unfolding outermostProjection modifyOutermostProjection
 not-found f (project cs p) e = nothing (record { columns = cs; inner = p }) (sym e)

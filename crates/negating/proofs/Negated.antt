@@ -17,17 +17,17 @@ use Rattle.algebra.specs.Layout.{putTriples, putArity, put, layout}
 use Rattle.algebra.specs.Bounded.{layoutQuery}
 use Rattle.algebra.specs.Reader.{reads, refuses, malformed, overBound}
 use Rattle.algebra.specs.Texts.{readQuery}
-use Rattle.emit.specs.Emit.{em, last, puts}
+use Rattle.emit.specs.bridge.Emit.{em, last, puts}
 use Rattle.emit.proofs.Laws.{puts-append}
 use Rattle.answers.specs.declared.Answer.the-variants.{Written, Malformed, OverBound, TooShort}
 use Rattle.answers.specs.Outcome.{written, Reported, Answered}
 use Rattle.answers.proofs.Answers.{too-short, all-written, answered}
 use Rattle.merging.specs.Merge.{isSelectOrAsk, over}
 use Rattle.merging.specs.Negate.{negateProjectPattern, negateQuery, negateOutcome}
-use Rattle.heads.specs.TreeAt.{TreeAt}
+use Rattle.heads.specs.bridge.TreeAt.{TreeAt}
 use Rattle.heads.proofs.Queries.{query-layout, over-layout, tree-ended}
-use Rattle.negating.specs.Lines.{fromProject, Projects}
-use Rattle.negating.specs.Negated.{notExists, negatedAt}
+use Rattle.negating.specs.bridge.Lines.{fromProject, Projects}
+use Rattle.negating.specs.bridge.Negated.{notExists, negatedAt}
 use Rattle.negating.proofs.Found.{not-found}
 use Rattle.negating.proofs.TreeLines.{behind}
 use Rattle.negating.proofs.Placed.{placed, not-placed, inner-text, modified-text}

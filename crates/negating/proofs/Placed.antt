@@ -14,7 +14,7 @@ use Rattle.merging.specs.Request.{Projection}
 use Rattle.merging.specs.Negate.{modifyOutermostProjection}
 use Rattle.heads.proofs.Cut.{text-from, text-before, text-append}
 use Rattle.negating.specs.Projections.{outermostProjection}
-use Rattle.negating.specs.Lines.{fromProject, Projects}
+use Rattle.negating.specs.bridge.Lines.{fromProject, Projects}
 use Rattle.negating.proofs.Found.{Outermost, found}
 use Rattle.negating.proofs.TreeLines.{downTo, behind, modified-lines, tree-lines, project-found, project-not-found}
 

@@ -12,13 +12,13 @@ use Rattle.text.specs.Text.{Bytes, Line, same, part, linesFrom, First}
 use Rattle.text.specs.Word.{bytes}
 use Rattle.text.proofs.Basics.{same-eq}
 use Rattle.text.proofs.Places.{lines-end, lines-next}
-use Rattle.cursor.specs.Cursor.{left}
-use Rattle.walking.specs.Code.{LineEnd}
+use Rattle.cursor.specs.bridge.Cursor.{left}
+use Rattle.walking.specs.bridge.Code.{LineEnd}
 use Rattle.walking.proofs.Lines.{nothing-here}
 use Rattle.walking.proofs.Laws.{line-split}
 use Rattle.negating.specs.declared.Outermost.{Outermost}
 use Rattle.negating.specs.declared.Outermost.the-variants.{At, None}
-use Rattle.negating.specs.Lines.{isPassed, fromProject, Projects, Finds}
+use Rattle.negating.specs.bridge.Lines.{isPassed, fromProject, Projects, Finds}
 
 -- behind the last line
 pub past-end : (s : Bytes) (at : ℕ) → length s ≤ at → fromProject (linesFrom s at) ≡ none

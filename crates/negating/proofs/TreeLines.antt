@@ -13,7 +13,7 @@ use Rattle.algebra.specs.Layout.{put, putOs, putAs}
 use Rattle.merging.specs.Request.{Projection}
 use Rattle.merging.specs.Negate.{modifyOutermostProjection}
 use Rattle.negating.specs.Projections.{outermostProjection}
-use Rattle.negating.specs.Lines.{isPassed, fromProject}
+use Rattle.negating.specs.bridge.Lines.{isPassed, fromProject}
 use Rattle.negating.proofs.Found.{Outermost, here, under-distinct, under-reduced, under-slice, under-orderby, under-group}
 
 -- the lines down to the outermost projection's line, which is the last of them

@@ -1,3 +1,2 @@
 pub mod Projections
-pub mod Lines
-pub mod Negated
+pub mod bridge

@@ -3,7 +3,7 @@ use mathlib.Core.Option.{Option, none, some}
 use Rattle.algebra.specs.Tree.{Pattern, bgp, path, join, union, minus, leftjoin, filter, graph, extend, values, orderby, project, distinct, reduced, slice, group, service}
 use Rattle.merging.specs.Request.{Projection}
 
--- "goes down through Distinct, Reduced, Slice, OrderBy and Group only"
+-- the way down goes through distinct, reduced, slice, orderby and group
 unfoldable pub outermostProjection : Pattern → Option Projection
 outermostProjection (project cs p) = some (record { columns = cs; inner = p })
 outermostProjection (distinct p) = outermostProjection p

@@ -15,11 +15,11 @@ ghost use lib.ListN.{length};
 ghost use Rattle.algebra.specs.Query.{Query};
 ghost use Rattle.algebra.specs.Reader.{reads};
 ghost use Rattle.algebra.specs.Texts.{readQuery};
-ghost use Rattle.emit.specs.Emit.{em, puts};
+ghost use Rattle.emit.specs.bridge.Emit.{em, puts};
 ghost use Rattle.answers.specs.Outcome.{Answered};
 ghost use Rattle.merging.specs.Negate.{negateOutcome};
-ghost use Rattle.negating.specs.Lines.{isPassed, Finds};
-ghost use Rattle.negating.specs.Negated.{negatedAt};
+ghost use Rattle.negating.specs.bridge.Lines.{isPassed, Finds};
+ghost use Rattle.negating.specs.bridge.Negated.{negatedAt};
 
 const PROJECT: [u8; 7] = *b"project";
 

@@ -13,7 +13,7 @@ use Rattle.text.specs.Text.{Bytes, same, onto, split, part, First}
 use Rattle.text.proofs.Basics.{same-eq}
 use Rattle.text.proofs.Lists.{split-here, split-last}
 use Rattle.parted.specs.Parted.{bar, before, textsIn, texts}
-use Rattle.parted.specs.Code.{textsFrom, after, Ends}
+use Rattle.parted.specs.bridge.Code.{textsFrom, after, Ends}
 
 pub texts-start : (s : Bytes) → texts s ≡ textsFrom s 0
 unfolding texts textsFrom

@@ -1,3 +1,3 @@
 pub mod Parted
 pub mod Examples
-pub mod Code
+pub mod bridge

@@ -1,10 +1,10 @@
--- The texts that a program reads: document 01, "A merge in full". Assumes nothing.
+-- The texts that a program reads: docs/SPECIFICATION.md, "Programs". Assumes nothing.
 use mathlib.Core.List.{List, [], _∷_, _++_}
 use mathlib.Core.Bool.{cond}
 use Rattle.text.specs.Text.{Bytes, same, split}
 use Rattle.text.specs.Word.{bytes}
 
--- "lines `--`": the bytes of such a line, before its line end
+-- the bytes of a line `--`, before its line end
 abbrev pub bar : Bytes
 bar = bytes "--"
 
@@ -13,7 +13,7 @@ unfoldable pub before : Bytes → List Bytes → List Bytes
 before b [] = b ∷ []
 before b (t ∷ ts) = (b ++ t) ∷ ts
 
--- "parted by … lines `--`", of the parts between line ends: each part but the last is a line; a line `--` ends a text, any other stands in its text
+-- the texts, of the parts between line ends: each part but the last is a line; a line `--` ends a text, any other stands in its text
 unfoldable pub textsIn : List Bytes → List Bytes
 unfolding same before
 textsIn [] = [] ∷ []

@@ -8,7 +8,7 @@ ghost use Prim.Native.Nat.{_+_, _≤_};
 ghost use lib.ListN.{length, getD};
 ghost use Rattle.text.specs.Text.{same, part};
 ghost use Rattle.parted.specs.Parted.{bar, texts};
-ghost use Rattle.parted.specs.Code.{Ends};
+ghost use Rattle.parted.specs.bridge.Code.{Ends};
 
 const BAR: [u8; 2] = *b"--";
 

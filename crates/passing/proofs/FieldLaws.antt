@@ -13,26 +13,26 @@ use lib.Dec.{eqb}
 use Rattle.text.specs.Text.{Bytes, same, part}
 use Rattle.text.specs.Field.{Kind, cell, isVar, fits}
 use Rattle.cursor.specs.declared.Cursor.{Cursor}
-use Rattle.cursor.specs.Cursor.{left}
+use Rattle.cursor.specs.bridge.Cursor.{left}
 use Rattle.cursor.proofs.Laws.{Next, left-none}
 use Rattle.algebra.specs.Reader.{kept}
 use Rattle.algebra.specs.Valid.{mem}
 use Rattle.algebra.specs.Tally.{notes}
-use Rattle.algebra.specs.Table.{Slot, term, text, nothing}
-use Rattle.names.specs.Names.{Holds}
+use Rattle.algebra.specs.bridge.Table.{Slot, term, text, nothing}
+use Rattle.names.specs.bridge.Names.{Holds}
 use Rattle.names.proofs.Laws.{holds-long}
-use Rattle.emit.specs.Emit.{Em, em, puts}
+use Rattle.emit.specs.bridge.Emit.{Em, em, puts}
 use Rattle.emit.proofs.Laws.{puts-append}
-use Rattle.lines.specs.Line.{Took, took, takeField}
-use Rattle.lines.specs.Steps.{InLine, leftAt, Follows, restOf, termsOf, oneSlot}
+use Rattle.lines.specs.bridge.Line.{Took, took, takeField}
+use Rattle.lines.specs.bridge.Steps.{InLine, leftAt, Follows, restOf, termsOf, oneSlot}
 use Rattle.lines.proofs.StepLaw.{Failed, left-is, clean-field}
 use Rattle.lines.proofs.RepeatLaw.{follows-along}
 use Rattle.scoping.specs.Sets.{Once}
-use Rattle.scoping.specs.Places.{Mark}
-use Rattle.walking.specs.Walk.{Output, output, writes, opened, putField, putFields}
+use Rattle.scoping.specs.bridge.Places.{Mark}
+use Rattle.walking.specs.bridge.Walk.{Output, output, writes, opened, putField, putFields}
 use Rattle.walking.proofs.Written.{cell-fixed}
 use Rattle.passing.specs.declared.slots.Judged.{Judged}
-use Rattle.passing.specs.Code.{Judges, Even, Behind, pending, Wrote}
+use Rattle.passing.specs.bridge.Code.{Judges, Even, Behind, pending, Wrote}
 use Rattle.passing.proofs.Extend.{Extends, extends-on, notes-on, notes-hold}
 use Rattle.passing.proofs.Held.{none-some, kept-is, taking, opened-on}
 use Rattle.passing.proofs.InkLaws.{part-join, back, fields-step, less-one, term-open as term-may}

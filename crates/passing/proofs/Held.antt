@@ -14,17 +14,17 @@ use Rattle.text.specs.Field.{Kind, variable, node, plain, name, constant, cell,
 use Rattle.text.proofs.Basics.{same-eq, same-refl, and-left, and-right}
 use Rattle.algebra.specs.Valid.{mem}
 use Rattle.algebra.specs.Reader.{kept, zeroOne}
-use Rattle.algebra.specs.Table.{Slot, term, text, count, choice, Tail, nothing, columns, variables, texts, values, value, Row, Amount, always, given, more}
-use Rattle.algebra.specs.Machine.{amountOf}
-use Rattle.words.specs.Code.{mapped}
-use Rattle.lines.specs.Line.{andThen, Took, took, takeField, Fields, fields, takeSlots, takeTimes, takeTail, whole, takeLine}
+use Rattle.algebra.specs.bridge.Table.{Slot, term, text, count, choice, Tail, nothing, columns, variables, texts, values, value, Row, Amount, always, given, more}
+use Rattle.algebra.specs.bridge.Machine.{amountOf}
+use Rattle.words.specs.bridge.Code.{mapped}
+use Rattle.lines.specs.bridge.Line.{andThen, Took, took, takeField, Fields, fields, takeSlots, takeTimes, takeTail, whole, takeLine}
 use Rattle.scoping.specs.Sets.{indexOf}
 use Rattle.scoping.proofs.Sets.{and-none, mem-append}
-use Rattle.scoping.specs.Places.{Mark}
-use Rattle.walking.specs.Walk.{Output, opened, orZero, numberIn, putField, putFields, putLine}
+use Rattle.scoping.specs.bridge.Places.{Mark}
+use Rattle.walking.specs.bridge.Walk.{Output, opened, orZero, numberIn, putField, putFields, putLine}
 use Rattle.walking.proofs.Written.{cell-fixed}
 use Rattle.passing.proofs.Extend.{Extends, mem-on, index-on, Holding}
-use Rattle.passing.specs.Code.{Mild}
+use Rattle.passing.specs.bridge.Code.{Mild}
 use Rattle.passing.proofs.Rows.{counts, early, amounts}
 
 -- each field that is written as a variable is there

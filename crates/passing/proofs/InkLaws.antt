@@ -12,17 +12,17 @@ use Rattle.text.specs.Field.{isVar}
 use Rattle.text.proofs.Basics.{same-refl, either-way}
 use Rattle.algebra.specs.Valid.{mem}
 use Rattle.algebra.specs.Tally.{notes}
-use Rattle.names.specs.Names.{nameAt, listing, Hinted, Holds, kept}
+use Rattle.names.specs.bridge.Names.{nameAt, listing, Hinted, Holds, kept}
 use Rattle.names.proofs.Laws.{holds-long, listed}
-use Rattle.emit.specs.Emit.{Em, em, puts}
+use Rattle.emit.specs.bridge.Emit.{Em, em, puts}
 use Rattle.emit.proofs.Laws.{puts-append, puts-nil}
 use Rattle.scoping.specs.Sets.{Once, indexOf}
 use Rattle.scoping.proofs.Index.{index-below}
 use Rattle.scoping.proofs.Sets.{mem-append}
-use Rattle.scoping.specs.Places.{Mark}
-use Rattle.algebra.specs.Table.{Slot}
-use Rattle.walking.specs.Walk.{Output, output, writes, flagged, opened, putField, putFields}
-use Rattle.walking.specs.Code.{Named}
+use Rattle.scoping.specs.bridge.Places.{Mark}
+use Rattle.algebra.specs.bridge.Table.{Slot}
+use Rattle.walking.specs.bridge.Walk.{Output, output, writes, flagged, opened, putField, putFields}
+use Rattle.walking.specs.bridge.Code.{Named}
 use Rattle.walking.proofs.Laws.{FoundAt, entry-index}
 use Rattle.passing.proofs.Extend.{Extends}
 use Rattle.passing.proofs.Held.{field-alike}

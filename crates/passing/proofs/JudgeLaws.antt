@@ -11,14 +11,14 @@ use Rattle.text.specs.Text.{Bytes}
 use Rattle.text.specs.Field.{Kind, isKind, fits, numberOf}
 use Rattle.text.specs.declared.Number.{Number}
 use Rattle.text.specs.declared.Number.the-variants.{Is, Not}
-use Rattle.text.specs.Code.{numberIn}
+use Rattle.text.specs.bridge.Code.{numberIn}
 use Rattle.algebra.specs.Reader.{kept}
-use Rattle.algebra.specs.Table.{count, choice, nothing}
-use Rattle.lines.specs.Line.{Took, took, takeField}
-use Rattle.lines.specs.Steps.{numberTaken, oneSlot}
+use Rattle.algebra.specs.bridge.Table.{count, choice, nothing}
+use Rattle.lines.specs.bridge.Line.{Took, took, takeField}
+use Rattle.lines.specs.bridge.Steps.{numberTaken, oneSlot}
 use Rattle.lines.proofs.FieldsLaw.{choice-small, choice-large}
 use Rattle.passing.specs.declared.slots.Judged.{Judged}
-use Rattle.passing.specs.Code.{Judges}
+use Rattle.passing.specs.bridge.Code.{Judges}
 
 -- ---- what a field is
 

@@ -16,33 +16,33 @@ use Rattle.text.specs.Field.{isVar}
 use Rattle.text.proofs.Basics.{and-left, and-right, same-refl}
 use Rattle.text.proofs.Places.{lines-next}
 use Rattle.cursor.specs.declared.Cursor.{Cursor}
-use Rattle.cursor.specs.Cursor.{left}
+use Rattle.cursor.specs.bridge.Cursor.{left}
 use Rattle.algebra.specs.Valid.{mem, different}
 use Rattle.algebra.specs.Tally.{notes}
 use Rattle.algebra.specs.Reader.{malformed, overBound}
-use Rattle.algebra.specs.Table.{rowFor}
+use Rattle.algebra.specs.bridge.Table.{rowFor}
 use Rattle.words.specs.declared.Row.{Row as Code}
 use Rattle.words.specs.declared.Found.{Found}
 use Rattle.words.specs.declared.Found.the-variants.{Is, None}
-use Rattle.words.specs.Code.{sortAt, rowOf, rowFound, Tidy}
-use Rattle.names.specs.Names.{listing, Hinted, Holds}
+use Rattle.words.specs.bridge.Code.{sortAt, rowOf, rowFound, Tidy}
+use Rattle.names.specs.bridge.Names.{listing, Hinted, Holds}
 use Rattle.names.proofs.Laws.{holds-long}
-use Rattle.lines.specs.Line.{Fields, takeLine, columnsOf}
-use Rattle.lines.specs.Says.{Says}
-use Rattle.lines.specs.Steps.{InLine, leftAt, termsIn}
+use Rattle.lines.specs.bridge.Line.{Fields, takeLine, columnsOf}
+use Rattle.lines.specs.bridge.Says.{Says}
+use Rattle.lines.specs.bridge.Steps.{InLine, leftAt, termsIn}
 use Rattle.scoping.specs.Sets.{Once}
 use Rattle.algebra.proofs.Lines.{different-head, different-tail, different-both}
 use Rattle.scoping.proofs.Sets.{mem-append, not-same}
-use Rattle.walking.specs.Walk.{Output, output, hides, putLine}
-use Rattle.walking.specs.Code.{markAt, LineEnd}
+use Rattle.walking.specs.bridge.Walk.{Output, output, hides, putLine}
+use Rattle.walking.specs.bridge.Code.{markAt, LineEnd}
 use Rattle.walking.proofs.Laws.{line-split}
 use Rattle.walking.proofs.Lines.{nothing-here}
 use Rattle.passing.specs.declared.line.Place.{Place}
 use Rattle.passing.specs.declared.line.Lined.{Lined}
-use Rattle.passing.specs.Pass.{State, Result, went, fault, Going, fitting, behind, taken, known, lineThen}
-use Rattle.algebra.specs.Table.{Slot}
-use Rattle.scoping.specs.Places.{Mark}
-use Rattle.passing.specs.Code.{aims, Behind, Wrote, Kept, standing, told, Good, LineIs}
+use Rattle.passing.specs.bridge.Pass.{State, Result, went, fault, Going, fitting, behind, taken, known, lineThen}
+use Rattle.algebra.specs.bridge.Table.{Slot}
+use Rattle.scoping.specs.bridge.Places.{Mark}
+use Rattle.passing.specs.bridge.Code.{aims, Behind, Wrote, Kept, standing, told, Good, LineIs}
 
 -- ---- the bounds
 

@@ -9,8 +9,8 @@ use native.Mathlib.Omega.{arith}
 use Rattle.text.specs.Text.{Bytes, same}
 use Rattle.text.specs.Field.{cell}
 use Rattle.text.proofs.Basics.{and-left, and-right}
-use Rattle.passing.specs.Code.{Mild}
-use Rattle.algebra.specs.Table.{Slot, term, text, count, choice, Tail, nothing, columns, variables, texts, values, value, Sort, triples, patterns, expressions, rows, orders, aggregates, heads, sets, positions, valueRows, parts, Amount, always, given, more, Below, Row, Entry, rowsOf, rowIn, rowFor, one, _of_}
+use Rattle.passing.specs.bridge.Code.{Mild}
+use Rattle.algebra.specs.bridge.Table.{Slot, term, text, count, choice, Tail, nothing, columns, variables, texts, values, value, Sort, triples, patterns, expressions, rows, orders, aggregates, heads, sets, positions, valueRows, parts, Amount, always, given, more, Below, Row, Entry, rowsOf, rowIn, rowFor, one, _of_}
 
 -- ---- a fact of every row
 

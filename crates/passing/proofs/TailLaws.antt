@@ -10,17 +10,17 @@ use Rattle.text.specs.Text.{Bytes, same, part}
 use Rattle.text.specs.Word.{bytes}
 use Rattle.text.specs.Field.{Kind, variable, node, plain, name, constant, cell, integer, limit, flag, opaque, lexical, absent, tag, datatype, form}
 use Rattle.cursor.specs.declared.Cursor.{Cursor}
-use Rattle.cursor.specs.Cursor.{left}
+use Rattle.cursor.specs.bridge.Cursor.{left}
 use Rattle.cursor.proofs.Laws.{left-none}
-use Rattle.algebra.specs.Table.{text, Tail, nothing, texts, triples, patterns, expressions, rows, orders, aggregates, Row, rowsOf, rowFor, heads}
-use Rattle.words.specs.Code.{tailOf, sortAt}
-use Rattle.emit.specs.Emit.{Em, em, puts}
+use Rattle.algebra.specs.bridge.Table.{text, Tail, nothing, texts, triples, patterns, expressions, rows, orders, aggregates, Row, rowsOf, rowFor, heads}
+use Rattle.words.specs.bridge.Code.{tailOf, sortAt}
+use Rattle.emit.specs.bridge.Emit.{Em, em, puts}
 use Rattle.emit.proofs.Laws.{puts-append}
-use Rattle.lines.specs.Line.{takeTimes, takeTail}
-use Rattle.lines.specs.Steps.{leftAt, termsIn}
-use Rattle.scoping.specs.Places.{Mark}
-use Rattle.walking.specs.Walk.{output, writes, putFields, putLine}
-use Rattle.passing.specs.Code.{Mild, Behind, pending, Wrote}
+use Rattle.lines.specs.bridge.Line.{takeTimes, takeTail}
+use Rattle.lines.specs.bridge.Steps.{leftAt, termsIn}
+use Rattle.scoping.specs.bridge.Places.{Mark}
+use Rattle.walking.specs.bridge.Walk.{output, writes, putFields, putLine}
+use Rattle.passing.specs.bridge.Code.{Mild, Behind, pending, Wrote}
 use Rattle.passing.proofs.Rows.{row-every, Inner, triples-inner, columns-inner, rows-inner, orders-inner, aggregates-inner, Upper, patterns-upper, expressions-upper, heads-upper, plain-mild}
 use Rattle.passing.proofs.InkLaws.{part-join}
 use Rattle.passing.proofs.FieldLaws.{single}

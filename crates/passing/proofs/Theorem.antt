@@ -14,21 +14,21 @@ use Rattle.algebra.specs.Bounded.{IsTree}
 use Rattle.algebra.specs.Tally.{bounds, start, tally}
 use Rattle.algebra.specs.Reader.{malformed, overBound, reads}
 use Rattle.algebra.specs.Texts.{readTree}
-use Rattle.algebra.specs.Table.{patterns}
+use Rattle.algebra.specs.bridge.Table.{patterns}
 use Rattle.algebra.proofs.Neat.{neat}
 use Rattle.algebra.proofs.Theorem.{tree-exactly}
-use Rattle.emit.specs.Emit.{puts}
-use Rattle.scoping.specs.Places.{Mark, visible, places}
+use Rattle.emit.specs.bridge.Emit.{puts}
+use Rattle.scoping.specs.bridge.Places.{Mark, visible, places}
 use Rattle.scoping.specs.Numbering.{byPlace}
 use Rattle.scoping.proofs.Named.{named}
 use Rattle.scoping.proofs.FirstPlaces.{by-place-mem}
 use Rattle.scoping.specs.Rename.{renameInGraphPattern}
-use Rattle.walking.specs.Walk.{Output}
-use Rattle.walking.specs.Walk as W
-use Rattle.walking.specs.Flags.{flagAll}
+use Rattle.walking.specs.bridge.Walk.{Output}
+use Rattle.walking.specs.bridge.Walk as W
+use Rattle.walking.specs.bridge.Flags.{flagAll}
 use Rattle.walking.proofs.Trees.{walk-tree}
-use Rattle.passing.specs.Pass.{State, state, Result, went, fault, finished, ending, passText, pass, tree}
-use Rattle.passing.specs.Says.{Says}
+use Rattle.passing.specs.bridge.Pass.{State, state, Result, went, fault, finished, ending, passText, pass, tree}
+use Rattle.passing.specs.bridge.Says.{Says}
 use Rattle.passing.proofs.Extend.{Extends, extends-same}
 use Rattle.passing.proofs.Held.{Agree}
 use Rattle.scoping.proofs.Alike.{rename-alike}

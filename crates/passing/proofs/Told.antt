@@ -9,17 +9,17 @@ use Rattle.algebra.specs.Layout.{layout}
 use Rattle.algebra.specs.Tally.{start, tally}
 use Rattle.algebra.specs.Reader.{Refusal, malformed, overBound, Outcome, reads, refuses}
 use Rattle.algebra.specs.Texts.{readTree}
-use Rattle.names.specs.Names.{listing}
-use Rattle.emit.specs.Emit.{em, puts}
-use Rattle.scoping.specs.Places.{Mark, places}
+use Rattle.names.specs.bridge.Names.{listing}
+use Rattle.emit.specs.bridge.Emit.{em, puts}
+use Rattle.scoping.specs.bridge.Places.{Mark, places}
 use Rattle.scoping.specs.Rename.{renameInGraphPattern}
 use Rattle.scoping.specs.Numbering.{byPlace}
-use Rattle.walking.specs.Walk.{Output, output}
-use Rattle.walking.specs.Flags.{flagAll}
+use Rattle.walking.specs.bridge.Walk.{Output, output}
+use Rattle.walking.specs.bridge.Flags.{flagAll}
 use Rattle.passing.specs.declared.line.Place.{Place}
-use Rattle.passing.specs.Pass.{State, Result, went, fault, pass}
-use Rattle.passing.specs.Says.{Says}
-use Rattle.passing.specs.Code.{standing, told, reached}
+use Rattle.passing.specs.bridge.Pass.{State, Result, went, fault, pass}
+use Rattle.passing.specs.bridge.Says.{Says}
+use Rattle.passing.specs.bridge.Code.{standing, told, reached}
 use Rattle.passing.proofs.Readers.{pass-reads}
 use Rattle.passing.proofs.Theorem.{is-went, went-is, pass-tree}
 

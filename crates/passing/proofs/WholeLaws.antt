@@ -10,17 +10,17 @@ use borrow.Author.Tests.{lt-ltb, le-ltb}
 use Rattle.text.specs.Text.{Bytes, Line, linesOf, linesFrom, split, part}
 use Rattle.text.proofs.Places.{lines-start, lines-end, lines-open, lines-next}
 use Rattle.algebra.specs.Reader.{malformed, overBound}
-use Rattle.algebra.specs.Table.{patterns}
+use Rattle.algebra.specs.bridge.Table.{patterns}
 use Rattle.algebra.specs.Valid.{different}
-use Rattle.names.specs.Names.{listing}
+use Rattle.names.specs.bridge.Names.{listing}
 use Rattle.names.proofs.Laws.{holds-none}
-use Rattle.scoping.specs.Places.{Mark}
-use Rattle.walking.specs.Walk.{output}
-use Rattle.walking.specs.Code.{LineEnd, markAt}
+use Rattle.scoping.specs.bridge.Places.{Mark}
+use Rattle.walking.specs.bridge.Walk.{output}
+use Rattle.walking.specs.bridge.Code.{LineEnd, markAt}
 use Rattle.passing.specs.declared.line.Place.{Place}
 use Rattle.passing.specs.declared.line.Lined.{Lined}
-use Rattle.passing.specs.Pass.{State, state, Result, went, fault, finished, ending, passText, pass, passQuery, tree, query}
-use Rattle.passing.specs.Code.{Kept, standing, told, reached, LineIs}
+use Rattle.passing.specs.bridge.Pass.{State, state, Result, went, fault, finished, ending, passText, pass, passQuery, tree, query}
+use Rattle.passing.specs.bridge.Code.{Kept, standing, told, reached, LineIs}
 
 pub kept-none : (s a l h : List ℕ) → length a ≡ 1024 → length l ≡ 1024 → length h ≡ 4096 → Kept s a l h 0
 unfolding listing different

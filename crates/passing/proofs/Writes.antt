@@ -10,14 +10,14 @@ use lib.Dec.{eqb}
 use Rattle.text.specs.Text.{Bytes, Line}
 use Rattle.algebra.specs.Tally.{notes}
 use Rattle.algebra.specs.Reader.{Refusal, malformed, overBound}
-use Rattle.algebra.specs.Table.{Slot, Sort, triples, columns, patterns, expressions, rows, orders, aggregates, heads, sets, positions, valueRows, parts, Below, Row, rowsOf, rowFor, one as oneOf, _of_}
-use Rattle.algebra.specs.Machine.{amountOf}
-use Rattle.lines.specs.Line.{Fields, takeLine, columnsOf}
-use Rattle.scoping.specs.Places.{Mark, silent, under}
-use Rattle.walking.specs.Walk.{Output, rowOr, hides, putLine}
-use Rattle.walking.specs.Walk as W
-use Rattle.passing.specs.Pass.{State, Result, went, fault, onward, Going, fitting, times, inner, behind, taken, known, lineThen, part, child, beneath, tree}
-use Rattle.passing.specs.Code.{Mild}
+use Rattle.algebra.specs.bridge.Table.{Slot, Sort, triples, columns, patterns, expressions, rows, orders, aggregates, heads, sets, positions, valueRows, parts, Below, Row, rowsOf, rowFor, one as oneOf, _of_}
+use Rattle.algebra.specs.bridge.Machine.{amountOf}
+use Rattle.lines.specs.bridge.Line.{Fields, takeLine, columnsOf}
+use Rattle.scoping.specs.bridge.Places.{Mark, silent, under}
+use Rattle.walking.specs.bridge.Walk.{Output, rowOr, hides, putLine}
+use Rattle.walking.specs.bridge.Walk as W
+use Rattle.passing.specs.bridge.Pass.{State, Result, went, fault, onward, Going, fitting, times, inner, behind, taken, known, lineThen, part, child, beneath, tree}
+use Rattle.passing.specs.bridge.Code.{Mild}
 use Rattle.passing.proofs.Rows.{Every, row-every, Inner, Upper, plain-mild, low, amounts, lows, lows-first, triples-inner, columns-inner, rows-inner, orders-inner, aggregates-inner, patterns-upper, expressions-upper}
 use Rattle.passing.proofs.Extend.{Extends, extends-same, extends-on, notes-on, notes-hold}
 use Rattle.passing.proofs.Held.{Agree, line-alike, line-held, saidIn, line-amount}

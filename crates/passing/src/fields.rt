@@ -9,16 +9,16 @@ ghost use mathlib.Core.Path.{_≡_};
 ghost use Prim.Native.Nat.{ℕ, _+_, _-_, _≤_, _<_};
 ghost use mathlib.Core.List.{List, [], _∷_};
 ghost use lib.ListN.{length};
-ghost use Rattle.text.specs.Code.{kindAt};
+ghost use Rattle.text.specs.bridge.Code.{kindAt};
 ghost use Rattle.algebra.specs.Tally.{notes};
-ghost use Rattle.words.specs.Code.{tailOf, rowOf};
-ghost use Rattle.names.specs.Names.{Holds};
-ghost use Rattle.lines.specs.Line.{takeTimes, takeTail, takeLine, columnsOf};
-ghost use Rattle.lines.specs.Says.{Says};
-ghost use Rattle.lines.specs.Steps.{InLine, leftAt, Follows, restIn, termsIn, oneSlot};
+ghost use Rattle.words.specs.bridge.Code.{tailOf, rowOf};
+ghost use Rattle.names.specs.bridge.Names.{Holds};
+ghost use Rattle.lines.specs.bridge.Line.{takeTimes, takeTail, takeLine, columnsOf};
+ghost use Rattle.lines.specs.bridge.Says.{Says};
+ghost use Rattle.lines.specs.bridge.Steps.{InLine, leftAt, Follows, restIn, termsIn, oneSlot};
 ghost use Rattle.scoping.specs.Sets.{Once};
-ghost use Rattle.walking.specs.Code.{markAt};
-ghost use Rattle.passing.specs.Code.{aims, Mild, Even, Behind, pending, Wrote};
+ghost use Rattle.walking.specs.bridge.Code.{markAt};
+ghost use Rattle.passing.specs.bridge.Code.{aims, Mild, Even, Behind, pending, Wrote};
 
 // The cursor behind several fields, and the pen.
 pub struct Timed {

@@ -13,11 +13,11 @@ ghost use mathlib.Core.Bool.{not};
 ghost use lib.ListN.{length, getD};
 ghost use Rattle.text.specs.Text.{part, piece as pieceOf};
 ghost use Rattle.algebra.specs.Tally.{notes};
-ghost use Rattle.names.specs.Names.{Holds, kept as keptIn};
+ghost use Rattle.names.specs.bridge.Names.{Holds, kept as keptIn};
 ghost use Rattle.scoping.specs.Sets.{Once, indexOf};
-ghost use Rattle.walking.specs.Walk.{output, writes, flagged, putField};
-ghost use Rattle.walking.specs.Code.{markAt};
-ghost use Rattle.passing.specs.Code.{aims};
+ghost use Rattle.walking.specs.bridge.Walk.{output, writes, flagged, putField};
+ghost use Rattle.walking.specs.bridge.Code.{markAt};
+ghost use Rattle.passing.specs.bridge.Code.{aims};
 
 pub struct Entry {
     pub k: usize,

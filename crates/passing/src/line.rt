@@ -14,12 +14,12 @@ ghost use Prim.Native.Nat.{ℕ, _+_, _≤_, _<_};
 ghost use mathlib.Core.Option.{some};
 ghost use lib.ListN.{length};
 ghost use Rattle.text.specs.Text.{part, First};
-ghost use Rattle.algebra.specs.Table.{rowFor};
+ghost use Rattle.algebra.specs.bridge.Table.{rowFor};
 ghost use Rattle.words.specs.declared.Found.the-variants.{Is};
-ghost use Rattle.words.specs.Code.{sortAt, rowOf, Tidy};
-ghost use Rattle.walking.specs.Walk.{hides};
-ghost use Rattle.passing.specs.Pass.{fitting};
-ghost use Rattle.passing.specs.Code.{aims, Mild, Kept, standing, LineIs};
+ghost use Rattle.words.specs.bridge.Code.{sortAt, rowOf, Tidy};
+ghost use Rattle.walking.specs.bridge.Walk.{hides};
+ghost use Rattle.passing.specs.bridge.Pass.{fitting};
+ghost use Rattle.passing.specs.bridge.Code.{aims, Mild, Kept, standing, LineIs};
 
 // Where text and output go on, how many names and lines there were; and the fault that ended the pass, 0 for none.
 pub struct Place {

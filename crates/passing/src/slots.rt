@@ -10,16 +10,16 @@ use words::Row;
 ghost use mathlib.Core.Path.{_≡_};
 ghost use Prim.Native.Nat.{ℕ, _+_, _-_, _≤_, _<_};
 ghost use mathlib.Core.List.{List, [], _∷_};
-ghost use Rattle.text.specs.Code.{kindAt};
+ghost use Rattle.text.specs.bridge.Code.{kindAt};
 ghost use Rattle.algebra.specs.Tally.{notes};
-ghost use Rattle.algebra.specs.Table.{Slot};
-ghost use Rattle.words.specs.Code.{rowOf};
-ghost use Rattle.names.specs.Names.{Holds};
-ghost use Rattle.lines.specs.Line.{takeField, takeSlots};
-ghost use Rattle.lines.specs.Steps.{InLine, leftAt, Follows, restOf, termsOf, termsIn, numberTaken, oneSlot, TookSlots};
+ghost use Rattle.algebra.specs.bridge.Table.{Slot};
+ghost use Rattle.words.specs.bridge.Code.{rowOf};
+ghost use Rattle.names.specs.bridge.Names.{Holds};
+ghost use Rattle.lines.specs.bridge.Line.{takeField, takeSlots};
+ghost use Rattle.lines.specs.bridge.Steps.{InLine, leftAt, Follows, restOf, termsOf, termsIn, numberTaken, oneSlot, TookSlots};
 ghost use Rattle.scoping.specs.Sets.{Once};
-ghost use Rattle.walking.specs.Code.{markAt};
-ghost use Rattle.passing.specs.Code.{aims, Judges, Behind, pending, Wrote};
+ghost use Rattle.walking.specs.bridge.Code.{markAt};
+ghost use Rattle.passing.specs.bridge.Code.{aims, Judges, Behind, pending, Wrote};
 
 // Whether a field is what it should be, and the number that it is.
 pub struct Judged {

@@ -8,12 +8,12 @@ ghost use Prim.Native.Nat.{ℕ, _≤_, _<_};
 ghost use mathlib.Core.List.{[], _∷_};
 ghost use mathlib.Core.Bool.{cond, _&&_};
 ghost use lib.ListN.{length};
-ghost use Rattle.algebra.specs.Table.{patterns, expressions};
-ghost use Rattle.scoping.specs.Places.{silent, under as underMark};
-ghost use Rattle.words.specs.Code.{sortAt, rowOf};
-ghost use Rattle.walking.specs.Code.{markAt};
-ghost use Rattle.passing.specs.Pass.{times as timesOf, child, beneath, tree};
-ghost use Rattle.passing.specs.Code.{aims, Kept, standing, reached};
+ghost use Rattle.algebra.specs.bridge.Table.{patterns, expressions};
+ghost use Rattle.scoping.specs.bridge.Places.{silent, under as underMark};
+ghost use Rattle.words.specs.bridge.Code.{sortAt, rowOf};
+ghost use Rattle.walking.specs.bridge.Code.{markAt};
+ghost use Rattle.passing.specs.bridge.Pass.{times as timesOf, child, beneath, tree};
+ghost use Rattle.passing.specs.bridge.Code.{aims, Kept, standing, reached};
 
 // rename_in_graph_pattern: the pattern that starts here, and all that is below it.
 pub fn rename_in_graph_pattern(

@@ -7,10 +7,10 @@ ghost use mathlib.Core.Path.{_≡_};
 ghost use Prim.Native.Nat.{ℕ, _≤_};
 ghost use mathlib.Core.List.{List};
 ghost use lib.ListN.{length};
-ghost use Rattle.walking.specs.Walk.{output};
-ghost use Rattle.walking.specs.Code.{markAt};
-ghost use Rattle.passing.specs.Pass.{ending, pass, passQuery};
-ghost use Rattle.passing.specs.Code.{aims, reached};
+ghost use Rattle.walking.specs.bridge.Walk.{output};
+ghost use Rattle.walking.specs.bridge.Code.{markAt};
+ghost use Rattle.passing.specs.bridge.Pass.{ending, pass, passQuery};
+ghost use Rattle.passing.specs.bridge.Code.{aims, reached};
 
 fn ended(p: Place, fault: u8) -> Place
     ensures { λ r. ⌜ r .fault ≡ fault ⌝ }

@@ -12,20 +12,20 @@ use lib.Seq.{drop-cons}
 use Rattle.text.specs.Text.{Bytes, Line, same, ended, textOf, split, part, linesFrom}
 use Rattle.text.proofs.Texts.{Ended, glue-split, ended-glue}
 use Rattle.text.proofs.Places.{lines-next, lines-open, lines-end}
-use Rattle.algebra.specs.Table.{Sort, parts, Below, Row, Entry, sorts, rowsOf, entriesOf, table, rowIn, rowFor}
+use Rattle.algebra.specs.bridge.Table.{Sort, parts, Below, Row, Entry, sorts, rowsOf, entriesOf, table, rowIn, rowFor}
 use Rattle.words.specs.declared.Row.{Row as Code}
 use Rattle.words.specs.declared.Found.{Found}
 use Rattle.words.specs.declared.Found.the-variants.{Is, None}
-use Rattle.words.specs.Code.{sortAt, groupOf, rowOf, rowFound, noCode, Tidy}
-use Rattle.cursor.specs.Cursor.{left}
+use Rattle.words.specs.bridge.Code.{sortAt, groupOf, rowOf, rowFound, noCode, Tidy}
+use Rattle.cursor.specs.bridge.Cursor.{left}
 use Rattle.parted.proofs.Laws.{part-join, part-line}
-use Rattle.lines.specs.Below.{amountIn}
-use Rattle.walking.specs.Walk.{rowOr, numberIn}
-use Rattle.walking.specs.Code.{LineEnd}
+use Rattle.lines.specs.bridge.Below.{amountIn}
+use Rattle.walking.specs.bridge.Walk.{rowOr, numberIn}
+use Rattle.walking.specs.bridge.Code.{LineEnd}
 use Rattle.walking.proofs.Laws.{tidy-is}
-use Rattle.filtering.specs.Copying.{plus, amounts, below, toCome, copying}
+use Rattle.filtering.specs.bridge.Copying.{plus, amounts, below, toCome, copying}
 use Rattle.filtering.proofs.Copying.{plus-is}
-use Rattle.placing.specs.Ends.{Small, EndsAt}
+use Rattle.placing.specs.bridge.Ends.{Small, EndsAt}
 
 -- ---- the row of a word
 

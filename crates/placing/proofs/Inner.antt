@@ -16,15 +16,15 @@ use Rattle.algebra.specs.Valid.{Valid}
 use Rattle.merging.specs.Request.{Projection}
 use Rattle.merging.specs.Negate.{modifyOutermostProjection}
 use Rattle.negating.specs.Projections.{outermostProjection}
-use Rattle.negating.specs.Lines.{fromProject, Projects}
+use Rattle.negating.specs.bridge.Lines.{fromProject, Projects}
 use Rattle.negating.proofs.Found.{Outermost, here, under-distinct, under-reduced, under-slice, under-orderby, under-group}
 use Rattle.negating.proofs.TreeLines.{downTo, behind, tree-lines}
 use Rattle.negating.proofs.Placed.{Placed, placed, not-placed, ended-behind, inner-text, modified-text}
-use Rattle.filtering.specs.Copying.{copying}
+use Rattle.filtering.specs.bridge.Copying.{copying}
 use Rattle.filtering.proofs.Copying.{tree-copy}
 use Rattle.filtering.proofs.Read.{tree-at, tree-valid, tree-ended, columns-few}
-use Rattle.placing.specs.Fields.{columnsOn}
-use Rattle.placing.specs.Ends.{EndsAt}
+use Rattle.placing.specs.bridge.Fields.{columnsOn}
+use Rattle.placing.specs.bridge.Ends.{EndsAt}
 
 pub cancel : (a b c : Bytes) → a ++ b ≡ a ++ c → b ≡ c
 cancel a b c e = sym (drop-append-seam a b) ∙ ap (drop (length a)) e ∙ drop-append-seam a c

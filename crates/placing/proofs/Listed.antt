@@ -9,15 +9,15 @@ use lib.ListN.{length, getD, set, drop, List·getD-eq-default}
 use lib.Seq.{getD-set-same}
 use Rattle.text.specs.Text.{Bytes, Line, part, piece, linesFrom, First}
 use Rattle.text.proofs.Places.{lines-next}
-use Rattle.names.specs.Names.{listing}
+use Rattle.names.specs.bridge.Names.{listing}
 use Rattle.names.proofs.Laws.{listing-below, listing-long}
-use Rattle.cursor.specs.Cursor.{left}
+use Rattle.cursor.specs.bridge.Cursor.{left}
 use Rattle.cursor.proofs.Laws.{left-none}
-use Rattle.walking.specs.Code.{LineEnd}
+use Rattle.walking.specs.bridge.Code.{LineEnd}
 use Rattle.walking.proofs.Lines.{nothing-here}
 use Rattle.walking.proofs.Laws.{listing-at, line-split}
 use Rattle.placing.specs.declared.field.Field.{Field}
-use Rattle.placing.specs.Fields.{FieldIs, columnsOn}
+use Rattle.placing.specs.bridge.Fields.{FieldIs, columnsOn}
 
 pub columns-start : (s : Bytes) (a l : List ℕ) (cs : List Bytes) → listing s a l 0 ++ cs ≡ cs
 unfolding listing

@@ -7,13 +7,13 @@ use native.Mathlib.Omega.{arith}
 use lib.ListN.{length}
 use Rattle.text.specs.Text.{Bytes, First}
 use Rattle.text.specs.Field.{numberOf}
-use Rattle.text.specs.Code.{numberIn}
+use Rattle.text.specs.bridge.Code.{numberIn}
 use Rattle.text.specs.declared.Number.{Number}
 use Rattle.text.specs.declared.Number.the-variants.{Is, Not}
 use Rattle.cursor.proofs.Laws.{left-none, left-next}
-use Rattle.walking.specs.Walk as W
+use Rattle.walking.specs.bridge.Walk as W
 use Rattle.merging.specs.Request.{orZero, position}
-use Rattle.placing.specs.Fields.{FieldIs}
+use Rattle.placing.specs.bridge.Fields.{FieldIs}
 
 pub field-none : (s : Bytes) (at end : ℕ) → end < at → at ≤ end + 1 → FieldIs s at end (record { to = at; next = at })
 field-none s at end h k =

@@ -6,9 +6,9 @@ use mathlib.Core.List.{List, [], _∷_, _++_}
 use native.Mathlib.Omega.{arith}
 use borrow.Author.Tests.{not-true, not-false}
 use Rattle.text.specs.Text.{Bytes, Line, ended, textOf}
-use Rattle.emit.specs.Emit.{Em, puts}
+use Rattle.emit.specs.bridge.Emit.{Em, puts}
 use Rattle.emit.proofs.Laws.{puts-append, puts-nil}
-use Rattle.filtering.specs.SetLines.{repeated}
+use Rattle.filtering.specs.bridge.SetLines.{repeated}
 
 pub both-true : (a b : Bool) → not a ≡ false → b ≡ (a && b)
 both-true a b h = rw (not-false a h)

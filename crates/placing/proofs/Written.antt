@@ -6,10 +6,10 @@ use mathlib.Core.List.{[], _∷_, _++_, append-assoc}
 use borrow.Author.Tests.{eq-eqb, ne-eqb}
 use Rattle.text.specs.Text.{Bytes, same}
 use Rattle.text.specs.Word.{bytes}
-use Rattle.emit.specs.Emit.{Em, puts}
+use Rattle.emit.specs.bridge.Emit.{Em, puts}
 use Rattle.emit.proofs.Laws.{puts-append}
 use Rattle.filtering.specs.Values.{simple, named}
-use Rattle.filtering.specs.Terms.{formOf, termOf}
+use Rattle.filtering.specs.bridge.Terms.{formOf, termOf}
 
 -- a lexical form between two bytes
 pub between-put : (a : ℕ) (l : Bytes) (b : ℕ) (e x y z : Em) → x ≡ puts (a ∷ []) e → y ≡ puts l x → z ≡ puts (b ∷ []) y → z ≡ puts (a ∷ (l ++ (b ∷ []))) e

@@ -8,8 +8,8 @@ ghost use mathlib.Core.Path.{_≡_};
 ghost use Prim.Native.Nat.{_≤_};
 ghost use mathlib.Core.List.{[]};
 ghost use lib.ListN.{length, getD};
-ghost use Rattle.names.specs.Names.{listing};
-ghost use Rattle.placing.specs.Fields.{columnsOn};
+ghost use Rattle.names.specs.bridge.Names.{listing};
+ghost use Rattle.placing.specs.bridge.Fields.{columnsOn};
 
 // Notes where each column of the projection's line stands, and says how many there are.
 pub fn read_columns(

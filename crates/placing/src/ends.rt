@@ -10,11 +10,11 @@ ghost use mathlib.Core.Path.{_≡_};
 ghost use Prim.Native.Nat.{_+_, _≤_, _<_};
 ghost use lib.ListN.{length};
 ghost use Rattle.text.specs.Text.{part, split, linesFrom};
-ghost use Rattle.algebra.specs.Table.{table, rowIn};
-ghost use Rattle.walking.specs.Walk.{rowOr};
-ghost use Rattle.words.specs.Code.{rowOf};
-ghost use Rattle.filtering.specs.Copying.{toCome};
-ghost use Rattle.placing.specs.Ends.{Small, EndsAt};
+ghost use Rattle.algebra.specs.bridge.Table.{table, rowIn};
+ghost use Rattle.walking.specs.bridge.Walk.{rowOr};
+ghost use Rattle.words.specs.bridge.Code.{rowOf};
+ghost use Rattle.filtering.specs.bridge.Copying.{toCome};
+ghost use Rattle.placing.specs.bridge.Ends.{Small, EndsAt};
 
 // The row of a word, whatever its sort; one without lines below where it is none.
 fn row_of(word: &[u8]) -> Row

@@ -6,7 +6,7 @@ ghost use mathlib.Core.Path.{_≡_};
 ghost use Prim.Native.Nat.{_+_, _≤_, _<_};
 ghost use lib.ListN.{length};
 ghost use Rattle.merging.specs.Request.{position};
-ghost use Rattle.placing.specs.Fields.{FieldIs};
+ghost use Rattle.placing.specs.bridge.Fields.{FieldIs};
 
 // Where a field ends, and where the next one starts.
 pub struct Field {

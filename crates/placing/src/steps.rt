@@ -5,8 +5,8 @@ ghost use mathlib.Core.Path.{_≡_};
 ghost use mathlib.Core.Bool.{_&&_};
 ghost use mathlib.Core.List.{[]};
 ghost use Rattle.text.specs.Text.{textOf};
-ghost use Rattle.emit.specs.Emit.{em, puts};
-ghost use Rattle.filtering.specs.SetLines.{repeated};
+ghost use Rattle.emit.specs.bridge.Emit.{em, puts};
+ghost use Rattle.filtering.specs.bridge.SetLines.{repeated};
 
 pub fn both(a: bool, b: bool) -> bool
     ensures { λ r. ⌜ r ≡ (a && b) ⌝ }

@@ -4,8 +4,8 @@ use emit::put_all;
 use text::equal;
 ghost use mathlib.Core.Path.{_≡_};
 ghost use mathlib.Core.List.{[], _∷_, _++_};
-ghost use Rattle.emit.specs.Emit.{em, puts};
-ghost use Rattle.filtering.specs.Terms.{formOf, termOf};
+ghost use Rattle.emit.specs.bridge.Emit.{em, puts};
+ghost use Rattle.filtering.specs.bridge.Terms.{formOf, termOf};
 
 const PLAIN_STRING: [u8; 11] = *b"PlainString";
 

@@ -13,8 +13,8 @@ use Rattle.algebra.specs.Valid.{mem}
 use Rattle.scoping.specs.Sets.{all, any, keep}
 use Rattle.scoping.proofs.Sets.{and-none}
 use Rattle.merging.specs.Names.{from, isAt}
-use Rattle.sides.specs.Columns.{picked}
-use Rattle.sides.specs.Side.{maskAt}
+use Rattle.sides.specs.bridge.Columns.{picked}
+use Rattle.sides.specs.bridge.Side.{maskAt}
 use Rattle.projects.proofs.Picks.{picked-positions}
 
 -- a number is among those of a list

@@ -20,21 +20,21 @@ use Rattle.algebra.specs.declared.Answer.the-variants.{Good}
 use Rattle.algebra.proofs.Neat.{neat, pairs-neat}
 use Rattle.algebra.proofs.Theorem.{tree-exactly, query-exactly, pairs-exactly}
 use Rattle.algebra.proofs.Grow.{In, Counts, counts, in-bounds, grow}
-use Rattle.reading.specs.Variables.{treeNames, queryNames}
+use Rattle.reading.specs.bridge.Variables.{treeNames, queryNames}
 use Rattle.reading.proofs.Said.{said-good}
-use Rattle.names.specs.Names.{Holds}
-use Rattle.names.specs.Checked.{Checked}
-use Rattle.lists.specs.Pairs.{keysOf}
+use Rattle.names.specs.bridge.Names.{Holds}
+use Rattle.names.specs.bridge.Checked.{Checked}
+use Rattle.lists.specs.bridge.Pairs.{keysOf}
 use Rattle.scoping.specs.Premises.{differentPositions}
 use Rattle.scoping.specs.Numbering.{byPlace}
 use Rattle.scoping.proofs.FirstPlaces.{by-place-query}
 use Rattle.merging.specs.Request.{Projection, tree, made, readJoins, readConstants, joinPositions, byPosition, constantsIn}
 use Rattle.merging.proofs.Lists.{positions-different}
-use Rattle.heads.specs.Known.{Known, KnownQuery}
-use Rattle.heads.specs.TreeAt.{TreeAt}
+use Rattle.heads.specs.bridge.Known.{Known, KnownQuery}
+use Rattle.heads.specs.bridge.TreeAt.{TreeAt}
 use Rattle.heads.proofs.Queries.{query-valid, query-depth, query-names}
-use Rattle.sides.specs.Listed.{Listed, positionsIn}
-use Rattle.projects.specs.Joining.{Stands, Terms, KnownTerms}
+use Rattle.sides.specs.bridge.Listed.{Listed, positionsIn}
+use Rattle.projects.specs.bridge.Joining.{Stands, Terms, KnownTerms}
 use Rattle.projects.proofs.Picks.{positions-are}
 
 -- ---- trees

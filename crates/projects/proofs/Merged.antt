@@ -22,9 +22,9 @@ use Rattle.merging.specs.Request.{Projection, position, joinPositions, byPositi
 use Rattle.merging.specs.Merge.{mergeProjectPatterns}
 use Rattle.merging.proofs.Lines.{merge-lines}
 use Rattle.merging.proofs.Lists.{map-length}
-use Rattle.sides.specs.Columns.{columnsIn, maskOf, picked, goneBits}
-use Rattle.sides.specs.Listed.{positionsIn}
-use Rattle.sides.specs.Side.{maskAt, newNames, SideIs}
+use Rattle.sides.specs.bridge.Columns.{columnsIn, maskOf, picked, goneBits}
+use Rattle.sides.specs.bridge.Listed.{positionsIn}
+use Rattle.sides.specs.bridge.Side.{maskAt, newNames, SideIs}
 use Rattle.sides.specs.declared.side.Side.{Side as FoundSide}
 use Rattle.sides.proofs.Masks.{mask-ones, countOf}
 use Rattle.projects.proofs.Picks.{picked-gone, picked-count}

@@ -1,4 +1,4 @@
--- The ways out of the calls that join: refusals in document 01's order, and what is written. Assumes nothing.
+-- The ways out of the calls that join: refusals in the specification's order, and what is written. Assumes nothing.
 use Prim.Native.Nat.{ℕ, _≤_, _<_}
 use mathlib.Core.Path.{_≡_, refl, sym, ap, ap₂, subst, _∙_}
 use mathlib.Core.List.{List, [], _∷_, _++_, map}
@@ -20,8 +20,8 @@ use Rattle.algebra.specs.declared.Answer.the-variants as C
 use Rattle.answers.specs.Outcome.{Outcome, refused, written, Reported, Answered, orRefused, refusedUnless}
 use Rattle.answers.specs.declared.Answer.{Answer}
 use Rattle.answers.specs.declared.Answer.the-variants.{Outside, NotProject}
-use Rattle.names.specs.Checked.{Checked}
-use Rattle.lists.specs.Pairs.{keysOf}
+use Rattle.names.specs.bridge.Checked.{Checked}
+use Rattle.lists.specs.bridge.Pairs.{keysOf}
 use Rattle.reading.proofs.Said.{said-malformed, said-over}
 use Rattle.scoping.specs.Sets.{all}
 use Rattle.scoping.specs.Premises.{inside}
@@ -32,8 +32,8 @@ use Rattle.merging.specs.Push.{pushConstantsInProjectPattern}
 use Rattle.merging.proofs.Given.{project-of}
 use Rattle.merging.proofs.Lines.{root-word}
 use Rattle.merging.proofs.Lists.{sorted-test}
-use Rattle.sides.specs.Listed.{positionsIn}
-use Rattle.projects.specs.Joining.{KnownTerms, ListsRead, bothTerms, TermsChecked, ListsChecked, pushedBehind, mergedBehind, joinedBehind}
+use Rattle.sides.specs.bridge.Listed.{positionsIn}
+use Rattle.projects.specs.bridge.Joining.{KnownTerms, ListsRead, bothTerms, TermsChecked, ListsChecked, pushedBehind, mergedBehind, joinedBehind}
 use Rattle.projects.proofs.Picks.{positions-are}
 use Rattle.projects.proofs.Merged.{lefts-are, rights-are}
 use Rattle.projects.proofs.Known.{good-terms, KnownJoins, good-joins}

@@ -9,17 +9,17 @@ use Rattle.text.specs.Text.{Bytes, Line, textOf, linesFrom}
 use Rattle.text.specs.Word.{bytes}
 use Rattle.algebra.specs.Query.{Pair}
 use Rattle.algebra.specs.Layout.{put, layout}
-use Rattle.emit.specs.Emit.{Em, puts}
-use Rattle.names.specs.Names.{listing}
+use Rattle.emit.specs.bridge.Emit.{Em, puts}
+use Rattle.names.specs.bridge.Names.{listing}
 use Rattle.scoping.specs.Label.{prefixL, prefixR}
 use Rattle.scoping.specs.Premises.{inside}
 use Rattle.scoping.specs.Rename.{renameInGraphPattern}
 use Rattle.merging.specs.Request.{Projection, tree}
-use Rattle.sides.specs.Columns.{columnsIn, maskOf, picked, goneBits}
-use Rattle.sides.specs.Listed.{positionsIn, Kept, termsFrom}
-use Rattle.sides.specs.Side.{TreeIn, Renames, SideIs, joinLine, valuesLines}
+use Rattle.sides.specs.bridge.Columns.{columnsIn, maskOf, picked, goneBits}
+use Rattle.sides.specs.bridge.Listed.{positionsIn, Kept, termsFrom}
+use Rattle.sides.specs.bridge.Side.{TreeIn, Renames, SideIs, joinLine, valuesLines}
 use Rattle.sides.specs.declared.side.Side.{Side}
-use Rattle.projects.specs.Joining.{Stands, Lists}
+use Rattle.projects.specs.bridge.Joining.{Stands, Lists}
 use Rattle.projects.proofs.SideLines.{side-is}
 use Rattle.projects.proofs.Merged.{merged-lines}
 use Rattle.projects.proofs.Whole.{pass-two, merged}

@@ -21,9 +21,9 @@ use Rattle.merging.specs.Names.{from, isAt, placeIn}
 use Rattle.merging.proofs.Lists.{sorted-any}
 use Rattle.merging.proofs.MergedColumns.{at-sym}
 use Rattle.merging.proofs.Rising.{termAt, constantAt, rising}
-use Rattle.sides.specs.Columns.{bitOf, maskOf, picked, goneBits}
-use Rattle.sides.specs.Listed.{positionsIn, secondOf, termsFrom}
-use Rattle.sides.specs.Side.{maskAt}
+use Rattle.sides.specs.bridge.Columns.{bitOf, maskOf, picked, goneBits}
+use Rattle.sides.specs.bridge.Listed.{positionsIn, secondOf, termsFrom}
+use Rattle.sides.specs.bridge.Side.{maskAt}
 use Rattle.sides.proofs.Masks.{mask-low, mask-high, mask-ones, countOf, count-few}
 
 -- ---- one bit at a time

@@ -9,17 +9,17 @@ use Rattle.text.specs.Word.{bytes}
 use Rattle.algebra.specs.Tree.{Pattern}
 use Rattle.algebra.specs.Query.{Pair}
 use Rattle.algebra.specs.Layout.{put, layout}
-use Rattle.emit.specs.Emit.{Em, em, puts}
+use Rattle.emit.specs.bridge.Emit.{Em, em, puts}
 use Rattle.emit.proofs.Laws.{puts-append, puts-nil}
-use Rattle.walking.specs.Walk.{tabbed}
+use Rattle.walking.specs.bridge.Walk.{tabbed}
 use Rattle.walking.proofs.Written.{puts-ended}
 use Rattle.merging.specs.Request.{Projection, tree}
 use Rattle.sides.specs.declared.side.Side.{Side}
 use Rattle.sides.specs.declared.side.Prepared.{Prepared}
 use Rattle.sides.specs.declared.side.Prepared.the-variants.{Outside, Ready}
 use Rattle.scoping.specs.Premises.{inside}
-use Rattle.sides.specs.Listed.{Listed, positionsIn}
-use Rattle.sides.specs.Side.{Asked, newNames, SideIs, PreparedIs}
+use Rattle.sides.specs.bridge.Listed.{Listed, positionsIn}
+use Rattle.sides.specs.bridge.Side.{Asked, newNames, SideIs, PreparedIs}
 use Rattle.text.specs.Text.{split, linesIn, linesOf}
 use native.Mathlib.Omega.{arith}
 use Rattle.algebra.specs.Layout.{putPairs}
@@ -35,8 +35,8 @@ use Rattle.merging.specs.Merge.{mergeProjectPatterns}
 use Rattle.merging.proofs.Lists.{map-length}
 use Rattle.merging.specs.Push.{onlySide, pushConstantsInProjectPattern}
 use Rattle.merging.proofs.Lines.{push-lines}
-use Rattle.sides.specs.Columns.{columnsIn, picked}
-use Rattle.projects.specs.Joining.{Stands, KnownTerms, pushedBehind}
+use Rattle.sides.specs.bridge.Columns.{columnsIn, picked}
+use Rattle.projects.specs.bridge.Joining.{Stands, KnownTerms, pushedBehind}
 use Rattle.projects.proofs.SideLines.{side, side-free}
 use Rattle.projects.proofs.Outcomes.{inside-sorted}
 

@@ -7,8 +7,8 @@ use Rattle.text.specs.Text.{Bytes}
 use Rattle.algebra.specs.Reader.{Outcome as Reading, reads, refuses, malformed, overBound}
 use Rattle.algebra.specs.declared.Answer.{Answer}
 use Rattle.algebra.specs.declared.Answer.the-variants.{Good, Malformed, OverBound}
-use Rattle.names.specs.Names.{Holds}
-use Rattle.names.specs.Checked.{Checked}
+use Rattle.names.specs.bridge.Names.{Holds}
+use Rattle.names.specs.bridge.Checked.{Checked}
 
 module _ {A : Type 0} (f : A → List Bytes) (s : Bytes) (a l h : List ℕ) (r : Answer) where
   -- a good text, with the table of its names

@@ -5,11 +5,11 @@ use mathlib.Core.List.{List}
 use Rattle.text.specs.Text.{Bytes}
 use Rattle.algebra.specs.Tally.{Tally, start}
 use Rattle.algebra.specs.Reader.{malformed, overBound, Outcome, reads, refuses}
-use Rattle.algebra.specs.Machine.{Check}
-use Rattle.algebra.specs.Verdict.{checked}
+use Rattle.algebra.specs.bridge.Machine.{Check}
+use Rattle.algebra.specs.bridge.Verdict.{checked}
 use Rattle.algebra.specs.declared.Answer.{Answer}
-use Rattle.names.specs.Checked.{Checked}
-use Rattle.lines.specs.Run.{Tells}
+use Rattle.names.specs.bridge.Checked.{Checked}
+use Rattle.lines.specs.bridge.Run.{Tells}
 
 -- what is told of the machine's check is what is promised of the reader's outcome
 pub told : {A : Type 0} (f : A → Tally → Tally) (s a b h : List ℕ) (r : Answer) (k : Check) (o : Outcome A) → k ≡ checked f o → Tells s a b h k r → Checked (λ x. f x start .names) s a b h o r

@@ -1,1 +1,1 @@
-pub mod Variables
+pub mod bridge

@@ -4,8 +4,8 @@ use lines::check::check_list;
 use lines::check::check_one;
 use names::clear;
 ghost use Rattle.algebra.specs.Texts.{readTree, readQuery, readSets, readFilters};
-ghost use Rattle.names.specs.Checked.{Checked};
-ghost use Rattle.reading.specs.Variables.{treeNames, queryNames, setNames, filterNames};
+ghost use Rattle.names.specs.bridge.Checked.{Checked};
+ghost use Rattle.reading.specs.bridge.Variables.{treeNames, queryNames, setNames, filterNames};
 
 // A tree: its number, and the table of its distinct variables by first place.
 pub fn check_tree(

@@ -11,13 +11,13 @@ use lib.Dec.{eqb}
 use borrow.Author.Tests.{ne-eqb}
 use Rattle.text.specs.Text.{Bytes, piece, ended, textOf}
 use Rattle.text.specs.Word.{bytes}
-use Rattle.names.specs.Names.{nameAt, listing}
+use Rattle.names.specs.bridge.Names.{nameAt, listing}
 use Rattle.names.proofs.Laws.{listing-long}
-use Rattle.emit.specs.Emit.{Em, em, puts}
+use Rattle.emit.specs.bridge.Emit.{Em, em, puts}
 use Rattle.emit.proofs.Laws.{puts-append}
 use Rattle.walking.proofs.Laws.{listing-at}
-use Rattle.walking.specs.Flags.{chosen}
-use Rattle.renaming.specs.Code.{chosenText, tabbed}
+use Rattle.walking.specs.bridge.Flags.{chosen}
+use Rattle.renaming.specs.bridge.Code.{chosenText, tabbed}
 
 -- ---- one name
 

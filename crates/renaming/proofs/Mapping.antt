@@ -12,7 +12,7 @@ use Rattle.algebra.specs.Layout.{putPairs}
 use Rattle.scoping.specs.Standardize.{Entry, entry, get, orSelf, renamed}
 use Rattle.scoping.proofs.Sets.{mem-append}
 use Rattle.renaming.specs.Rename.{becomes}
-use Rattle.renaming.specs.Code.{orOld, lookLast}
+use Rattle.renaming.specs.bridge.Code.{orOld, lookLast}
 
 -- a variable is not empty, so it is taken
 takes : (v d : Bytes) → Fits variable v → orOld v d ≡ v

@@ -14,33 +14,33 @@ use Rattle.algebra.specs.Valid.{mem, ValidPairs}
 use Rattle.algebra.specs.Layout.{putPairs, layout}
 use Rattle.algebra.specs.Bounded.{IsPairs, layoutPairs}
 use Rattle.algebra.specs.Tally.{bounds}
-use Rattle.algebra.specs.Table.{patterns}
+use Rattle.algebra.specs.bridge.Table.{patterns}
 use Rattle.algebra.specs.Reader.{reads, refuses, malformed, overBound}
 use Rattle.algebra.specs.Texts.{readTree, readPairs}
 use Rattle.algebra.specs.declared.Answer.{Answer as Check}
 use Rattle.algebra.specs.declared.Answer.the-variants.{Good}
 use Rattle.algebra.proofs.Neat.{pairs-neat}
 use Rattle.algebra.proofs.Theorem.{pairs-exactly}
-use Rattle.lists.specs.Pairs.{keysOf}
-use Rattle.emit.specs.Emit.{Em, em, last, puts}
-use Rattle.names.specs.Names.{listing}
-use Rattle.names.specs.Checked.{Checked}
+use Rattle.lists.specs.bridge.Pairs.{keysOf}
+use Rattle.emit.specs.bridge.Emit.{Em, em, last, puts}
+use Rattle.names.specs.bridge.Names.{listing}
+use Rattle.names.specs.bridge.Checked.{Checked}
 use Rattle.names.proofs.Laws.{listing-long}
-use Rattle.scoping.specs.Places.{visible, silent, places, namesOf}
+use Rattle.scoping.specs.bridge.Places.{visible, silent, places, namesOf}
 use Rattle.scoping.specs.Rename.{renameInGraphPattern}
 use Rattle.scoping.specs.Numbering.{byPlace}
 use Rattle.scoping.proofs.Index.{index-none}
 use Rattle.scoping.proofs.Named.{named}
 use Rattle.scoping.proofs.FirstPlaces.{by-place-mem}
-use Rattle.walking.specs.Walk.{State, state, output, tree}
-use Rattle.walking.specs.Code.{here, replacement, renames}
+use Rattle.walking.specs.bridge.Walk.{State, state, output, tree}
+use Rattle.walking.specs.bridge.Code.{here, replacement, renames}
 use Rattle.walking.proofs.Trees.{walk-tree}
 use Rattle.answers.specs.declared.Answer.{Answer}
 use Rattle.answers.specs.declared.Answer.the-variants.{Written, Malformed, OverBound, TooShort}
 use Rattle.answers.specs.Outcome.{Outcome, refused, written, Reported, Answered}
 use Rattle.renaming.specs.Rename.{becomes, renameOutcome}
-use Rattle.heads.specs.Known.{Known}
-use Rattle.renaming.specs.Code.{KnownPairs, Targets, lookLast}
+use Rattle.heads.specs.bridge.Known.{Known}
+use Rattle.renaming.specs.bridge.Code.{KnownPairs, Targets, lookLast}
 use Rattle.renaming.proofs.Tables.{known-valid, known-depth, known-names, known-lines}
 use Rattle.reading.proofs.Said.{said-good}
 use Rattle.scoping.proofs.Alike.{rename-alike}

@@ -12,17 +12,17 @@ use Rattle.algebra.specs.Tally.{bounds}
 use Rattle.algebra.proofs.Theorem.{tree-exactly}
 use Rattle.algebra.specs.Reader.{Outcome as Reading, reads, refuses, malformed, overBound, refusalNumber}
 use Rattle.algebra.specs.Texts.{readTree}
-use Rattle.names.specs.Names.{listing}
-use Rattle.scoping.specs.Places.{visible, places}
+use Rattle.names.specs.bridge.Names.{listing}
+use Rattle.scoping.specs.bridge.Places.{visible, places}
 use Rattle.scoping.specs.Numbering.{byPlace}
-use Rattle.walking.specs.Flags.{flagAll, chosen}
+use Rattle.walking.specs.bridge.Flags.{flagAll, chosen}
 use Rattle.answers.specs.declared.Answer.{Answer}
 use Rattle.answers.specs.declared.Answer.the-variants.{Written, Malformed, OverBound, TooShort}
 use Rattle.answers.specs.Outcome.{Outcome, refused, written, Reported, Answered}
 use Rattle.renaming.specs.Scope.{scopeText, scopeOutcome}
 use Rattle.passing.specs.declared.line.Place.{Place}
 use Rattle.passing.proofs.Told.{Good}
-use Rattle.renaming.specs.Code.{chosenText}
+use Rattle.renaming.specs.bridge.Code.{chosenText}
 use Rattle.walking.proofs.Chosen.{chosen-in-scope, chosen-hidden}
 use Rattle.answers.proofs.Answers.{answered}
 

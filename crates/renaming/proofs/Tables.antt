@@ -18,15 +18,15 @@ use Rattle.algebra.specs.declared.Answer.{Answer}
 use Rattle.algebra.specs.declared.Answer.the-variants.{Good}
 use Rattle.algebra.proofs.Neat.{neat}
 use Rattle.algebra.proofs.Theorem.{tree-exactly}
-use Rattle.reading.specs.Variables.{treeNames}
+use Rattle.reading.specs.bridge.Variables.{treeNames}
 use Rattle.reading.proofs.Said.{said-good}
-use Rattle.names.specs.Names.{listing, Hinted}
-use Rattle.names.specs.Checked.{Checked}
+use Rattle.names.specs.bridge.Names.{listing, Hinted}
+use Rattle.names.specs.bridge.Checked.{Checked}
 use Rattle.scoping.specs.Sets.{Once}
 use Rattle.scoping.specs.Numbering.{byPlace}
 use Rattle.scoping.proofs.FirstPlaces.{by-place-once}
-use Rattle.walking.specs.Code.{Named}
-use Rattle.heads.specs.Known.{Known}
+use Rattle.walking.specs.bridge.Code.{Named}
+use Rattle.heads.specs.bridge.Known.{Known}
 
 module _ (s : Bytes) (a l h : List ℕ) (n : ℕ) (k : Known s a l h n) where
   is-tree : IsTree bounds s (k .pattern)

@@ -15,14 +15,14 @@ use Rattle.text.proofs.Basics.{same-eq, same-refl, either-way}
 use Rattle.text.proofs.Texts.{glue, glue-split}
 use Rattle.text.proofs.Places.{lines-start, lines-end, lines-next}
 use Rattle.algebra.specs.Valid.{mem}
-use Rattle.cursor.specs.Cursor.{left}
+use Rattle.cursor.specs.bridge.Cursor.{left}
 use Rattle.cursor.proofs.Laws.{left-none, left-all}
 use Rattle.scoping.specs.Sets.{indexOf}
 use Rattle.scoping.proofs.Index.{same-place}
-use Rattle.walking.specs.Code.{replacement, LineEnd}
+use Rattle.walking.specs.bridge.Code.{replacement, LineEnd}
 use Rattle.walking.proofs.Laws.{line-split}
 use Rattle.walking.proofs.Lines.{nothing-here}
-use Rattle.renaming.specs.Code.{orOld, lookLast, Targets, Settled}
+use Rattle.renaming.specs.bridge.Code.{orOld, lookLast, Targets, Settled}
 
 -- ---- one line
 

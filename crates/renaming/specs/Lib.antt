@@ -1,3 +1,3 @@
 pub mod Scope
 pub mod Rename
-pub mod Code
+pub mod bridge

@@ -1,4 +1,4 @@
--- The call scope: document 01, "Scope writes a line `in` and a line `hid`, each with its set in numbering order". Assumes nothing.
+-- The call scope: docs/SPECIFICATION.md, "Operation by operation", scope. Assumes nothing.
 use mathlib.Core.List.{List, [], _∷_}
 use Rattle.text.specs.Text.{Bytes, textOf}
 use Rattle.text.specs.Word.{bytes}

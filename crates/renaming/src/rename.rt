@@ -14,13 +14,13 @@ ghost use Prim.Native.Nat.{ℕ, _+_, _≤_};
 ghost use mathlib.Core.Bool.{cond, true};
 ghost use lib.ListN.{length, getD};
 ghost use Rattle.text.specs.Text.{Bytes, same, part};
-ghost use Rattle.names.specs.Names.{listing};
+ghost use Rattle.names.specs.bridge.Names.{listing};
 ghost use Rattle.algebra.specs.Valid.{mem};
-ghost use Rattle.walking.specs.Code.{Named};
+ghost use Rattle.walking.specs.bridge.Code.{Named};
 ghost use Rattle.answers.specs.Outcome.{Answered};
 ghost use Rattle.renaming.specs.Rename.{renameOutcome};
-ghost use Rattle.heads.specs.Known.{Known};
-ghost use Rattle.renaming.specs.Code.{KnownPairs, Targets, Settled};
+ghost use Rattle.heads.specs.bridge.Known.{Known};
+ghost use Rattle.renaming.specs.bridge.Code.{KnownPairs, Targets, Settled};
 
 // A line of the mapping, whose fields end at `to` and `end`: the entry of its first name, if it is in the table, gets the second.
 fn set_target(

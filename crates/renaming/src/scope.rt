@@ -10,12 +10,12 @@ ghost use Prim.Native.Nat.{_≤_, _<_};
 ghost use mathlib.Core.List.{[], _∷_};
 ghost use mathlib.Core.Bool.{cond};
 ghost use lib.Dec.{eqb};
-ghost use Rattle.names.specs.Names.{listing, nameAt};
-ghost use Rattle.emit.specs.Emit.{em, puts};
+ghost use Rattle.names.specs.bridge.Names.{listing, nameAt};
+ghost use Rattle.emit.specs.bridge.Emit.{em, puts};
 ghost use Rattle.answers.specs.Outcome.{Answered, written};
 ghost use Rattle.renaming.specs.Scope.{scopeOutcome};
-ghost use Rattle.walking.specs.Flags.{chosen};
-ghost use Rattle.renaming.specs.Code.{chosenText, tabbed};
+ghost use Rattle.walking.specs.bridge.Flags.{chosen};
+ghost use Rattle.renaming.specs.bridge.Code.{chosenText, tabbed};
 
 // The names whose flags from `base` on are set, each after a tab.
 fn put_names(

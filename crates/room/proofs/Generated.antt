@@ -13,7 +13,7 @@ use Rattle.algebra.specs.Tree.{Pattern, project}
 use Rattle.scoping.specs.Label.{label, base, generated, prefixJ}
 use Rattle.scoping.specs.Standardize.{orSelf}
 use Rattle.scoping.specs.Numbering.{byPlace, numbered}
-use Rattle.scoping.specs.Pushes.{Push, aPush, lookup, contains, pushed, pushes, allPushes, newName}
+use Rattle.scoping.specs.bridge.Pushes.{Push, aPush, lookup, contains, pushed, pushes, allPushes, newName}
 use Rattle.scoping.specs.Premises.{columnsAt, sideName}
 use Rattle.scoping.proofs.Agree.{renamed-by-pushes}
 use Rattle.scoping.proofs.Theorem.{columns-length}

@@ -15,7 +15,7 @@ use Rattle.algebra.specs.Valid.{mem}
 use Rattle.algebra.proofs.Theorem.{tree-exactly}
 use Rattle.answers.specs.Outcome.{written}
 use Rattle.scoping.specs.Variables.{variablesInPattern}
-use Rattle.scoping.specs.Places.{Mark, visible, covered, silent, Place, Scope, counts, in-scope, hidden, namesAt, namesOf, places, visibleNames, hiddenNames}
+use Rattle.scoping.specs.bridge.Places.{Mark, visible, covered, silent, Place, Scope, counts, in-scope, hidden, namesAt, namesOf, places, visibleNames, hiddenNames}
 use Rattle.scoping.specs.Numbering.{byPlace, inScopeByPlace, hiddenByPlace}
 use Rattle.scoping.proofs.Sets.{mem-keep}
 use Rattle.scoping.proofs.Walked.{visible-in-scope, covered-hidden}

@@ -10,7 +10,7 @@ use Rattle.algebra.specs.Tree.{Triple, Pattern, bgp, path, join, union, minus, 
 use Rattle.algebra.specs.Tree.{Expression, term, bound, exists, apply, call, Condition, always, provided, Expressions, eend, econs, Orders, oend, ocons, Aggregates, aend, agg, aggall}
 use Rattle.algebra.specs.Layout.{putTriples, putRows, put, putE, putC, putEs, putOs, putAs}
 use Rattle.scoping.specs.Sets.{variablesOf, tripleVariables}
-use Rattle.scoping.specs.Places.{Mark, silent, under, Place, marked, places, placesE, placesC, placesEs, placesOs, placesAs, namesOf}
+use Rattle.scoping.specs.bridge.Places.{Mark, silent, under, Place, marked, places, placesE, placesC, placesEs, placesOs, placesAs, namesOf}
 use Rattle.scoping.proofs.FirstPlaces.{namesOf-append, namesOf-marked}
 use Rattle.room.proofs.Sizes.{width, width-append, size}
 use Rattle.room.proofs.Digits.{digits-some}

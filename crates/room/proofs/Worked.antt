@@ -1,4 +1,4 @@
--- Closed instances: the rooms of document 01's merges beside what is written, two answers that come as near as they can, and one size of buffer for all texts. Assumes nothing.
+-- Closed instances: the rooms of the specification's merges beside what is written, two answers that come as near as they can, and one size of buffer for all texts. Assumes nothing.
 use Prim.Native.Nat.{ℕ, _+_}
 use Prim.Native.String.{String}
 use mathlib.Core.Path.{_≡_, refl, ap}
@@ -32,7 +32,7 @@ lengthOf (written b) = length b
 abbrev size : String → ℕ
 size s = length (bytes s)
 
--- ---- document 01's merges, and more
+-- ---- the specification's merges, and more
 
 abbrev roomOf : Call → ℕ
 roomOf (mergePatterns a b c d e) = mergeRoom (size a) (size b) (size d) (size e)

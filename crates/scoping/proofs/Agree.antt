@@ -9,7 +9,7 @@ use Rattle.text.specs.Field.{given}
 use Rattle.text.proofs.Basics.{same-eq}
 use Rattle.scoping.specs.Label.{label, base, generated, prefixJ}
 use Rattle.scoping.specs.Standardize.{Entry, entry, get, insert, push, pushAll, standardizeVariables, orSelf, renamed}
-use Rattle.scoping.specs.Pushes.{Push, aPush, lookup, contains, pushed, pushes, allPushes, newName}
+use Rattle.scoping.specs.bridge.Pushes.{Push, aPush, lookup, contains, pushed, pushes, allPushes, newName}
 use Rattle.scoping.proofs.Sets.{eq-same}
 
 -- what a HashMap promises

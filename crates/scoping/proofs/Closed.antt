@@ -12,7 +12,7 @@ use Rattle.algebra.specs.Valid.{mem}
 use Rattle.scoping.specs.Sets.{indexOf}
 use Rattle.scoping.specs.Label.{isLabel, generated, prefixJ}
 use Rattle.scoping.specs.Standardize.{orSelf}
-use Rattle.scoping.specs.Pushes.{Push, aPush, lookup, contains, pushed, pushes, allPushes, newName}
+use Rattle.scoping.specs.bridge.Pushes.{Push, aPush, lookup, contains, pushed, pushes, allPushes, newName}
 use Rattle.scoping.proofs.Agree.{contains-given}
 use Rattle.scoping.proofs.Labels.{base-plain, lookup-plain}
 

@@ -13,7 +13,7 @@ use Rattle.algebra.specs.Tree.{Pattern, bgp, path, join, union, minus, leftjoin
 use Rattle.algebra.specs.Tree.{Expression, term, bound, exists, apply, call, Condition, always, provided, Expressions, eend, econs, Orders, oend, ocons, Aggregates, aend, agg, aggall}
 use Rattle.algebra.proofs.Lines.{names-different}
 use Rattle.scoping.specs.Sets.{Once, keep, variablesOf, tripleVariables}
-use Rattle.scoping.specs.Places.{Mark, visible, silent, Place, under, marked, places, placesE, placesC, placesEs, placesOs, placesAs, namesOf}
+use Rattle.scoping.specs.bridge.Places.{Mark, visible, silent, Place, under, marked, places, placesE, placesC, placesEs, placesOs, placesAs, namesOf}
 use Rattle.scoping.specs.Numbering.{byPlace}
 use Rattle.scoping.proofs.Sets.{mem-append}
 

@@ -10,7 +10,7 @@ use lib.Seq.{drop-append-seam}
 use borrow.Author.Tests.{le-leb}
 use Rattle.text.specs.Text.{Bytes, same}
 use Rattle.scoping.specs.Label.{label, isLabel, base, generated}
-use Rattle.scoping.specs.Pushes.{Push, lookup}
+use Rattle.scoping.specs.bridge.Pushes.{Push, lookup}
 use Rattle.scoping.proofs.Sets.{not-same}
 
 -- a name with "Label" behind it ends in "Label"

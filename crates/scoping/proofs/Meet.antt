@@ -9,7 +9,7 @@ use Rattle.text.specs.Text.{Bytes, same}
 use Rattle.algebra.specs.Valid.{mem}
 use Rattle.scoping.specs.Sets.{Once, indexOf}
 use Rattle.scoping.specs.Label.{generated, prefixJ, prefixL, prefixR}
-use Rattle.scoping.specs.Pushes.{allPushes, newName}
+use Rattle.scoping.specs.bridge.Pushes.{allPushes, newName}
 use Rattle.scoping.specs.Premises.{isPair}
 use Rattle.scoping.proofs.Sets.{eq-same, not-same}
 use Rattle.scoping.proofs.Decimal.{generated-number, generated-prefix}

@@ -10,7 +10,7 @@ use Rattle.algebra.specs.Tree.{Triple}
 use Rattle.algebra.specs.Tree.{Pattern, bgp, path, join, union, minus, leftjoin, filter, graph, extend, values, orderby, project, distinct, reduced, slice, group, service}
 use Rattle.algebra.specs.Tree.{Expression, term, bound, exists, apply, call, Condition, always, provided, Expressions, eend, econs, Orders, oend, ocons, Aggregates, aend, agg, aggall}
 use Rattle.scoping.specs.Sets.{variablesOf, tripleVariables}
-use Rattle.scoping.specs.Places.{Mark, silent, Place, under, marked, places, placesE, placesC, placesEs, placesOs, placesAs, namesOf}
+use Rattle.scoping.specs.bridge.Places.{Mark, silent, Place, under, marked, places, placesE, placesC, placesEs, placesOs, placesAs, namesOf}
 use Rattle.scoping.proofs.Sets.{mem-append, mem-keep}
 use Rattle.scoping.proofs.FirstPlaces.{namesOf-append, namesOf-marked}
 

@@ -1,4 +1,4 @@
--- New names are variables as document 01 bounds them, and there are few numbers. Assumes nothing.
+-- New names are variables as the specification bounds them, and there are few numbers. Assumes nothing.
 use mathlib.Core.Path.{_≡_, refl, ap, _∙_}
 use mathlib.Core.List.{List, [], _∷_, _++_}
 use mathlib.Core.Bool.{Bool, true, false, cond, _&&_}

@@ -8,7 +8,7 @@ use Rattle.algebra.specs.Valid.{mem, Valid}
 use Rattle.algebra.specs.Tree.{Pattern}
 use Rattle.scoping.specs.Sets.{Alike, Once}
 use Rattle.scoping.specs.Variables.{variablesInPattern}
-use Rattle.scoping.specs.Places.{visible, Place, places, Scope, in-scope, hidden, counts, namesAt, namesOf, visibleNames, hiddenNames}
+use Rattle.scoping.specs.bridge.Places.{visible, Place, places, Scope, in-scope, hidden, counts, namesAt, namesOf, visibleNames, hiddenNames}
 use Rattle.scoping.specs.Numbering.{byPlace, inScopeByPlace, hiddenByPlace, numbered}
 use Rattle.scoping.proofs.Sets.{mem-append, mem-keep, once-keep}
 use Rattle.scoping.proofs.Walked.{visible-in-scope, covered-hidden}

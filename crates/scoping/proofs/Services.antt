@@ -1,10 +1,10 @@
--- "Renaming leaves a Service name as it is, variable or not", wherever the service stands. Assumes nothing.
+-- A service's name stays under renaming, variable or not, wherever the service stands. Assumes nothing.
 use mathlib.Core.Path.{_≡_, refl, ap, ap₂}
 use mathlib.Core.List.{List, [], _∷_, _++_}
 use Rattle.text.specs.Text.{Bytes}
 use Rattle.algebra.specs.Tree.{Pattern, bgp, path, join, union, minus, leftjoin, filter, graph, extend, values, orderby, project, distinct, reduced, slice, group, service}
 use Rattle.algebra.specs.Tree.{Expression, term, bound, exists, apply, call, Condition, always, provided, Expressions, eend, econs, Orders, oend, ocons, Aggregates, aend, agg, aggall}
-use Rattle.scoping.specs.Services.{services, servicesE, servicesC, servicesEs, servicesOs, servicesAs}
+use Rattle.scoping.specs.bridge.Services.{services, servicesE, servicesC, servicesEs, servicesOs, servicesAs}
 use Rattle.scoping.specs.Rename.{renameInGraphPattern, renameInExpression, renameInCondition, renameInExpressions, renameInOrders, renameAggregates}
 
 mutual

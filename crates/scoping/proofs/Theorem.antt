@@ -1,4 +1,4 @@
--- Under document 01's premises: a side's names stay apart, become variables, and a left and a right name meet exactly if they are the two columns of one join pair. Assumes nothing.
+-- Under demand 3's premises: a side's names stay apart, become variables, and a left and a right name meet exactly if they are the two columns of one join pair. Assumes nothing.
 use mathlib.Core.Path.{_≡_, refl, sym, ap, ap₂, _∙_}
 use mathlib.Core.List.{List, [], _∷_}
 use mathlib.Core.Bool.{Bool, true, false, not, _||_}
@@ -17,7 +17,7 @@ use Rattle.scoping.specs.Sets.{all, any, Once, indexOf}
 use Rattle.scoping.specs.Variables.{variablesInPattern}
 use Rattle.scoping.specs.Label.{isLabel, prefixJ, prefixL, prefixR}
 use Rattle.scoping.specs.Numbering.{numbered}
-use Rattle.scoping.specs.Pushes.{allPushes, newName}
+use Rattle.scoping.specs.bridge.Pushes.{allPushes, newName}
 use Rattle.scoping.specs.Premises.{columnsAt, inside, differentPositions, NamePremises, sideName, isPair}
 use Rattle.scoping.proofs.Sets.{not-same}
 use Rattle.scoping.proofs.Positions.{inside-first, inside-rest, different-first, different-rest}

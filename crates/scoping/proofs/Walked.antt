@@ -8,7 +8,7 @@ use Rattle.algebra.specs.Tree.{Pattern, bgp, path, join, union, minus, leftjoin
 use Rattle.algebra.specs.Tree.{Expression, term, bound, exists, apply, call, Condition, always, provided, Expressions, eend, econs, Orders, oend, ocons, Aggregates, aend, agg, aggall}
 use Rattle.scoping.specs.Sets.{Alike, variablesOf, tripleVariables, aggregateVariables}
 use Rattle.scoping.specs.Variables.{variablesInPattern}
-use Rattle.scoping.specs.Places.{Mark, visible, covered, silent, Place, under, marked, places, placesE, placesC, placesEs, placesOs, placesAs, Scope, in-scope, hidden, counts, namesAt, visibleNames, hiddenNames}
+use Rattle.scoping.specs.bridge.Places.{Mark, visible, covered, silent, Place, under, marked, places, placesE, placesC, placesEs, placesOs, placesAs, Scope, in-scope, hidden, counts, namesAt, visibleNames, hiddenNames}
 use Rattle.scoping.proofs.Sets.{and-none, mem-append, swap-inner, alike-nil, alike-swap}
 
 -- what places under the mark m say of a set, from the pattern's own two sets

@@ -1,4 +1,4 @@
--- Worked cases: trees under the v-mapping. Document 01, "Cases to be proved" and the corners of queries.rs. Assumes nothing.
+-- Worked cases: trees under the v-mapping. docs/SPECIFICATION.md, "Worked cases", and "Naming". Assumes nothing.
 use mathlib.Core.List.{List, [], _∷_}
 use Prim.Native.String.{String}
 use Rattle.text.specs.Word.{bytes}
@@ -38,15 +38,15 @@ cases =
     becomes (both "?xLabelLabel" "?x" (bgp [])) (both "?v0Label" "?v1" (bgp []))
     -- `?Label` alone: `?v0Label`
     ∷ becomes (only "?Label" (bgp [])) (only "?v0Label" (bgp []))
-    -- "`?xLabelLabel` met after `?x` stays unrenamed"
+    -- `?xLabelLabel` behind `?x` keeps its name
     ∷ becomes (both "?x" "?xLabelLabel" (bgp [])) (both "?v0" "?xLabelLabel" (bgp []))
-    -- "A name may be in both sets; it is skipped the second time, and the number grows"
+    -- a name in both sets uses two numbers up
     ∷ becomes (only "?a" (one "?a" "<p>" "?b")) (only "?v0" (one "?v0" "<p>" "?v2"))
     -- in scope first, then hidden, each by first place
     ∷ becomes (minus (one "?a" "<p>" "?b") (one "?c" "<p>" "?a")) (minus (one "?v0" "<p>" "?v1") (one "?v3" "<p>" "?v0"))
-    -- "Renaming leaves a Service name as it is"
+    -- a service's name stays
     ∷ becomes (service (bytes "?s") (bytes "0") (one "?s" "<p>" "?o")) (service (bytes "?s") (bytes "0") (one "?v0" "<p>" "?v1"))
-    -- "A variable that only an expression names stays unrenamed"
+    -- a name that only an expression has stays
     ∷ becomes (filter (one "?a" "<p>" "<q>") (bound (bytes "?b"))) (filter (one "?v0" "<p>" "<q>") (bound (bytes "?b")))
     -- and its place may come first, and gives it no number
     ∷ becomes (minus (filter (one "?a" "<p>" "<q>") (bound (bytes "?b"))) (one "?c" "<p>" "?b")) (minus (filter (one "?v0" "<p>" "<q>") (bound (bytes "?v1"))) (one "?v2" "<p>" "?v1"))

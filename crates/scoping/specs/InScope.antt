@@ -25,7 +25,7 @@ inScope (distinct p) = inScope p
 inScope (reduced p) = inScope p
 inScope (slice s l p) = inScope p
 
--- the variables that are in scope there as names of services: document 01, "a service's name alone puts a variable in neither"
+-- the variables that are in scope there as names of services, which nemo leaves out: docs/SPECIFICATION.md, "Scope"
 unfoldable pub serviceNames : Pattern → List Bytes
 unfolding variablesOf
 serviceNames (bgp ts) = []

@@ -27,7 +27,7 @@ unfoldable pub generated : ℕ → ℕ → Bytes
 unfolding decimal
 generated prefix n = 63 ∷ prefix ∷ decimal n
 
--- document 01's prefixes: join columns, the left and the right side of a merge, a single tree
+-- the prefixes: join columns, the left and the right side of a merge, a single tree
 abbrev pub prefixJ : ℕ
 prefixJ = 106
 

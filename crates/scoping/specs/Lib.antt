@@ -2,12 +2,10 @@ pub mod Sets
 pub mod Variables
 pub mod InScope
 pub mod ScopedOrHidden
-pub mod Places
 pub mod Rename
-pub mod Services
 pub mod Numbering
 pub mod Label
 pub mod Standardize
-pub mod Pushes
 pub mod Premises
 pub mod Cases
+pub mod bridge

@@ -1,4 +1,4 @@
--- The order of numbering: document 01, "Order of numbering". Assumes nothing.
+-- The order of numbering: docs/SPECIFICATION.md, "Order of numbering". Assumes nothing.
 use mathlib.Core.List.{List, _++_}
 use Rattle.text.specs.Text.{Bytes}
 use Rattle.algebra.specs.Tree.{Pattern}
@@ -12,7 +12,7 @@ unfoldable pub byPlace : Pattern → List Bytes
 unfolding tally
 byPlace p = tally p start .names
 
--- "each set by first place in the text": the set in scope
+-- the set in scope, by first place
 unfoldable pub inScopeByPlace : Pattern → List Bytes
 unfolding keep mem variablesInPattern byPlace
 inScopeByPlace p = keep (λ v. mem v (variablesInPattern p .in-scope)) (byPlace p)
@@ -22,7 +22,7 @@ unfoldable pub hiddenByPlace : Pattern → List Bytes
 unfolding keep mem variablesInPattern byPlace
 hiddenByPlace p = keep (λ v. mem v (variablesInPattern p .hidden)) (byPlace p)
 
--- "in-scope variables come first, then hidden ones": the number of a name is its index; a name in both sets stands here twice, so that the number grows where it is skipped
+-- those in scope, then the hidden ones: the number of a name is its index; a name in both sets stands here twice, so that the number grows where it is skipped
 unfoldable pub numbered : Pattern → List Bytes
 unfolding inScopeByPlace hiddenByPlace
 numbered p = inScopeByPlace p ++ hiddenByPlace p

@@ -1,4 +1,4 @@
--- The names of a merge's two sides: what document 01 supposes for them, what standardize_variables makes of them, and the pairs of a join list. Assumes nothing.
+-- The names of a merge's two sides: what demand 3 supposes of them, what standardize_variables makes of them, and the pairs of a join list. Assumes nothing.
 use mathlib.Core.Path.{_≡_}
 use mathlib.Core.Bool.{Bool, true, false, not, _||_, _&&_}
 use mathlib.Core.List.{List, [], _∷_}

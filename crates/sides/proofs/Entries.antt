@@ -11,16 +11,16 @@ use native.Mathlib.Decide.{decLt}
 use lib.ListN.{length, getD, take, drop, set}
 use lib.Seq.{take-suc-set, getD-set-same, getD-set-other, getD-take}
 use Rattle.text.specs.Text.{Bytes, same, part, First}
-use Rattle.cursor.specs.Cursor.{left}
+use Rattle.cursor.specs.bridge.Cursor.{left}
 use Rattle.cursor.proofs.Laws.{left-none, left-next}
-use Rattle.names.specs.Names.{nameAt, listing}
+use Rattle.names.specs.bridge.Names.{nameAt, listing}
 use Rattle.names.proofs.Laws.{listing-long}
 use Rattle.algebra.specs.Valid.{mem}
 use Rattle.scoping.specs.Sets.{indexOf}
 use Rattle.scoping.proofs.Index.{index-none, at-index, index-below}
-use Rattle.walking.specs.Code.{Named}
+use Rattle.walking.specs.bridge.Code.{Named}
 use Rattle.walking.proofs.Laws.{FoundAt, entry-none, entry-index, listing-at}
-use Rattle.naming.specs.Code.{namesAt}
+use Rattle.naming.specs.bridge.Code.{namesAt}
 
 -- ---- what is found for a field is its place among the names
 

@@ -7,10 +7,10 @@ use native.Mathlib.Omega.{arith}
 use lib.ListN.{length}
 use lib.Dec.{eqb}
 use Rattle.text.specs.Text.{Bytes, part, First}
-use Rattle.cursor.specs.Cursor.{left}
+use Rattle.cursor.specs.bridge.Cursor.{left}
 use Rattle.cursor.proofs.Laws.{left-none, left-next}
 use Rattle.algebra.specs.Valid.{mem}
-use Rattle.sides.specs.Columns.{bitOf, maskOf, goneBits}
+use Rattle.sides.specs.bridge.Columns.{bitOf, maskOf, goneBits}
 use Rattle.sides.proofs.Masks.{mask-step}
 
 pub left-more : (line : Bytes) (next end e : ℕ) → end ≤ length line → next ≤ end → First 9 line next end e → length (left line next end) ≡ suc (length (left line (e + 1) end))

@@ -15,12 +15,12 @@ use Rattle.text.specs.Field.{clean, isVar, variable, isKind, fits, allFit}
 use Rattle.text.proofs.Basics.{and-left, and-right}
 use Rattle.text.proofs.Texts.{glue, AllClean, ended-glue, fields-back, all-clean}
 use Rattle.algebra.specs.Valid.{AllFit}
-use Rattle.cursor.specs.Cursor.{left}
+use Rattle.cursor.specs.bridge.Cursor.{left}
 use Rattle.cursor.proofs.Laws.{left-none, left-all}
-use Rattle.emit.specs.Emit.{Em, em, last, puts}
+use Rattle.emit.specs.bridge.Emit.{Em, em, last, puts}
 use Rattle.emit.proofs.Laws.{puts-at}
 use Rattle.answers.proofs.Answers.{spared}
-use Rattle.sides.specs.Columns.{columnsIn}
+use Rattle.sides.specs.bridge.Columns.{columnsIn}
 
 -- ---- its length
 

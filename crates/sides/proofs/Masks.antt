@@ -11,7 +11,7 @@ use lib.Pow.{pow-mono, pow-pos, shl-exact}
 use lib.Count.{ones, ones-step}
 use lib.Dec.{eqb}
 use Rattle.text.specs.Text.{Bytes}
-use Rattle.sides.specs.Columns.{bitOf, maskOf}
+use Rattle.sides.specs.bridge.Columns.{bitOf, maskOf}
 
 -- ---- one bit more
 

@@ -10,13 +10,13 @@ use lib.ListN.{length}
 use lib.Dec.{eqb}
 use borrow.Author.Tests.{ne-eqb, not-true, not-false}
 use Rattle.text.specs.Text.{Bytes, same, part, First}
-use Rattle.cursor.specs.Cursor.{left}
+use Rattle.cursor.specs.bridge.Cursor.{left}
 use Rattle.cursor.proofs.Laws.{left-none, left-next}
-use Rattle.emit.specs.Emit.{Em, em, puts}
+use Rattle.emit.specs.bridge.Emit.{Em, em, puts}
 use Rattle.emit.proofs.Laws.{puts-append, puts-nil}
-use Rattle.walking.specs.Walk.{tabbed}
+use Rattle.walking.specs.bridge.Walk.{tabbed}
 use Rattle.algebra.specs.Valid.{mem}
-use Rattle.sides.specs.Columns.{picked}
+use Rattle.sides.specs.bridge.Columns.{picked}
 
 -- ---- what is written of a column
 

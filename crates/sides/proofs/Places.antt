@@ -12,7 +12,7 @@ use lib.Dec.{eqb, ltb}
 use borrow.Author.Tests.{eq-eqb, ne-eqb, lt-ltb, le-ltb}
 use Rattle.merging.specs.Names.{from, isAt, placeIn}
 use Rattle.scoping.specs.Sets.{any}
-use Rattle.sides.specs.Columns.{bitOf, maskOf}
+use Rattle.sides.specs.bridge.Columns.{bitOf, maskOf}
 use Rattle.sides.proofs.Masks.{mask-step, mask-start}
 
 place-cons : (p q : ℕ) (ps : List ℕ) → placeIn p (q ∷ ps) ≡ cond (eqb p q) 0 (suc (placeIn p ps))

@@ -15,20 +15,20 @@ use borrow.Author.Tests.{lt-ltb, le-ltb, not-true, not-false}
 use Rattle.text.specs.Text.{Bytes, Line, split, part, linesOf, linesFrom, First}
 use Rattle.text.proofs.Places.{lines-start, lines-end, lines-open, lines-next}
 use Rattle.text.proofs.Texts.{glue, glue-split}
-use Rattle.cursor.specs.Cursor.{left}
+use Rattle.cursor.specs.bridge.Cursor.{left}
 use Rattle.cursor.proofs.Laws.{left-none, left-next, left-all}
-use Rattle.emit.specs.Emit.{Em, em, puts}
+use Rattle.emit.specs.bridge.Emit.{Em, em, puts}
 use Rattle.emit.proofs.Laws.{puts-nil}
 use Rattle.algebra.specs.Query.{Pair}
 use Rattle.algebra.specs.Layout.{putPairs}
 use Rattle.scoping.specs.Sets.{all}
 use Rattle.merging.specs.Request.{position}
 use Rattle.merging.specs.Names.{placeIn}
-use Rattle.walking.specs.Walk.{tabbed, numberIn}
-use Rattle.walking.specs.Code.{LineEnd}
+use Rattle.walking.specs.bridge.Walk.{tabbed, numberIn}
+use Rattle.walking.specs.bridge.Code.{LineEnd}
 use Rattle.sides.specs.declared.list.Positions.{Positions}
 use Rattle.sides.specs.declared.list.Positions.the-variants.{Outside, Are}
-use Rattle.sides.specs.Listed.{Listed, positionsIn, Kept, Found, secondOf, termsFrom}
+use Rattle.sides.specs.bridge.Listed.{Listed, positionsIn, Kept, Found, secondOf, termsFrom}
 use Rattle.sides.proofs.Picked.{column-put, tabbed-cons, tabbed-nil}
 
 -- ---- pairs as lines

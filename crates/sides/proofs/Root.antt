@@ -12,7 +12,7 @@ use lib.Count.{ones, ones-le}
 use Rattle.text.specs.Text.{Bytes, Line, same, part, linesFrom, First}
 use Rattle.text.specs.Word.{bytes}
 use Rattle.text.proofs.Places.{lines-next}
-use Rattle.walking.specs.Code.{LineEnd}
+use Rattle.walking.specs.bridge.Code.{LineEnd}
 use Rattle.walking.proofs.Lines.{nothing-here}
 use Rattle.walking.proofs.Laws.{line-split}
 

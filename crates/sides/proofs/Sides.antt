@@ -14,35 +14,35 @@ use Rattle.text.specs.Word.{bytes}
 use Rattle.text.specs.Field.{variable, clean, isVar, isKind, fits, allFit}
 use Rattle.text.proofs.Basics.{and-left, and-right, and-both}
 use Rattle.text.proofs.Places.{lines-next}
-use Rattle.cursor.specs.Cursor.{left}
+use Rattle.cursor.specs.bridge.Cursor.{left}
 use Rattle.algebra.specs.Tree.{project}
 use Rattle.algebra.specs.Valid.{Fits, AllFit, Valid, mem}
 use Rattle.algebra.specs.Layout.{put}
-use Rattle.names.specs.Names.{listing}
-use Rattle.emit.specs.Emit.{Em, em, puts}
+use Rattle.names.specs.bridge.Names.{listing}
+use Rattle.emit.specs.bridge.Emit.{Em, em, puts}
 use Rattle.scoping.specs.Sets.{all, indexOf}
-use Rattle.scoping.specs.Places.{visible, under, marked, places, namesOf}
+use Rattle.scoping.specs.bridge.Places.{visible, under, marked, places, namesOf}
 use Rattle.scoping.specs.Numbering.{byPlace, numbered}
-use Rattle.scoping.specs.Pushes.{allPushes, newName}
+use Rattle.scoping.specs.bridge.Pushes.{allPushes, newName}
 use Rattle.scoping.specs.Premises.{columnsAt, inside, sideName}
 use Rattle.scoping.proofs.Sets.{mem-append}
 use Rattle.scoping.proofs.FirstPlaces.{by-place-mem, namesOf-append, namesOf-marked}
 use Rattle.scoping.proofs.Index.{mem-at}
 use Rattle.scoping.proofs.Agree.{renamed-by-pushes}
 use Rattle.scoping.proofs.NewVariables.{numbered-few}
-use Rattle.walking.specs.Code.{LineEnd}
+use Rattle.walking.specs.bridge.Code.{LineEnd}
 use Rattle.walking.proofs.Lines.{nothing-here}
 use Rattle.walking.proofs.Laws.{line-split}
-use Rattle.naming.specs.Code.{namesAt}
+use Rattle.naming.specs.bridge.Code.{namesAt}
 use Rattle.merging.specs.Request.{Projection, tree}
 use Rattle.merging.proofs.Names.{Letter, side-fits}
 use Rattle.merging.proofs.Written.{fit-at}
 use Rattle.algebra.specs.Query.{Pair}
 use Rattle.sides.specs.declared.list.Positions.{Positions}
 use Rattle.sides.specs.declared.list.Positions.the-variants.{Outside, Are}
-use Rattle.sides.specs.Columns.{columnsIn}
-use Rattle.sides.specs.Listed.{Listed, positionsIn, Kept, Found}
-use Rattle.sides.specs.Side.{entriesOf, TreeIn, Renames, maskAt, SideIs}
+use Rattle.sides.specs.bridge.Columns.{columnsIn}
+use Rattle.sides.specs.bridge.Listed.{Listed, positionsIn, Kept, Found}
+use Rattle.sides.specs.bridge.Side.{entriesOf, TreeIn, Renames, maskAt, SideIs}
 use Rattle.sides.proofs.Trees.{tree-names}
 use Rattle.sides.proofs.Entries.{entry-low, names-at}
 use Rattle.sides.proofs.Line.{line-columns, line-positive}

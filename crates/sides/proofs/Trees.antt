@@ -13,34 +13,34 @@ use Rattle.text.specs.Word.{bytes}
 use Rattle.algebra.specs.Tree.{Pattern, project}
 use Rattle.algebra.specs.Valid.{Valid, mem}
 use Rattle.algebra.specs.Word.{PROJECT}
-use Rattle.algebra.specs.Table.{patterns, rowIn, rowFor}
-use Rattle.words.specs.Code.{rowOf}
+use Rattle.algebra.specs.bridge.Table.{patterns, rowIn, rowFor}
+use Rattle.words.specs.bridge.Code.{rowOf}
 use Rattle.algebra.specs.Depth as Depth
 use Rattle.algebra.specs.Layout.{put}
-use Rattle.names.specs.Names.{listing, Hinted}
+use Rattle.names.specs.bridge.Names.{listing, Hinted}
 use Rattle.names.proofs.Laws.{listing-long}
-use Rattle.emit.specs.Emit.{Em, em, puts}
+use Rattle.emit.specs.bridge.Emit.{Em, em, puts}
 use Rattle.scoping.specs.Sets.{Once}
-use Rattle.scoping.specs.Places.{visible, silent, places, namesOf}
+use Rattle.scoping.specs.bridge.Places.{visible, silent, places, namesOf}
 use Rattle.scoping.specs.Numbering.{byPlace, numbered}
-use Rattle.scoping.specs.Pushes.{Push, allPushes, newName}
+use Rattle.scoping.specs.bridge.Pushes.{Push, allPushes, newName}
 use Rattle.scoping.specs.Rename.{renameInGraphPattern}
 use Rattle.scoping.proofs.Index.{index-none}
 use Rattle.scoping.proofs.Named.{named}
 use Rattle.scoping.proofs.FirstPlaces.{by-place-mem, by-place-once}
 use Rattle.scoping.proofs.Alike.{rename-alike}
-use Rattle.walking.specs.Walk.{Output, output, State, state, tree as walkTree, rowOr, putLine}
-use Rattle.walking.specs.Code.{Named, replacement, here, renames, OneLine, WalkedLine}
+use Rattle.walking.specs.bridge.Walk.{Output, output, State, state, tree as walkTree, rowOr, putLine}
+use Rattle.walking.specs.bridge.Code.{Named, replacement, here, renames, OneLine, WalkedLine}
 use Rattle.walking.specs.declared.line.Walked.{Walked}
-use Rattle.walking.specs.Flags.{flagAll, chosen}
+use Rattle.walking.specs.bridge.Flags.{flagAll, chosen}
 use Rattle.walking.proofs.After.{After, line}
 use Rattle.walking.proofs.Parts.{heading}
 use Rattle.walking.proofs.Written.{columns as columnFields}
 use Rattle.walking.proofs.Trees.{walk-tree, walk-before}
 use Rattle.walking.proofs.Chosen.{chosen-in-scope, chosen-hidden}
-use Rattle.naming.specs.Code.{numberedBy, Standard}
+use Rattle.naming.specs.bridge.Code.{numberedBy, Standard}
 use Rattle.merging.specs.Request.{Projection, tree}
-use Rattle.sides.specs.Side.{TreeIn, Renames}
+use Rattle.sides.specs.bridge.Side.{TreeIn, Renames}
 
 module _ (s : Bytes) (at : ℕ) (a l h : List ℕ) (n : ℕ) (p : Pattern) (t : TreeIn s at a l h n p) where
   pub tree-high : n ≤ 1024

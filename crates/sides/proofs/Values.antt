@@ -7,11 +7,11 @@ use lib.ListN.{length, getD}
 use Rattle.text.specs.Text.{Bytes, Line, same, ended, textOf, linesFrom, First, part, split}
 use Rattle.text.specs.Word.{bytes}
 use Rattle.text.specs.Field.{decimal, digits}
-use Rattle.emit.specs.Emit.{Em, em, puts}
+use Rattle.emit.specs.bridge.Emit.{Em, em, puts}
 use Rattle.emit.proofs.Laws.{puts-append}
-use Rattle.walking.specs.Walk.{tabbed}
+use Rattle.walking.specs.bridge.Walk.{tabbed}
 use Rattle.walking.proofs.Written.{puts-ended}
-use Rattle.sides.specs.Side.{joinLine, valuesLines}
+use Rattle.sides.specs.bridge.Side.{joinLine, valuesLines}
 
 -- without constants nothing is written
 pub join-none : (m : ℕ) (e : Em) → m ≡ 0 → (t : List Line) → puts (textOf t) e ≡ puts (textOf (joinLine m t)) e

@@ -12,11 +12,11 @@ ghost use lib.ListN.{length, take};
 ghost use lib.Dec.{eqb};
 ghost use lib.Count.{ones};
 ghost use Rattle.text.specs.Text.{same, part};
-ghost use Rattle.emit.specs.Emit.{em, puts};
-ghost use Rattle.walking.specs.Walk.{tabbed};
+ghost use Rattle.emit.specs.bridge.Emit.{em, puts};
+ghost use Rattle.walking.specs.bridge.Walk.{tabbed};
 ghost use Rattle.algebra.specs.Valid.{mem};
 ghost use Rattle.merging.specs.Names.{from as countFrom, isAt, placeIn};
-ghost use Rattle.sides.specs.Columns.{columnsIn, bitOf, maskOf, picked, goneBits};
+ghost use Rattle.sides.specs.bridge.Columns.{columnsIn, bitOf, maskOf, picked, goneBits};
 
 // Where the columns of a line `project` start: behind the word and a tab.
 const FIRST: usize = 8;

@@ -12,11 +12,11 @@ ghost use mathlib.Core.List.{List, [], _∷_};
 ghost use mathlib.Core.Bool.{Bool, cond, false};
 ghost use lib.ListN.{length, getD, drop};
 ghost use Rattle.text.specs.Text.{Bytes, Line, linesFrom};
-ghost use Rattle.cursor.specs.Cursor.{left};
-ghost use Rattle.emit.specs.Emit.{em, puts};
-ghost use Rattle.walking.specs.Walk.{tabbed, numberIn};
+ghost use Rattle.cursor.specs.bridge.Cursor.{left};
+ghost use Rattle.emit.specs.bridge.Emit.{em, puts};
+ghost use Rattle.walking.specs.bridge.Walk.{tabbed, numberIn};
 ghost use Rattle.algebra.specs.Query.{Pair};
-ghost use Rattle.sides.specs.Listed.{Listed, Kept, Found, secondOf, termsFrom};
+ghost use Rattle.sides.specs.bridge.Listed.{Listed, Kept, Found, secondOf, termsFrom};
 
 // A position is outside its projection, or there are so many.
 pub enum Positions {

@@ -15,7 +15,7 @@ use Rattle.text.specs.declared.Number.{Number}
 use Rattle.text.specs.declared.Number.the-variants.{Is, Not}
 use Rattle.text.specs.Text.{Bytes, piece}
 use Rattle.text.specs.Field.{digitsOf, numberOf, given, small, isRegion, third, isTag, Kind, form, isKind}
-use Rattle.text.specs.Code.{numberIn, kinds, kindAt}
+use Rattle.text.specs.bridge.Code.{numberIn, kinds, kindAt}
 
 -- ---- integers
 

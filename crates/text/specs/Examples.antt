@@ -1,4 +1,4 @@
--- Worked examples of fields: document 01's own words. Assumes nothing.
+-- Worked examples of fields: docs/SPECIFICATION.md, "Kinds of fields". Assumes nothing.
 use mathlib.Core.Path.{_≡_, refl}
 use mathlib.Core.Bool.{Bool, true, false, cond}
 use mathlib.Core.List.{List, [], _∷_, map}

@@ -1,4 +1,4 @@
--- What one field can be: document 01, "Lines of a tree", integers, terms, values and tags. Assumes nothing.
+-- What one field can be: docs/SPECIFICATION.md, "Kinds of fields". Assumes nothing.
 use Prim.Native.Nat.{ℕ, zero, suc, _+_, _-_, _*_, _/_, _%_}
 use mathlib.Core.List.{List, [], _∷_, _++_}
 use mathlib.Core.Bool.{Bool, true, false, cond, not, _&&_, _||_}

@@ -2,4 +2,4 @@ pub mod Text
 pub mod Word
 pub mod Field
 pub mod Examples
-pub mod Code
+pub mod bridge

@@ -1,4 +1,4 @@
--- A text as lines and a line as fields: document 01, "Lines of a tree", first paragraph. Assumes nothing.
+-- A text as lines and a line as fields: docs/SPECIFICATION.md, "Lines and fields". Assumes nothing.
 use Prim.Native.Nat.{ℕ, _-_, _≤_, _<_}
 use mathlib.Core.Path.{_≡_}
 use mathlib.Core.List.{List, [], _∷_, _++_}

@@ -5,7 +5,7 @@ ghost use mathlib.Core.Bool.{_||_, true, false};
 ghost use lib.ListN.{length, getD, drop};
 ghost use Rattle.text.specs.Text.{same, piece as pieceOf, First};
 ghost use Rattle.text.specs.Field.{digitsOf, numberOf, isVar, isIri, isLiteral, isBlank, isDash, isFlag, small as isSmall, isRegion, isTag, isDatatype, isForm, isKind, isConstant, isPlain, given};
-ghost use Rattle.text.specs.Code.{numberIn, kindAt};
+ghost use Rattle.text.specs.bridge.Code.{numberIn, kindAt};
 
 // None of the eight bytes from a place on is `b`. Tests joined by `&` become one comparison of eight bytes.
 fn lacks_eight(s: &[u8], i: usize, b: u8) -> bool

@@ -6,11 +6,11 @@ use mathlib.Core.Bool.{Bool, true, false, cond}
 use Rattle.text.specs.Text.{Bytes, Line, same, textOf}
 use Rattle.text.specs.Word.{bytes}
 use Rattle.algebra.specs.Valid.{mem}
-use Rattle.algebra.specs.Table.{Entry}
-use Rattle.emit.specs.Emit.{puts}
-use Rattle.scoping.specs.Places.{Mark, silent, Place, marked}
-use Rattle.walking.specs.Walk.{Output, State, state, writes, putLine}
-use Rattle.walking.specs.Flags.{flagAll}
+use Rattle.algebra.specs.bridge.Table.{Entry}
+use Rattle.emit.specs.bridge.Emit.{puts}
+use Rattle.scoping.specs.bridge.Places.{Mark, silent, Place, marked}
+use Rattle.walking.specs.bridge.Walk.{Output, State, state, writes, putLine}
+use Rattle.walking.specs.bridge.Flags.{flagAll}
 use Rattle.walking.proofs.Written.{Fields, puts-ended}
 
 -- from o on, the lines that front puts before others are written, the places xs are noted, and rest is left

@@ -12,15 +12,15 @@ use Rattle.text.proofs.Basics.{same-eq}
 use Rattle.algebra.specs.Valid.{mem, Valid}
 use Rattle.algebra.specs.Tree.{Pattern}
 use Rattle.scoping.specs.Sets.{Once, indexOf, keep}
-use Rattle.scoping.specs.Places.{Mark, visible, covered, silent, Place, places, Scope, in-scope, hidden, counts, namesAt, visibleNames, hiddenNames}
+use Rattle.scoping.specs.bridge.Places.{Mark, visible, covered, silent, Place, places, Scope, in-scope, hidden, counts, namesAt, visibleNames, hiddenNames}
 use Rattle.scoping.specs.Variables.{variablesInPattern}
 use Rattle.scoping.specs.Numbering.{byPlace, inScopeByPlace, hiddenByPlace}
 use Rattle.scoping.proofs.Sets.{and-none, differ}
 use Rattle.scoping.proofs.Index.{at-index, index-below, mem-at, index-at}
 use Rattle.scoping.proofs.Walked.{visible-in-scope, covered-hidden}
 use Rattle.scoping.proofs.FirstPlaces.{by-place-once}
-use Rattle.walking.specs.Walk.{flagged}
-use Rattle.walking.specs.Flags.{flagAll, chosen}
+use Rattle.walking.specs.bridge.Walk.{flagged}
+use Rattle.walking.specs.bridge.Flags.{flagAll, chosen}
 
 -- the flag is set
 abbrev on : List ℕ → ℕ → Bool

@@ -9,17 +9,17 @@ use lib.ListN.{getD}
 use lib.Dec.{eqb}
 use borrow.Author.Tests.{ne-eqb, eq-eqb, not-true, not-false}
 use Rattle.text.specs.Text.{Bytes, Line, linesFrom}
-use Rattle.algebra.specs.Table.{Sort, triples, columns, patterns, expressions, rows, orders, aggregates, Below, Row, rowFor, opens}
-use Rattle.algebra.specs.Machine.{amountOf}
+use Rattle.algebra.specs.bridge.Table.{Sort, triples, columns, patterns, expressions, rows, orders, aggregates, Below, Row, rowFor, opens}
+use Rattle.algebra.specs.bridge.Machine.{amountOf}
 use Rattle.words.specs.declared.Row.{Row as Code}
 use Rattle.words.specs.declared.Found.the-variants.{Is}
-use Rattle.words.specs.Code.{sortAt, groupOf, rowOf, Tidy}
-use Rattle.lines.specs.Below.{amountIn}
-use Rattle.scoping.specs.Places.{Mark, visible, covered, silent, under}
+use Rattle.words.specs.bridge.Code.{sortAt, groupOf, rowOf, Tidy}
+use Rattle.lines.specs.bridge.Below.{amountIn}
+use Rattle.scoping.specs.bridge.Places.{Mark, visible, covered, silent, under}
 use Rattle.walking.specs.declared.line.Head.{Head}
 use Rattle.walking.specs.declared.line.Walked.{Walked}
-use Rattle.walking.specs.Walk.{Output, output, State, state, rowOr, numberIn, hides, putLine, times, headAmount, part, child, beneath, whole, tree}
-use Rattle.walking.specs.Code.{markAt, here, NoLine, OneLine, WalkedLine}
+use Rattle.walking.specs.bridge.Walk.{Output, output, State, state, rowOr, numberIn, hides, putLine, times, headAmount, part, child, beneath, whole, tree}
+use Rattle.walking.specs.bridge.Code.{markAt, here, NoLine, OneLine, WalkedLine}
 
 -- ---- marks
 

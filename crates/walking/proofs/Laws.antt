@@ -15,28 +15,28 @@ use borrow.Author.Tests.{ne-eqb, not-true, not-false}
 use Rattle.text.specs.Text.{Bytes, Line, same, part, piece, split, First}
 use Rattle.text.specs.Word.{bytes}
 use Rattle.text.specs.Field.{Kind, isVar, numberOf}
-use Rattle.text.specs.Code as N
+use Rattle.text.specs.bridge.Code as N
 use Rattle.text.specs.declared.Number.{Number}
 use Rattle.text.specs.declared.Number.the-variants.{Is, Not}
 use Rattle.text.proofs.Basics.{same-eq, either-way}
 use Rattle.algebra.specs.Valid.{mem}
-use Rattle.algebra.specs.Table.{Slot, Row, rowFor}
-use Rattle.words.specs.Code.{sortAt, slotThen, slotsUnder, tailOf, rowOf, rowFound, Tidy, noCode}
+use Rattle.algebra.specs.bridge.Table.{Slot, Row, rowFor}
+use Rattle.words.specs.bridge.Code.{sortAt, slotThen, slotsUnder, tailOf, rowOf, rowFound, Tidy, noCode}
 use Rattle.words.specs.declared.Row.{Row as Code}
 use Rattle.words.specs.declared.Found.{Found}
 use Rattle.words.specs.declared.Found.the-variants as W
-use Rattle.names.specs.Names.{nameAt, listing, Hinted}
+use Rattle.names.specs.bridge.Names.{nameAt, listing, Hinted}
 use Rattle.names.proofs.Laws.{listing-long, listed}
-use Rattle.cursor.specs.Cursor.{left}
+use Rattle.cursor.specs.bridge.Cursor.{left}
 use Rattle.cursor.proofs.Laws.{left-none, left-next, left-all}
-use Rattle.lines.specs.Steps.{oneSlot}
+use Rattle.lines.specs.bridge.Steps.{oneSlot}
 use Rattle.lines.proofs.SlotLaw.{slots-none, slots-more, under-columns, under-others}
-use Rattle.emit.specs.Emit.{Em, em, puts}
+use Rattle.emit.specs.bridge.Emit.{Em, em, puts}
 use Rattle.scoping.specs.Sets.{Once, indexOf}
 use Rattle.scoping.proofs.Index.{index-at}
-use Rattle.scoping.specs.Places.{Mark}
-use Rattle.walking.specs.Walk.{Output, output, writes, flagged, opened, rowOr, numberIn, putField, putFields, putLine}
-use Rattle.walking.specs.Code.{markAt, Named, replacement}
+use Rattle.scoping.specs.bridge.Places.{Mark}
+use Rattle.walking.specs.bridge.Walk.{Output, output, writes, flagged, opened, rowOr, numberIn, putField, putFields, putLine}
+use Rattle.walking.specs.bridge.Code.{markAt, Named, replacement}
 
 -- ---- the number in a field
 

@@ -10,13 +10,13 @@ use lib.ListN.{length}
 use Rattle.text.specs.Text.{Bytes, Line, same, part, linesFrom}
 use Rattle.text.specs.Word.{bytes}
 use Rattle.text.proofs.Places.{lines-end, lines-open, lines-next}
-use Rattle.cursor.specs.Cursor.{left}
-use Rattle.words.specs.Code.{rowOf}
-use Rattle.scoping.specs.Places.{Mark}
+use Rattle.cursor.specs.bridge.Cursor.{left}
+use Rattle.words.specs.bridge.Code.{rowOf}
+use Rattle.scoping.specs.bridge.Places.{Mark}
 use Rattle.walking.specs.declared.line.Head.{Head}
 use Rattle.walking.specs.declared.line.Walked.{Walked}
-use Rattle.walking.specs.Walk.{Output, output, putLine}
-use Rattle.walking.specs.Code.{LineEnd, HeadIs, NoLine, OneLine, WalkedLine}
+use Rattle.walking.specs.bridge.Walk.{Output, output, putLine}
+use Rattle.walking.specs.bridge.Code.{LineEnd, HeadIs, NoLine, OneLine, WalkedLine}
 
 pub nothing-here : (s : Bytes) (from end : ℕ) → LineEnd s from end → end ≡ length s → (linesFrom s from ≡ []) ⊎ (linesFrom s from ≡ [] ∷ [])
 nothing-here s from end l e = go (decLt from (length s))

@@ -16,11 +16,11 @@ use Rattle.algebra.specs.Word.{Arity, exactly, counted, arity, PatternWord}
 use Rattle.algebra.specs.Word.{ExpressionWord, AggregateWord, spellP, spellE, spellO, spellD, spellA}
 use Rattle.algebra.specs.Layout.{putTriples, putRows, putArity, putFlag}
 use Rattle.algebra.specs.Valid.{Triples, Rows, Takes, mem}
-use Rattle.algebra.specs.Table.{Slot, term as slot, Sort, triples, expressions, rows, orders, row, Row, tailed, variables, texts, one, _of_, Entry, entry, rowIn, rowFor, patternRow, expressionRow, aggregateRow, arityRow}
+use Rattle.algebra.specs.bridge.Table.{Slot, term as slot, Sort, triples, expressions, rows, orders, row, Row, tailed, variables, texts, one, _of_, Entry, entry, rowIn, rowFor, patternRow, expressionRow, aggregateRow, arityRow}
 use Rattle.scoping.specs.Sets.{keep, variablesOf, tripleVariables}
-use Rattle.scoping.specs.Places.{Mark, silent, marked}
+use Rattle.scoping.specs.bridge.Places.{Mark, silent, marked}
 use Rattle.scoping.specs.Rename.{renameInTriple, renameInCondition, renameInExpressions, renameInOrders, renameAggregates}
-use Rattle.walking.specs.Walk.{Output, State, state, numberIn, hides, opened, putLine, part, child, times, beneath, tree}
+use Rattle.walking.specs.bridge.Walk.{Output, State, state, numberIn, hides, opened, putLine, part, child, times, beneath, tree}
 use Rattle.walking.proofs.After.{After, marked-append, none-after, then, told, line}
 use Rattle.walking.proofs.Written.{Fields, no-fields, fixed-then, number-then, term-then, cells}
 

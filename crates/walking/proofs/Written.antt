@@ -13,15 +13,15 @@ use Rattle.text.specs.Field.{most, digitsOf, numberOf, decimal, clean, isVar, i
 use Rattle.text.proofs.Basics.{and-left, and-right}
 use Rattle.text.proofs.Numbers.{number-back}
 use Rattle.algebra.specs.Valid.{Fits, AllFit, mem}
-use Rattle.algebra.specs.Table.{Slot}
-use Rattle.emit.specs.Emit.{Em, put1, puts}
+use Rattle.algebra.specs.bridge.Table.{Slot}
+use Rattle.emit.specs.bridge.Emit.{Em, put1, puts}
 use Rattle.emit.proofs.Laws.{puts-append}
 use Rattle.scoping.specs.Sets.{indexOf}
 use Rattle.scoping.proofs.Sets.{and-none}
-use Rattle.scoping.specs.Places.{Mark, Place, marked}
+use Rattle.scoping.specs.bridge.Places.{Mark, Place, marked}
 use Rattle.scoping.specs.Rename.{renameInTerm}
-use Rattle.walking.specs.Walk.{tabbed, Output, writes, flagged, opened, putField, putFields}
-use Rattle.walking.specs.Flags.{flagAll}
+use Rattle.walking.specs.bridge.Walk.{tabbed, Output, writes, flagged, opened, putField, putFields}
+use Rattle.walking.specs.bridge.Flags.{flagAll}
 
 -- ---- a line's bytes
 

@@ -1,3 +1,1 @@
-pub mod Walk
-pub mod Code
-pub mod Flags
+pub mod bridge

@@ -19,13 +19,13 @@ ghost use mathlib.Core.Bool.{cond, false};
 ghost use lib.ListN.{length, getD, drop};
 ghost use Rattle.text.specs.Text.{same, part};
 ghost use Rattle.text.specs.Word.{bytes};
-ghost use Rattle.cursor.specs.Cursor.{left};
-ghost use Rattle.algebra.specs.Table.{rowFor};
-ghost use Rattle.words.specs.Code.{sortAt, rowOf, Tidy};
+ghost use Rattle.cursor.specs.bridge.Cursor.{left};
+ghost use Rattle.algebra.specs.bridge.Table.{rowFor};
+ghost use Rattle.words.specs.bridge.Code.{sortAt, rowOf, Tidy};
 ghost use Rattle.words.specs.declared.Found.the-variants.{Is};
-ghost use Rattle.names.specs.Names.{listing};
-ghost use Rattle.walking.specs.Walk.{output, opened, rowOr, numberIn, hides, flagged, putField, putFields, putLine};
-ghost use Rattle.walking.specs.Code.{Named, LineEnd, HeadIs, replacement, renames, markAt, WalkedLine};
+ghost use Rattle.names.specs.bridge.Names.{listing};
+ghost use Rattle.walking.specs.bridge.Walk.{output, opened, rowOr, numberIn, hides, flagged, putField, putFields, putLine};
+ghost use Rattle.walking.specs.bridge.Code.{Named, LineEnd, HeadIs, replacement, renames, markAt, WalkedLine};
 
 // The end of the line that starts here; the end of the text if no line does, or none that is ended.
 pub fn line_end(text: &[u8], from: usize) -> usize

@@ -6,12 +6,12 @@ ghost use mathlib.Core.Path.{_≡_};
 ghost use Prim.Native.Nat.{ℕ, _≤_, _<_};
 ghost use mathlib.Core.List.{[], _∷_};
 ghost use mathlib.Core.Bool.{cond, _&&_};
-ghost use Rattle.algebra.specs.Table.{patterns, expressions};
-ghost use Rattle.scoping.specs.Places.{silent, under as underMark};
-ghost use Rattle.words.specs.Code.{sortAt, rowOf};
-ghost use Rattle.names.specs.Names.{listing};
-ghost use Rattle.walking.specs.Walk.{times, child, beneath, tree};
-ghost use Rattle.walking.specs.Code.{Named, here, renames, markAt};
+ghost use Rattle.algebra.specs.bridge.Table.{patterns, expressions};
+ghost use Rattle.scoping.specs.bridge.Places.{silent, under as underMark};
+ghost use Rattle.words.specs.bridge.Code.{sortAt, rowOf};
+ghost use Rattle.names.specs.bridge.Names.{listing};
+ghost use Rattle.walking.specs.bridge.Walk.{times, child, beneath, tree};
+ghost use Rattle.walking.specs.bridge.Code.{Named, here, renames, markAt};
 
 // Where the text goes on, and where the output does.
 pub struct Place {

@@ -11,10 +11,10 @@ use borrow.Author.Tests.{leb-true, ltb-true, eqb-false, ne-eqb, not-true}
 use Rattle.text.specs.Text.{Bytes, same}
 use Rattle.text.proofs.Basics.{and-left, and-right, same-eq}
 use Rattle.text.proofs.Lists.{same-long}
-use Rattle.algebra.specs.Table.{Row, Entry, Sort, triples, columns, patterns, expressions, rows, orders, aggregates, heads, sets, positions, valueRows, parts, rowsOf, rowIn, rowFor}
+use Rattle.algebra.specs.bridge.Table.{Row, Entry, Sort, triples, columns, patterns, expressions, rows, orders, aggregates, heads, sets, positions, valueRows, parts, rowsOf, rowIn, rowFor}
 use Rattle.words.specs.declared.Found.{Found}
-use Rattle.words.specs.Code.{sortAt, rowFound, Tidy}
-use Rattle.words.specs.Key.{keyOf, rowBy}
+use Rattle.words.specs.bridge.Code.{sortAt, rowFound, Tidy}
+use Rattle.words.specs.bridge.Key.{keyOf, rowBy}
 use Rattle.words.proofs.Keys.{Small, Told, same-by-key, all-small}
 
 -- ---- every word of the table is one that a key tells

@@ -13,7 +13,7 @@ use Rattle.text.specs.Word.{spelled}
 use Rattle.text.specs.Field.{Kind}
 use Rattle.algebra.specs.Query.{PlainString, extraKind}
 use Rattle.algebra.specs.Word.{spellV, domains}
-use Rattle.words.specs.Code.{mapped, extraFound, domainWords, domainStarts, domainSizes, extras, domainAt}
+use Rattle.words.specs.bridge.Code.{mapped, extraFound, domainWords, domainStarts, domainSizes, extras, domainAt}
 
 -- the pieces of s at the places and of the sizes listed
 cuts : Bytes → List ℕ → List ℕ → List Bytes

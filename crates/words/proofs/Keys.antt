@@ -11,7 +11,7 @@ use lib.Seq.{drop-cons}
 use borrow.Author.Tests.{leb-true, leb-false, eq-eqb, ne-eqb}
 use Rattle.text.specs.Text.{Bytes, same}
 use Rattle.text.proofs.Basics.{same-eq, same-refl}
-use Rattle.words.specs.Key.{keyOf}
+use Rattle.words.specs.bridge.Key.{keyOf}
 
 -- ---- how the code makes a key
 

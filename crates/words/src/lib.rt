@@ -8,9 +8,9 @@ ghost use mathlib.Core.Path.{_≡_};
 ghost use Prim.Native.Nat.{ℕ, _<_};
 ghost use lib.ListN.{length, getD};
 ghost use Rattle.text.specs.Text.{same};
-ghost use Rattle.algebra.specs.Table.{rowFor};
-ghost use Rattle.words.specs.Code.{domainAt, rowFound, sortAt, Tidy, extraFound, extraOf, extras};
-ghost use Rattle.words.specs.Key.{keyOf};
+ghost use Rattle.algebra.specs.bridge.Table.{rowFor};
+ghost use Rattle.words.specs.bridge.Code.{domainAt, rowFound, sortAt, Tidy, extraFound, extraOf, extras};
+ghost use Rattle.words.specs.bridge.Key.{keyOf};
 
 // The role and the kind of each of up to three fields; what stands behind them; and of each of up to three groups of lines
 // below: so many, which number of the line counts more of them, and their sort. `specs/Code.antt` says what each number means.

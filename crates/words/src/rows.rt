@@ -3,9 +3,9 @@ use crate::Found;
 use crate::Row;
 ghost use mathlib.Core.Path.{_≡_};
 ghost use Prim.Native.Nat.{_<_};
-ghost use Rattle.algebra.specs.Table.{rowsOf, triples, columns, patterns, expressions, rows, orders, aggregates, heads, sets, positions, valueRows, parts};
-ghost use Rattle.words.specs.Code.{rowFound, sortAt, Tidy};
-ghost use Rattle.words.specs.Key.{rowBy};
+ghost use Rattle.algebra.specs.bridge.Table.{rowsOf, triples, columns, patterns, expressions, rows, orders, aggregates, heads, sets, positions, valueRows, parts};
+ghost use Rattle.words.specs.bridge.Code.{rowFound, sortAt, Tidy};
+ghost use Rattle.words.specs.bridge.Key.{rowBy};
 
 fn triple_row(key: u64) -> Found
     ensures { λ r. ⌜ (rowFound r ≡ rowBy key (rowsOf triples)) × Tidy 0 r ⌝ }

@@ -4,7 +4,7 @@ use borrow.Author.Needs.{needs}
 use mathlib.Core.Path.{_≡_, refl, sym, _∙_}
 use Prim.Native.Nat.{_-_, _≤_}
 use lib.ListN.{length, drop}
-use Rattle.emit.specs.Emit.{em, puts}
+use Rattle.emit.specs.bridge.Emit.{em, puts}
 use Rattle.emit.proofs.Laws.{puts-next, puts-done}
 use Rattle.emit.proofs.put_each.Statement.{statement}
 use Rattle.emit.proofs.put_each.Tie as tie

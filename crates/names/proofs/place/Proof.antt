@@ -5,7 +5,7 @@ use mathlib.Core.Path.{_≡_, refl, sym, _∙_, ap}
 use native.Mathlib.Omega.{arith}
 use lib.ListN.{length, getD, drop}
 use Rattle.names.proofs.Laws as L
-use Rattle.names.specs.Names.{hashOf}
+use Rattle.names.specs.bridge.Names.{hashOf}
 use Rattle.names.proofs.place.Statement.{statement}
 use Rattle.names.proofs.place.Tie as tie
 

@@ -7,7 +7,7 @@ use lib.ListN.{length, getD, drop}
 use Rattle.names.proofs.Laws as L
 use Rattle.algebra.specs.Valid.{mem}
 use mathlib.Core.Bool.{true, false}
-use Rattle.names.specs.Names.{listing}
+use Rattle.names.specs.bridge.Names.{listing}
 use Rattle.names.proofs.scan.Statement.{statement}
 use Rattle.names.proofs.scan.Tie as tie
 

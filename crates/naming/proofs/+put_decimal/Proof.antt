@@ -4,7 +4,7 @@ use native.Mathlib.Omega.{arith}
 use mathlib.Core.List.{[], _∷_}
 use Prim.Native.Nat.{ℕ, _+_, _/_, _%_, _<_}
 use Rattle.text.specs.Field.{decimal}
-use Rattle.emit.specs.Emit.{em}
+use Rattle.emit.specs.bridge.Emit.{em}
 use Rattle.emit.proofs.Laws.{puts-append}
 use Rattle.naming.proofs.Decimals.{decimal-small, decimal-big}
 use borrow.Fn.Kinds.{In}

@@ -2,7 +2,7 @@
 use borrow.Author.Needs.{needs}
 use Prim.Native.Nat.{_-_}
 use native.Mathlib.Omega.{arith}
-use Rattle.naming.specs.Code.{book, Stored}
+use Rattle.naming.specs.bridge.Code.{book, Stored}
 use Rattle.naming.proofs.Numbered as N
 use Rattle.naming.proofs.push_flagged.Statement.{statement}
 use Rattle.naming.proofs.push_flagged.Tie as tie

@@ -4,8 +4,8 @@ use Prim.Native.Nat.{_-_, _≤_}
 use mathlib.Core.Path.{_≡_, _∙_}
 use mathlib.Core.List.{[]}
 use native.Mathlib.Omega.{arith}
-use Rattle.scoping.specs.Pushes.{pushes}
-use Rattle.naming.specs.Code.{book, Stored, namesAt}
+use Rattle.scoping.specs.bridge.Pushes.{pushes}
+use Rattle.naming.specs.bridge.Code.{book, Stored, namesAt}
 use Rattle.naming.proofs.Numbered as N
 use Rattle.naming.proofs.push_joins.Statement.{statement}
 use Rattle.naming.proofs.push_joins.Tie as tie

@@ -1,6 +1,6 @@
 -- `naming::put_generated` meets its contract. Assumes nothing.
 use borrow.Author.Needs.{needs}
-use Rattle.emit.specs.Emit.{em}
+use Rattle.emit.specs.bridge.Emit.{em}
 use Rattle.naming.proofs.Decimals.{generated-puts}
 use Rattle.naming.proofs.put_generated.Statement.{statement}
 use Rattle.naming.proofs.put_generated.Tie as tie

@@ -4,7 +4,7 @@ use Prim.Native.Nat.{_*_, _-_, _≤_}
 use mathlib.Core.Path.{_≡_, refl, sym, _∙_}
 use native.Mathlib.Omega.{arith}
 use lib.ListN.{length}
-use Rattle.naming.specs.Code.{book, SettledTo}
+use Rattle.naming.specs.bridge.Code.{book, SettledTo}
 use Rattle.naming.proofs.Written as W
 use Rattle.naming.proofs.set_new_names.Statement.{statement}
 use Rattle.naming.proofs.set_new_names.Tie as tie

@@ -1,7 +1,7 @@
 -- `negating::is_passed` meets its contract. Assumes nothing.
 use borrow.Author.Needs.{needs}
 use Rattle.text.proofs.Tests as T
-use Rattle.negating.specs.Lines.{isPassed}
+use Rattle.negating.specs.bridge.Lines.{isPassed}
 use Rattle.negating.proofs.is_passed.Statement.{statement}
 use Rattle.negating.proofs.is_passed.Tie as tie
 

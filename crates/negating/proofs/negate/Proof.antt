@@ -1,6 +1,6 @@
 -- `negating::negate` meets its contract. Assumes nothing.
 use borrow.Author.Needs.{needs}
-use Rattle.reading.specs.Variables.{queryNames}
+use Rattle.reading.specs.bridge.Variables.{queryNames}
 use Rattle.reading.proofs.Said as Said
 use Rattle.negating.proofs.Negated as Neg
 use Rattle.negating.proofs.negate.Statement.{statement}

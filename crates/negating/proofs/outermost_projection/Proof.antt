@@ -5,7 +5,7 @@ use Prim.Native.Nat.{_-_, _≤_}
 use mathlib.Core.Path.{_≡_, refl, _∙_}
 use lib.ListN.{length}
 use Rattle.text.specs.Text.{linesFrom}
-use Rattle.negating.specs.Lines.{fromProject}
+use Rattle.negating.specs.bridge.Lines.{fromProject}
 use Rattle.negating.proofs.Search as S
 use Rattle.negating.proofs.outermost_projection.Statement.{statement}
 use Rattle.negating.proofs.outermost_projection.Tie as tie

@@ -5,7 +5,7 @@ use Prim.Native.Nat.{_+_, _-_, _≤_, _<_}
 use native.Mathlib.Omega.{arith}
 use lib.ListN.{length}
 use Rattle.parted.specs.Parted.{texts}
-use Rattle.parted.specs.Code.{after}
+use Rattle.parted.specs.bridge.Code.{after}
 use Rattle.parted.proofs.Laws.{count-start, count-next, after-none}
 use Rattle.parted.proofs.bars.Statement.{statement}
 use Rattle.parted.proofs.bars.Tie as tie

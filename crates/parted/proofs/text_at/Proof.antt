@@ -5,7 +5,7 @@ use mathlib.Core.List.{[]}
 use native.Mathlib.Omega.{arith}
 use lib.ListN.{length, getD}
 use Rattle.parted.specs.Parted.{texts}
-use Rattle.parted.specs.Code.{textsFrom, Ends}
+use Rattle.parted.specs.bridge.Code.{textsFrom, Ends}
 use Rattle.parted.proofs.Laws.{at-start, at-here, at-next, at-none}
 use Rattle.parted.proofs.text_at.Statement.{statement}
 use Rattle.parted.proofs.text_at.Tie as tie

@@ -4,7 +4,7 @@ use Prim.Native.Nat.{ℕ, _+_, _-_, _*_, _≤_, _<_}
 use mathlib.Core.Path.{_≡_, refl, sym, _∙_, ap}
 use native.Mathlib.Omega.{arith}
 use Rattle.words.proofs.Domains as D
-use Rattle.words.specs.Code.{extraOf}
+use Rattle.words.specs.bridge.Code.{extraOf}
 use Rattle.words.proofs.extra_kind.Statement.{statement}
 use Rattle.words.proofs.extra_kind.Tie as tie
 

@@ -6,7 +6,7 @@ use native.Mathlib.Omega.{arith}
 use lib.ListN.{length, getD, drop}
 use borrow.Author.Count.{below-more}
 use Rattle.words.proofs.Keys.{key-next, key-end}
-use Rattle.words.specs.Key.{keyOf}
+use Rattle.words.specs.bridge.Key.{keyOf}
 use Rattle.words.proofs.key_of.Statement.{statement}
 use Rattle.words.proofs.key_of.Tie as tie
 

@@ -1,6 +1,6 @@
 -- `binding::bindings/bindings` meets its contract. Assumes nothing.
 use borrow.Author.Needs.{needs}
-use Rattle.reading.specs.Variables.{treeNames, setNames}
+use Rattle.reading.specs.bridge.Variables.{treeNames, setNames}
 use Rattle.reading.proofs.Said as Said
 use Rattle.binding.proofs.Whole as Wh
 use Rattle.binding.proofs.bindings.bindings.Statement.{statement}

@@ -4,12 +4,12 @@ use Prim.Native.Nat.{ℕ, _+_, _-_, _*_, _^_, _≤_, _<_}
 use mathlib.Core.Path.{_≡_, refl, sym, ap, _∙_}
 use native.Mathlib.Omega.{arith}
 use lib.ListN.{length, getD, take, drop, length-set}
-use Rattle.cursor.specs.Cursor.{left as fieldsLeft}
-use Rattle.emit.specs.Emit.{em, puts}
-use Rattle.walking.specs.Walk.{tabbed}
-use Rattle.names.specs.Names.{listing}
-use Rattle.filtering.specs.SetLines.{cellsFrom, valuesLine}
-use Rattle.binding.specs.Bound.{boundFrom}
+use Rattle.cursor.specs.bridge.Cursor.{left as fieldsLeft}
+use Rattle.emit.specs.bridge.Emit.{em, puts}
+use Rattle.walking.specs.bridge.Walk.{tabbed}
+use Rattle.names.specs.bridge.Names.{listing}
+use Rattle.filtering.specs.bridge.SetLines.{cellsFrom, valuesLine}
+use Rattle.binding.specs.bridge.Bound.{boundFrom}
 use Rattle.binding.proofs.Valued as Vd
 use Rattle.binding.proofs.values.put_bound.Statement.{statement}
 use Rattle.binding.proofs.values.put_bound.Tie as tie

@@ -6,11 +6,11 @@ use native.Mathlib.Omega.{arith}
 use lib.ListN.{length, getD, take, drop, length-set}
 use Rattle.text.specs.Text.{linesFrom}
 use Rattle.text.proofs.Texts.{Ended}
-use Rattle.emit.specs.Emit.{em, puts}
-use Rattle.walking.specs.Walk.{tabbed}
-use Rattle.names.specs.Names.{listing}
-use Rattle.filtering.specs.SetLines.{cellsFrom, valuesLine}
-use Rattle.binding.specs.Bound.{boundFrom}
+use Rattle.emit.specs.bridge.Emit.{em, puts}
+use Rattle.walking.specs.bridge.Walk.{tabbed}
+use Rattle.names.specs.bridge.Names.{listing}
+use Rattle.filtering.specs.bridge.SetLines.{cellsFrom, valuesLine}
+use Rattle.binding.specs.bridge.Bound.{boundFrom}
 use Rattle.binding.proofs.Valued as Vd
 use Rattle.binding.proofs.values.put_values.Statement.{statement}
 use Rattle.binding.proofs.values.put_values.Tie as tie

@@ -1,7 +1,7 @@
 -- `cursor::Cursor/next_field` meets its contract. Assumes nothing.
 use borrow.Author.Needs.{needs}
 use mathlib.Core.Path.{_≡_, refl, sym, _∙_, ap, subst}
-use Rattle.cursor.specs.Cursor.{Reads}
+use Rattle.cursor.specs.bridge.Cursor.{Reads}
 use Rattle.cursor.proofs.Cursor.next_field.Statement.{statement}
 use Rattle.cursor.proofs.Cursor.next_field.Tie as tie
 

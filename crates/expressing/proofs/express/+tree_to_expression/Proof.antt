@@ -5,9 +5,9 @@ use native.Mathlib.Omega.{arith}
 use Prim.Native.Nat.{_+_, _-_}
 use lib.ListN.{length}
 use Rattle.text.specs.Text.{linesFrom, split, part}
-use Rattle.emit.specs.Emit.{em}
-use Rattle.names.specs.Names.{listing}
-use Rattle.filtering.specs.FilterLines.{partsBelow, severalParts, treeToExpression}
+use Rattle.emit.specs.bridge.Emit.{em}
+use Rattle.names.specs.bridge.Names.{listing}
+use Rattle.filtering.specs.bridge.FilterLines.{partsBelow, severalParts, treeToExpression}
 use Rattle.expressing.proofs.Expressed as X
 use Prim.Native.Nat.{ℕ, _<_}
 use borrow.Fn.Kinds.{In}

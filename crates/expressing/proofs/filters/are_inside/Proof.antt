@@ -6,7 +6,7 @@ use native.Mathlib.Omega.{arith}
 use lib.ListN.{length, getD, take, drop, length-set}
 use Rattle.text.specs.Text.{linesFrom}
 use Rattle.scoping.specs.Sets.{all}
-use Rattle.expressing.specs.Filtered.{refBelow}
+use Rattle.expressing.specs.bridge.Filtered.{refBelow}
 use Rattle.expressing.proofs.Counted as C
 use Rattle.expressing.proofs.filters.are_inside.Statement.{statement}
 use Rattle.expressing.proofs.filters.are_inside.Tie as tie

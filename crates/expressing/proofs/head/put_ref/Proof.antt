@@ -1,7 +1,7 @@
 -- `expressing::head/put_ref` meets its contract. Assumes nothing.
 use borrow.Author.Needs.{needs}
 use native.Mathlib.Omega.{arith}
-use Rattle.names.specs.Names.{listing}
+use Rattle.names.specs.bridge.Names.{listing}
 use Rattle.expressing.proofs.Headed as H
 use Rattle.expressing.proofs.head.put_ref.Statement.{statement}
 use Rattle.expressing.proofs.head.put_ref.Tie as tie

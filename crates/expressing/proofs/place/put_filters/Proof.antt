@@ -5,9 +5,9 @@ use mathlib.Core.Path.{_≡_, refl, sym, ap, _∙_}
 use native.Mathlib.Omega.{arith}
 use lib.ListN.{length, getD, take, drop, length-set}
 use Rattle.text.specs.Text.{linesFrom}
-use Rattle.emit.specs.Emit.{em}
-use Rattle.names.specs.Names.{listing}
-use Rattle.filtering.specs.FilterLines.{placedFilters}
+use Rattle.emit.specs.bridge.Emit.{em}
+use Rattle.names.specs.bridge.Names.{listing}
+use Rattle.filtering.specs.bridge.FilterLines.{placedFilters}
 use Rattle.expressing.proofs.Counted as C
 use Rattle.expressing.proofs.place.put_filters.Statement.{statement}
 use Rattle.expressing.proofs.place.put_filters.Tie as tie

@@ -1,6 +1,6 @@
 -- `joining::merge/merge_patterns` meets its contract. Assumes nothing.
 use borrow.Author.Needs.{needs}
-use Rattle.reading.specs.Variables.{treeNames, queryNames}
+use Rattle.reading.specs.bridge.Variables.{treeNames, queryNames}
 use Rattle.reading.proofs.Said as Said
 use Rattle.projects.proofs.Known as K
 use Rattle.joining.proofs.Calls as Calls

@@ -2,10 +2,10 @@
 use borrow.Author.Needs.{needs}
 use native.Mathlib.Omega.{arith}
 use Prim.Native.Nat.{_+_, _*_, _-_, _≤_}
-use Rattle.algebra.specs.Machine.{want}
-use Rattle.words.specs.Code.{sortAt}
-use Rattle.lines.specs.Says.{below}
-use Rattle.lines.specs.Run.{Ready}
+use Rattle.algebra.specs.bridge.Machine.{want}
+use Rattle.words.specs.bridge.Code.{sortAt}
+use Rattle.lines.specs.bridge.Says.{below}
+use Rattle.lines.specs.bridge.Run.{Ready}
 use Rattle.lines.proofs.DescentLaw as D
 use Prim.Native.Nat.{ℕ, _<_}
 use borrow.Fn.Kinds.{In}

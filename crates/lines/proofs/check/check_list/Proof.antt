@@ -4,10 +4,10 @@ use mathlib.Core.Path.{_≡_, refl, sym, _∙_, ap, subst}
 use native.Mathlib.Omega.{arith}
 use Prim.Native.Nat.{_-_}
 use mathlib.Core.List.{[]}
-use Rattle.words.specs.Code.{sortAt}
+use Rattle.words.specs.bridge.Code.{sortAt}
 use Rattle.algebra.specs.Tally.{bounds}
-use Rattle.algebra.specs.Machine.{entries, checkText}
-use Rattle.lines.specs.Run.{Ready, Went}
+use Rattle.algebra.specs.bridge.Machine.{entries, checkText}
+use Rattle.lines.specs.bridge.Run.{Ready, Went}
 use Rattle.lines.proofs.CheckLaw as K
 use Rattle.lines.proofs.check.check_list.Statement.{statement}
 use Rattle.lines.proofs.check.check_list.Tie as tie

@@ -2,7 +2,7 @@
 use borrow.Author.Needs.{needs}
 use mathlib.Core.Path.{_≡_, refl, sym, _∙_, ap, subst}
 use native.Mathlib.Omega.{arith}
-use Rattle.words.specs.Code.{sortAt}
+use Rattle.words.specs.bridge.Code.{sortAt}
 use Rattle.lines.proofs.CheckLaw as K
 use Rattle.lines.proofs.check.check_one.Statement.{statement}
 use Rattle.lines.proofs.check.check_one.Tie as tie

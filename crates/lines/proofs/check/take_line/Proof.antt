@@ -2,7 +2,7 @@
 use borrow.Author.Needs.{needs}
 use mathlib.Core.Path.{_≡_, refl, sym, _∙_, ap, subst}
 use native.Mathlib.Omega.{arith}
-use Rattle.lines.specs.Says.{Small}
+use Rattle.lines.specs.bridge.Says.{Small}
 use Rattle.lines.proofs.DescentLaw as D
 use Rattle.lines.proofs.check.take_line.Statement.{statement}
 use Rattle.lines.proofs.check.take_line.Tie as tie

@@ -7,8 +7,8 @@ use lib.ListN.{length, getD, drop}
 use Rattle.lines.proofs.StepLaw as S
 use Rattle.lines.proofs.FieldsLaw as F
 use denote.Ref.{now}
-use Rattle.algebra.specs.Table.{Slot, term, text, count, choice}
-use Rattle.lines.specs.Steps.{leftAt, restOf, numberTaken}
+use Rattle.algebra.specs.bridge.Table.{Slot, term, text, count, choice}
+use Rattle.lines.specs.bridge.Steps.{leftAt, restOf, numberTaken}
 use Rattle.lines.proofs.fields.choice_field.Statement.{statement}
 use Rattle.lines.proofs.fields.choice_field.Tie as tie
 

@@ -8,8 +8,8 @@ use Rattle.lines.proofs.StepLaw as S
 use Rattle.lines.proofs.RepeatLaw as R
 use Rattle.cursor.proofs.Laws as C
 use denote.Ref.{now}
-use Rattle.algebra.specs.Table.{Slot, term, text, count, choice}
-use Rattle.lines.specs.Steps.{restOf, numberTaken}
+use Rattle.algebra.specs.bridge.Table.{Slot, term, text, count, choice}
+use Rattle.lines.specs.bridge.Steps.{restOf, numberTaken}
 use Rattle.lines.proofs.fields.count_field.Statement.{statement}
 use Rattle.lines.proofs.fields.count_field.Tie as tie
 

@@ -6,9 +6,9 @@ use native.Mathlib.Omega.{arith}
 use lib.ListN.{length, getD, drop}
 use Rattle.lines.proofs.StepLaw as S
 use Rattle.cursor.proofs.Laws as C
-use Rattle.lines.specs.Steps.{restOf}
-use Rattle.algebra.specs.Table.{term}
-use Rattle.text.specs.Code.{kindAt}
+use Rattle.lines.specs.bridge.Steps.{restOf}
+use Rattle.algebra.specs.bridge.Table.{term}
+use Rattle.text.specs.bridge.Code.{kindAt}
 use denote.Ref.{now}
 use Rattle.lines.proofs.fields.term_field.Statement.{statement}
 use Rattle.lines.proofs.fields.term_field.Tie as tie

@@ -6,7 +6,7 @@ use native.Mathlib.Omega.{arith}
 use lib.ListN.{length, getD, drop}
 use Rattle.lines.proofs.StepLaw as S
 use Rattle.cursor.proofs.Laws as C
-use Rattle.lines.specs.Steps.{restOf}
+use Rattle.lines.specs.bridge.Steps.{restOf}
 use denote.Ref.{now}
 use Rattle.lines.proofs.fields.text_field.Statement.{statement}
 use Rattle.lines.proofs.fields.text_field.Tie as tie

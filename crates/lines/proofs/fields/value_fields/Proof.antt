@@ -6,11 +6,11 @@ use native.Mathlib.Omega.{arith}
 use lib.ListN.{length, getD, drop}
 use Rattle.lines.proofs.StepLaw as S
 use Rattle.lines.proofs.RepeatLaw as R
-use Rattle.lines.specs.Steps.{leftAt, restOf, restIn, Along, InLine, Follows}
-use Rattle.lines.specs.Line.{takeField, takeTimes, takeValue, takeValues}
+use Rattle.lines.specs.bridge.Steps.{leftAt, restOf, restIn, Along, InLine, Follows}
+use Rattle.lines.specs.bridge.Line.{takeField, takeTimes, takeValue, takeValues}
 use denote.Ref.{now}
-use Rattle.algebra.specs.Table.{Slot, term, text, count, choice}
-use Rattle.text.specs.Code.{kindAt}
+use Rattle.algebra.specs.bridge.Table.{Slot, term, text, count, choice}
+use Rattle.text.specs.bridge.Code.{kindAt}
 use Rattle.lines.proofs.fields.value_fields.Statement.{statement}
 use Rattle.lines.proofs.fields.value_fields.Tie as tie
 

@@ -7,16 +7,16 @@ use lib.ListN.{length, getD, drop}
 use Rattle.lines.proofs.StepLaw as S
 use Rattle.lines.proofs.RepeatLaw as R
 use Rattle.lines.proofs.FieldsLaw as F
-use Rattle.lines.specs.Steps.{leftAt, restOf, restIn, Along, InLine, Follows}
-use Rattle.lines.specs.Line.{takeField, takeTimes, takeValue, takeValues}
+use Rattle.lines.specs.bridge.Steps.{leftAt, restOf, restIn, Along, InLine, Follows}
+use Rattle.lines.specs.bridge.Line.{takeField, takeTimes, takeValue, takeValues}
 use denote.Ref.{now}
-use Rattle.algebra.specs.Table.{Slot, term, text, count, choice}
-use Rattle.text.specs.Code.{kindAt}
+use Rattle.algebra.specs.bridge.Table.{Slot, term, text, count, choice}
+use Rattle.text.specs.bridge.Code.{kindAt}
 use mathlib.Core.List.{List, [], _++_}
-use Rattle.lines.specs.Steps.{termsOf}
+use Rattle.lines.specs.bridge.Steps.{termsOf}
 use Rattle.text.specs.Field.{variable}
 use Rattle.algebra.specs.Tally.{notes}
-use Rattle.names.specs.Names.{Holds}
+use Rattle.names.specs.bridge.Names.{Holds}
 use Rattle.lines.proofs.LineLaw.{notes-more}
 use Rattle.lines.proofs.fields.variable_fields.Statement.{statement}
 use Rattle.lines.proofs.fields.variable_fields.Tie as tie

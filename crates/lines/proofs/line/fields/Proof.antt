@@ -5,7 +5,7 @@ use mathlib.Core.Path.{_≡_, refl, sym, _∙_, ap, subst}
 use native.Mathlib.Omega.{arith}
 use lib.ListN.{length, getD, drop}
 use Rattle.lines.proofs.SaysLaw as Y
-use Rattle.lines.specs.Steps.{leftAt, restOf, restIn, Along, InLine, Follows}
+use Rattle.lines.specs.bridge.Steps.{leftAt, restOf, restIn, Along, InLine, Follows}
 use denote.Ref.{now}
 use Rattle.lines.proofs.LineLaw.{notes-more}
 use Rattle.lines.proofs.line.fields.Statement.{statement}

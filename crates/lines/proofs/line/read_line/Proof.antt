@@ -8,7 +8,7 @@ use Rattle.lines.proofs.StepLaw as S
 use Rattle.cursor.proofs.Laws as C
 use Rattle.lines.proofs.LineIsLaw as K
 use denote.Ref.{now}
-use Rattle.words.specs.Code.{Tidy}
+use Rattle.words.specs.bridge.Code.{Tidy}
 use Rattle.lines.proofs.line.read_line.Statement.{statement}
 use Rattle.lines.proofs.line.read_line.Tie as tie
 

@@ -5,9 +5,9 @@ use mathlib.Core.Path.{_≡_, refl, sym, _∙_, ap, subst}
 use native.Mathlib.Omega.{arith}
 use lib.ListN.{length, getD, drop}
 use Rattle.lines.proofs.SlotLaw as L
-use Rattle.lines.specs.Steps.{leftAt, restOf, restIn, Along, InLine, Follows}
+use Rattle.lines.specs.bridge.Steps.{leftAt, restOf, restIn, Along, InLine, Follows}
 use denote.Ref.{now}
-use Rattle.text.specs.Code.{kindAt}
+use Rattle.text.specs.bridge.Code.{kindAt}
 use Rattle.lines.proofs.line.slot.Statement.{statement}
 use Rattle.lines.proofs.line.slot.Tie as tie
 

@@ -6,12 +6,12 @@ use native.Mathlib.Omega.{arith}
 use lib.ListN.{length, getD, drop}
 use Rattle.lines.proofs.SlotLaw as L
 use Rattle.lines.proofs.RepeatLaw as R
-use Rattle.lines.specs.Steps.{leftAt, restOf, restIn, Along, InLine, Follows}
+use Rattle.lines.specs.bridge.Steps.{leftAt, restOf, restIn, Along, InLine, Follows}
 use denote.Ref.{now}
-use Rattle.text.specs.Code.{kindAt}
+use Rattle.text.specs.bridge.Code.{kindAt}
 use Rattle.algebra.specs.Tally.{notes}
 use Rattle.lines.proofs.LineLaw.{notes-more}
-use Rattle.lines.specs.Steps.{oneSlot}
+use Rattle.lines.specs.bridge.Steps.{oneSlot}
 use mathlib.Core.List.{[], _∷_}
 use Rattle.lines.proofs.line.slots.Statement.{statement}
 use Rattle.lines.proofs.line.slots.Tie as tie

@@ -7,10 +7,10 @@ use lib.ListN.{length, getD, drop}
 use Rattle.lines.proofs.TailLaw as T
 use Rattle.lines.proofs.SlotLaw as L
 use Rattle.lines.proofs.RepeatLaw as R
-use Rattle.lines.specs.Steps.{leftAt, restOf, restIn, Along, InLine, Follows}
+use Rattle.lines.specs.bridge.Steps.{leftAt, restOf, restIn, Along, InLine, Follows}
 use denote.Ref.{now}
-use Rattle.text.specs.Code.{kindAt}
-use Rattle.words.specs.Code.{tailOf}
+use Rattle.text.specs.bridge.Code.{kindAt}
+use Rattle.words.specs.bridge.Code.{tailOf}
 use Rattle.lines.proofs.line.tail.Statement.{statement}
 use Rattle.lines.proofs.line.tail.Tie as tie
 

@@ -7,7 +7,7 @@ use lib.ListN.{length, getD, drop}
 use Rattle.lines.proofs.StepLaw as S
 use Rattle.lines.proofs.FieldsLaw as F
 use Rattle.cursor.proofs.Laws as C
-use Rattle.lines.specs.Steps.{leftAt, restOf, restIn, Along, InLine, Follows}
+use Rattle.lines.specs.bridge.Steps.{leftAt, restOf, restIn, Along, InLine, Follows}
 use denote.Ref.{now}
 use Rattle.passing.proofs.fields.fields_left.Statement.{statement}
 use Rattle.passing.proofs.fields.fields_left.Tie as tie

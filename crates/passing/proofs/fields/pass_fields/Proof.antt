@@ -6,9 +6,9 @@ use Prim.Native.Nat.{_+_, _≤_}
 use mathlib.Core.List.{List, []}
 use denote.Ref.{now}
 use Rattle.algebra.specs.Tally.{notes}
-use Rattle.words.specs.Code.{rowOf}
-use Rattle.lines.specs.Line.{takeSlots, takeTail}
-use Rattle.lines.specs.Steps.{leftAt, termsIn}
+use Rattle.words.specs.bridge.Code.{rowOf}
+use Rattle.lines.specs.bridge.Line.{takeSlots, takeTail}
+use Rattle.lines.specs.bridge.Steps.{leftAt, termsIn}
 use Rattle.lines.proofs.LineLaw.{notes-more}
 use Rattle.lines.proofs.SaysLaw as Y
 use Rattle.passing.proofs.Extend.{notes-on}

@@ -6,8 +6,8 @@ use Prim.Native.Nat.{_+_, _≤_}
 use denote.Ref.{now}
 use Rattle.text.specs.Field.{variable}
 use Rattle.algebra.specs.Tally.{notes}
-use Rattle.words.specs.Code.{tailOf}
-use Rattle.lines.specs.Steps.{leftAt, oneSlot}
+use Rattle.words.specs.bridge.Code.{tailOf}
+use Rattle.lines.specs.bridge.Steps.{leftAt, oneSlot}
 use Rattle.lines.proofs.TailLaw as T
 use Rattle.lines.proofs.SlotLaw as L
 use Rattle.lines.proofs.RepeatLaw as R

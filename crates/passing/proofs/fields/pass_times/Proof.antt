@@ -6,17 +6,17 @@ use native.Mathlib.Omega.{arith}
 use mathlib.Core.List.{List, [], _++_}
 use lib.ListN.{length}
 use denote.Ref.{now}
-use Rattle.text.specs.Code.{kindAt}
+use Rattle.text.specs.bridge.Code.{kindAt}
 use Rattle.algebra.specs.Tally.{notes}
-use Rattle.names.specs.Names.{Holds}
-use Rattle.lines.specs.Line.{takeField, takeTimes}
-use Rattle.lines.specs.Steps.{leftAt, restOf, restIn, termsOf, Along, InLine, Follows, oneSlot}
+use Rattle.names.specs.bridge.Names.{Holds}
+use Rattle.lines.specs.bridge.Line.{takeField, takeTimes}
+use Rattle.lines.specs.bridge.Steps.{leftAt, restOf, restIn, termsOf, Along, InLine, Follows, oneSlot}
 use Rattle.lines.proofs.LineLaw.{notes-more}
 use Rattle.lines.proofs.RepeatLaw as R
 use Rattle.lines.proofs.FieldsLaw as T
 use Rattle.scoping.specs.Sets.{Once}
-use Rattle.walking.specs.Code.{markAt}
-use Rattle.passing.specs.Code.{aims, Even, Behind, pending, Wrote}
+use Rattle.walking.specs.bridge.Code.{markAt}
+use Rattle.passing.specs.bridge.Code.{aims, Even, Behind, pending, Wrote}
 use Rattle.passing.proofs.Extend.{notes-on}
 use Rattle.passing.proofs.FieldLaws as F
 use Rattle.passing.proofs.fields.pass_times.Statement.{statement}

@@ -3,7 +3,7 @@ use borrow.Author.Needs.{needs}
 use Prim.Native.Nat.{_≤_}
 use mathlib.Core.Path.{_≡_, refl, sym, _∙_, ap}
 use native.Mathlib.Omega.{arith}
-use Rattle.passing.specs.Code.{aims}
+use Rattle.passing.specs.bridge.Code.{aims}
 use Rattle.passing.proofs.LineLaws as L
 use Rattle.passing.proofs.ink.aim.Statement.{statement}
 use Rattle.passing.proofs.ink.aim.Tie as tie

@@ -6,10 +6,10 @@ use mathlib.Core.List.{List, []}
 use Prim.Native.Nat.{_+_, _-_, _≤_}
 use denote.Ref.{now}
 use Rattle.cursor.proofs.Laws as C
-use Rattle.text.specs.Code.{kindAt}
+use Rattle.text.specs.bridge.Code.{kindAt}
 use Rattle.algebra.specs.Tally.{notes}
-use Rattle.lines.specs.Line.{Took}
-use Rattle.lines.specs.Steps.{restOf, termsOf, numberTaken, oneSlot}
+use Rattle.lines.specs.bridge.Line.{Took}
+use Rattle.lines.specs.bridge.Steps.{restOf, termsOf, numberTaken, oneSlot}
 use Rattle.lines.proofs.StepLaw as S
 use Rattle.passing.proofs.FieldLaws as F
 use Rattle.passing.proofs.slots.pass_slot.Statement.{statement}

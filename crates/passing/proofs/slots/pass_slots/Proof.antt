@@ -5,10 +5,10 @@ use native.Mathlib.Omega.{arith}
 use mathlib.Core.List.{List, [], _∷_}
 use Prim.Native.Nat.{_+_, _-_, _≤_}
 use denote.Ref.{now}
-use Rattle.text.specs.Code.{kindAt}
+use Rattle.text.specs.bridge.Code.{kindAt}
 use Rattle.algebra.specs.Tally.{notes}
-use Rattle.lines.specs.Line.{takeField}
-use Rattle.lines.specs.Steps.{leftAt, restOf, termsOf, oneSlot}
+use Rattle.lines.specs.bridge.Line.{takeField}
+use Rattle.lines.specs.bridge.Steps.{leftAt, restOf, termsOf, oneSlot}
 use Rattle.lines.proofs.LineLaw.{notes-more}
 use Rattle.lines.proofs.SlotLaw as L
 use Rattle.lines.proofs.RepeatLaw as R

@@ -4,10 +4,10 @@ use native.Mathlib.Omega.{arith}
 use mathlib.Core.Path.{_≡_, refl, sym, _∙_}
 use lib.ListN.{length}
 use Prim.Native.Nat.{_+_, _*_}
-use Rattle.words.specs.Code.{sortAt}
-use Rattle.walking.specs.Code.{markAt}
-use Rattle.passing.specs.Pass.{times, child, tree}
-use Rattle.passing.specs.Code.{aims, Kept, standing}
+use Rattle.words.specs.bridge.Code.{sortAt}
+use Rattle.walking.specs.bridge.Code.{markAt}
+use Rattle.passing.specs.bridge.Pass.{times, child, tree}
+use Rattle.passing.specs.bridge.Code.{aims, Kept, standing}
 use Rattle.passing.proofs.Cycle as C
 use Prim.Native.Nat.{ℕ, _<_}
 use borrow.Fn.Kinds.{In}

@@ -6,9 +6,9 @@ use native.Mathlib.Omega.{arith}
 use lib.ListN.{length, getD, take, drop, length-set}
 use mathlib.Core.List.{_++_}
 use native.Mathlib.Nat.{zero-add}
-use Rattle.cursor.specs.Cursor.{left}
-use Rattle.names.specs.Names.{listing}
-use Rattle.placing.specs.Fields.{columnsOn}
+use Rattle.cursor.specs.bridge.Cursor.{left}
+use Rattle.names.specs.bridge.Names.{listing}
+use Rattle.placing.specs.bridge.Fields.{columnsOn}
 use Rattle.placing.proofs.Listed as L
 use Rattle.placing.proofs.columns.read_columns.Statement.{statement}
 use Rattle.placing.proofs.columns.read_columns.Tie as tie

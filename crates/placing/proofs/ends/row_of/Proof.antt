@@ -3,7 +3,7 @@ use borrow.Author.Needs.{needs}
 use Prim.Native.Nat.{ℕ, _+_, _-_, _*_, _^_, _≤_, _<_}
 use mathlib.Core.Path.{_≡_, refl, sym, ap, _∙_}
 use native.Mathlib.Omega.{arith}
-use Rattle.algebra.specs.Table.{table, rowIn}
+use Rattle.algebra.specs.bridge.Table.{table, rowIn}
 use Rattle.placing.proofs.Copied as C
 use Rattle.placing.proofs.ends.row_of.Statement.{statement}
 use Rattle.placing.proofs.ends.row_of.Tie as tie

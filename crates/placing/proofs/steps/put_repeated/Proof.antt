@@ -6,8 +6,8 @@ use native.Mathlib.Omega.{arith}
 use lib.ListN.{length, getD, take, drop, length-set}
 use mathlib.Core.List.{[]}
 use Rattle.text.specs.Text.{textOf}
-use Rattle.emit.specs.Emit.{em, puts}
-use Rattle.filtering.specs.SetLines.{repeated}
+use Rattle.emit.specs.bridge.Emit.{em, puts}
+use Rattle.filtering.specs.bridge.SetLines.{repeated}
 use Rattle.placing.proofs.Repeated as R
 use Rattle.placing.proofs.steps.put_repeated.Statement.{statement}
 use Rattle.placing.proofs.steps.put_repeated.Tie as tie

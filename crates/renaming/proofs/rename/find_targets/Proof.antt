@@ -3,7 +3,7 @@ use borrow.Author.Needs.{needs}
 use Prim.Native.Nat.{_-_}
 use native.Mathlib.Omega.{arith}
 use lib.ListN.{length}
-use Rattle.names.specs.Names.{listing}
+use Rattle.names.specs.bridge.Names.{listing}
 use Rattle.renaming.proofs.Targets as T
 use Rattle.renaming.proofs.rename.find_targets.Statement.{statement}
 use Rattle.renaming.proofs.rename.find_targets.Tie as tie

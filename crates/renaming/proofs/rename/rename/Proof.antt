@@ -1,6 +1,6 @@
 -- `renaming::rename/rename` meets its contract. Assumes nothing.
 use borrow.Author.Needs.{needs}
-use Rattle.reading.specs.Variables.{treeNames}
+use Rattle.reading.specs.bridge.Variables.{treeNames}
 use Rattle.reading.proofs.Said as Said
 use Rattle.renaming.proofs.Tables as T
 use Rattle.renaming.proofs.Renamed as R

@@ -1,7 +1,7 @@
 -- `renaming::rename/rename_by` meets its contract. Assumes nothing.
 use borrow.Author.Needs.{needs}
 use Rattle.algebra.specs.Query.{mapping}
-use Rattle.lists.specs.Pairs.{keysOf}
+use Rattle.lists.specs.bridge.Pairs.{keysOf}
 use Rattle.reading.proofs.Said as Said
 use Rattle.renaming.proofs.Renamed as R
 use Rattle.renaming.proofs.rename.rename_by.Statement.{statement}

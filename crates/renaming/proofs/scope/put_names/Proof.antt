@@ -5,10 +5,10 @@ use mathlib.Core.Path.{_≡_, refl, sym, ap, _∙_}
 use native.Mathlib.Nat.{add-zero}
 use native.Mathlib.Omega.{arith}
 use lib.ListN.{length, drop}
-use Rattle.names.specs.Names.{listing}
-use Rattle.emit.specs.Emit.{em}
-use Rattle.walking.specs.Flags.{chosen}
-use Rattle.renaming.specs.Code.{tabbed}
+use Rattle.names.specs.bridge.Names.{listing}
+use Rattle.emit.specs.bridge.Emit.{em}
+use Rattle.walking.specs.bridge.Flags.{chosen}
+use Rattle.renaming.specs.bridge.Code.{tabbed}
 use Rattle.renaming.proofs.Lists as L
 use Rattle.renaming.proofs.scope.put_names.Statement.{statement}
 use Rattle.renaming.proofs.scope.put_names.Tie as tie

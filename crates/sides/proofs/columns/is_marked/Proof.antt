@@ -4,9 +4,9 @@ use Prim.Native.Nat.{ℕ, _+_, _-_, _*_, _^_, _≤_, _<_}
 use mathlib.Core.Path.{_≡_, refl, sym, ap, _∙_}
 use native.Mathlib.Omega.{arith}
 use lib.ListN.{length, getD, take, drop, length-set}
-use Rattle.cursor.specs.Cursor.{left}
+use Rattle.cursor.specs.bridge.Cursor.{left}
 use Rattle.algebra.specs.Valid.{mem}
-use Rattle.sides.specs.Columns.{picked}
+use Rattle.sides.specs.bridge.Columns.{picked}
 use Rattle.sides.proofs.Picked as L
 use Rattle.sides.proofs.columns.is_marked.Statement.{statement}
 use Rattle.sides.proofs.columns.is_marked.Tie as tie

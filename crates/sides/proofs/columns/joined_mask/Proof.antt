@@ -5,8 +5,8 @@ use mathlib.Core.Path.{_≡_, refl, sym, ap, _∙_}
 use native.Mathlib.Omega.{arith}
 use lib.ListN.{length, getD, take, drop, length-set}
 use native.Mathlib.Nat.{zero-add}
-use Rattle.cursor.specs.Cursor.{left}
-use Rattle.sides.specs.Columns.{columnsIn, maskOf, picked, goneBits}
+use Rattle.cursor.specs.bridge.Cursor.{left}
+use Rattle.sides.specs.bridge.Columns.{columnsIn, maskOf, picked, goneBits}
 use Rattle.sides.proofs.Masks as M
 use Rattle.sides.proofs.Gone as G
 use Rattle.sides.proofs.columns.joined_mask.Statement.{statement}

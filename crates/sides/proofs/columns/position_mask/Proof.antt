@@ -5,7 +5,7 @@ use mathlib.Core.Path.{_≡_, refl, sym, ap, _∙_}
 use native.Mathlib.Omega.{arith}
 use lib.ListN.{length, getD, take, drop, length-set}
 use lib.Dec.{ltb}
-use Rattle.sides.specs.Columns.{maskOf}
+use Rattle.sides.specs.bridge.Columns.{maskOf}
 use Rattle.sides.proofs.Masks as M
 use Rattle.sides.proofs.Places as P
 use Rattle.sides.proofs.columns.position_mask.Statement.{statement}

@@ -4,10 +4,10 @@ use Prim.Native.Nat.{ℕ, _+_, _-_, _*_, _^_, _≤_, _<_}
 use mathlib.Core.Path.{_≡_, refl, sym, ap, _∙_}
 use native.Mathlib.Omega.{arith}
 use lib.ListN.{length, getD, take, drop, length-set}
-use Rattle.cursor.specs.Cursor.{left as fieldsLeft}
-use Rattle.emit.specs.Emit.{em, puts}
-use Rattle.walking.specs.Walk.{tabbed}
-use Rattle.sides.specs.Columns.{picked}
+use Rattle.cursor.specs.bridge.Cursor.{left as fieldsLeft}
+use Rattle.emit.specs.bridge.Emit.{em, puts}
+use Rattle.walking.specs.bridge.Walk.{tabbed}
+use Rattle.sides.specs.bridge.Columns.{picked}
 use Rattle.sides.proofs.Picked as L
 use Rattle.sides.proofs.columns.put_columns.Statement.{statement}
 use Rattle.sides.proofs.columns.put_columns.Tie as tie

@@ -7,9 +7,9 @@ use lib.ListN.{length, getD, take, drop, length-set}
 use mathlib.Core.List.{List}
 use mathlib.Core.Bool.{false}
 use Rattle.algebra.specs.Query.{Pair}
-use Rattle.emit.specs.Emit.{em, puts}
-use Rattle.walking.specs.Walk.{tabbed}
-use Rattle.sides.specs.Listed.{Kept, termsFrom}
+use Rattle.emit.specs.bridge.Emit.{em, puts}
+use Rattle.walking.specs.bridge.Walk.{tabbed}
+use Rattle.sides.specs.bridge.Listed.{Kept, termsFrom}
 use Rattle.sides.proofs.Positions as Q
 use Rattle.sides.proofs.list.put_terms.Statement.{statement}
 use Rattle.sides.proofs.list.put_terms.Tie as tie

@@ -6,7 +6,7 @@ use native.Mathlib.Omega.{arith}
 use lib.ListN.{length, getD, take, drop, length-set}
 use mathlib.Core.List.{List}
 use Rattle.algebra.specs.Query.{Pair}
-use Rattle.sides.specs.Listed.{Listed}
+use Rattle.sides.specs.bridge.Listed.{Listed}
 use Rattle.sides.proofs.Positions.{Going}
 use Rattle.sides.proofs.Positions as Q
 use Rattle.sides.proofs.list.read_positions.Statement.{statement}

@@ -6,8 +6,8 @@ use native.Mathlib.Omega.{arith}
 use lib.ListN.{length, getD, take, drop, length-set}
 use native.Mathlib.Nat.{zero-add}
 use mathlib.Core.List.{_++_, map}
-use Rattle.cursor.specs.Cursor.{left}
-use Rattle.names.specs.Names.{listing}
+use Rattle.cursor.specs.bridge.Cursor.{left}
+use Rattle.names.specs.bridge.Names.{listing}
 use Rattle.scoping.specs.Sets.{indexOf}
 use Rattle.sides.proofs.Entries as N
 use Rattle.sides.proofs.Gone as G

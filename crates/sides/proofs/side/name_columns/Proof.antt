@@ -3,7 +3,7 @@ use borrow.Author.Needs.{needs}
 use mathlib.Core.Path.{_≡_, refl, sym, ap, _∙_}
 use native.Mathlib.Omega.{arith}
 use Rattle.scoping.specs.Premises.{sideName}
-use Rattle.sides.specs.Side.{Renames}
+use Rattle.sides.specs.bridge.Side.{Renames}
 use Rattle.sides.proofs.Trees as T
 use Rattle.sides.proofs.Sides as S
 use Rattle.sides.proofs.side.name_columns.Statement.{statement}

@@ -7,8 +7,8 @@ use lib.ListN.{length, getD, take, drop, length-set}
 use Rattle.sides.proofs.Sides as S
 use mathlib.Core.Bool.{false}
 use Rattle.scoping.specs.Premises.{inside}
-use Rattle.sides.specs.Listed.{positionsIn}
-use Rattle.sides.specs.Side.{PreparedIs}
+use Rattle.sides.specs.bridge.Listed.{positionsIn}
+use Rattle.sides.specs.bridge.Side.{PreparedIs}
 use Rattle.sides.proofs.side.prepare.Statement.{statement}
 use Rattle.sides.proofs.side.prepare.Tie as tie
 

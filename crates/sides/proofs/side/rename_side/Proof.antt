@@ -3,7 +3,7 @@ use borrow.Author.Needs.{needs}
 use mathlib.Core.Path.{_≡_, refl, sym, ap, _∙_}
 use mathlib.Core.List.{[]}
 use Rattle.text.specs.Text.{textOf}
-use Rattle.emit.specs.Emit.{puts}
+use Rattle.emit.specs.bridge.Emit.{puts}
 use Rattle.sides.proofs.Trees as T
 use Rattle.sides.proofs.side.rename_side.Statement.{statement}
 use Rattle.sides.proofs.side.rename_side.Tie as tie

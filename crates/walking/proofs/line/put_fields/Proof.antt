@@ -4,11 +4,11 @@ use Prim.Native.Nat.{_+_, _-_, _≤_}
 use mathlib.Core.Path.{_≡_, refl, sym, _∙_}
 use native.Mathlib.Omega.{arith}
 use lib.ListN.{length}
-use Rattle.cursor.specs.Cursor.{left}
-use Rattle.words.specs.Code.{rowOf}
-use Rattle.names.specs.Names.{listing}
-use Rattle.walking.specs.Walk.{output, putFields}
-use Rattle.walking.specs.Code.{markAt, replacement}
+use Rattle.cursor.specs.bridge.Cursor.{left}
+use Rattle.words.specs.bridge.Code.{rowOf}
+use Rattle.names.specs.bridge.Names.{listing}
+use Rattle.walking.specs.bridge.Walk.{output, putFields}
+use Rattle.walking.specs.bridge.Code.{markAt, replacement}
 use Rattle.walking.proofs.Laws as L
 use Rattle.walking.proofs.line.put_fields.Statement.{statement}
 use Rattle.walking.proofs.line.put_fields.Tie as tie

@@ -4,10 +4,10 @@ use native.Mathlib.Omega.{arith}
 use mathlib.Core.Path.{_≡_, refl, sym, _∙_}
 use lib.ListN.{length}
 use Prim.Native.Nat.{_+_, _*_}
-use Rattle.words.specs.Code.{sortAt}
-use Rattle.names.specs.Names.{listing}
-use Rattle.walking.specs.Walk.{times, child, tree}
-use Rattle.walking.specs.Code.{here, renames, markAt}
+use Rattle.words.specs.bridge.Code.{sortAt}
+use Rattle.names.specs.bridge.Names.{listing}
+use Rattle.walking.specs.bridge.Walk.{times, child, tree}
+use Rattle.walking.specs.bridge.Code.{here, renames, markAt}
 use Rattle.walking.proofs.Cycle as C
 use Prim.Native.Nat.{ℕ, _<_}
 use borrow.Fn.Kinds.{In}

@@ -2,8 +2,8 @@
 use mathlib.Core.Path.{_≡_, refl, sym, ap}
 use Prim.Native.Nat.{ℕ}
 use mathlib.Core.Logic.{inr}
-use Rattle.algebra.specs.Table.{rowsOf, heads}
-use Rattle.words.specs.Key.{keyOf, rowBy}
+use Rattle.algebra.specs.bridge.Table.{rowsOf, heads}
+use Rattle.words.specs.bridge.Key.{keyOf, rowBy}
 use Rattle.words.proofs.ByKey.{no-key, few}
 use Rattle.words.proofs.rows.head_row.Statement.{statement}
 use Rattle.words.proofs.rows.head_row.Tie as tie

@@ -1,0 +1,4 @@
+pub mod Table
+pub mod Machine
+pub mod Answers
+pub mod Verdict

@@ -1,0 +1,4 @@
+pub mod Terms
+pub mod SetLines
+pub mod FilterLines
+pub mod Copying

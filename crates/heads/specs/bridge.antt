@@ -1,0 +1,2 @@
+pub mod TreeAt
+pub mod Known

@@ -1,0 +1,58 @@
+-- What the descent says of the line machine's run. Assumes nothing.
+use Prim.Native.Nat.{ℕ, zero, suc, _≤_, _<_}
+use mathlib.Core.Path.{_≡_}
+use mathlib.Core.List.{List}
+use lib.ListN.{length}
+use Rattle.text.specs.Text.{Bytes, linesFrom}
+use Rattle.algebra.specs.Tally.{Tally, bounds}
+use Rattle.algebra.specs.Reader.{malformed, overBound}
+use Rattle.algebra.specs.bridge.Machine.{Want, More, Check, good, bad, run}
+use Rattle.algebra.specs.declared.Answer.{Answer}
+use Rattle.algebra.specs.declared.Answer.the-variants as A
+use Rattle.names.specs.bridge.Names.{Holds}
+use Rattle.lines.specs.declared.check.Place.{Place}
+use Rattle.lines.specs.declared.check.Taken.{Taken}
+
+-- a place of a text that is not too long, where no fault was met; a line has a byte at least
+pub record Ready (s : Bytes) (p : Place) : Type 0 where
+  pub short : length s ≤ 16384
+  pub few : p .lines ≤ p .from
+  pub going : p .fault ≡ 0
+
+-- the machine has counted what the check has, and the table holds its names
+pub record Stood (s : Bytes) (starts sizes hints : List ℕ) (p : Place) (m : Tally) : Type 0 where
+  pub lines : m .lines ≡ p .lines
+  pub wide : m .wide ≤ 64
+  pub names : Holds s starts sizes hints (p .n) (m .names)
+
+-- the run x goes on from p with ws to come, or ends with the same fault
+pub record Went (s : Bytes) (starts sizes hints : List ℕ) (ρ : More) (ws : List Want) (x : Check) (p : Place) : Type 0 where
+  pub on : p .fault ≡ 0 → (m : Tally) × (x ≡ run bounds (linesFrom s (p .from)) ρ ws m) × Stood s starts sizes hints p m
+  pub wrong : p .fault ≡ 1 → x ≡ bad malformed
+  pub over : (p .fault ≡ 0 → ⊥) → (p .fault ≡ 1 → ⊥) → x ≡ bad overBound
+
+-- what a good line from p on asks for is of known sorts, and its numbers are those of a field
+pub record Sound (s : Bytes) (p : Place) (r : Taken) : Type 0 where
+  pub inside : p .from < 16384
+  pub behind : p .from < r .place .from
+  pub ready : Ready s (r .place)
+  pub sorts : (r .row .9 ≤ 11) × (r .row .12 ≤ 11) × (r .row .15 ≤ 11)
+  pub small : (r .first < 4294967296) × (r .second < 4294967296)
+
+-- an entry of a list has so many levels; one too many has none
+abbrev pub levelFor : ℕ → ℕ → ℕ
+levelFor zero d = 0
+levelFor (suc n) d = d
+
+-- the answer at the end of the text, or the fault
+pub record Told (s : Bytes) (p : Place) (r : Answer) : Type 0 where
+  pub whole : p .fault ≡ 0 → length s ≤ p .from → r ≡ A.Good (p .n)
+  pub left : p .fault ≡ 0 → p .from < length s → r ≡ A.Malformed
+  pub wrong : p .fault ≡ 1 → r ≡ A.Malformed
+  pub over : (p .fault ≡ 0 → ⊥) → (p .fault ≡ 1 → ⊥) → r ≡ A.OverBound
+
+-- the answer of a whole check, and the names that it kept
+unfoldable pub Tells : Bytes → List ℕ → List ℕ → List ℕ → Check → Answer → Type 0
+Tells s a l h (good m) r = (n : ℕ) × (r ≡ A.Good n) × Holds s a l h n (m .names)
+Tells s a l h (bad malformed) r = r ≡ A.Malformed
+Tells s a l h (bad overBound) r = r ≡ A.OverBound

@@ -1,0 +1,48 @@
+-- What the code says of a whole line, by what the line's definition and the line machine make of it. Assumes nothing.
+use Prim.Native.Nat.{ℕ, suc, _+_, _≤_, _<_, pred}
+use mathlib.Core.Path.{_≡_}
+use mathlib.Core.List.{List, [], _∷_}
+use mathlib.Core.Bool.{Bool, true, false, cond}
+use mathlib.Core.Option.{Option, none, some}
+use lib.ListN.{getD}
+use Rattle.text.specs.Text.{Bytes, split, part}
+use Rattle.cursor.specs.declared.Cursor.{Cursor}
+use Rattle.algebra.specs.Tally.{Tally, bounds}
+use Rattle.algebra.specs.Reader.{malformed, overBound, got, refused}
+use Rattle.algebra.specs.bridge.Table.{Tail, opens}
+use Rattle.algebra.specs.bridge.Machine.{Want, want, wants, lineOf}
+use Rattle.words.specs.declared.Found.the-variants.{Is}
+use Rattle.words.specs.bridge.Code.{sortAt, rowOf, Tidy}
+use Rattle.names.specs.bridge.Names.{Holds}
+use Rattle.lines.specs.declared.line.Line.{Line}
+use Rattle.lines.specs.declared.line.Line.the-variants.{Asks, Malformed, OverBound}
+use Rattle.lines.specs.bridge.Line.{Fields, columnsOf}
+use Rattle.lines.specs.bridge.Steps.{Along, termsIn}
+
+-- one past the line's end everything was taken, with these numbers and columns; elsewhere it could not be
+pub record Says (c : Cursor) (o : Option Fields) (t : Tail) (d : Cursor) (first second width : ℕ) : Type 0 where
+  pub along : Along c d
+  pub small : (first < 4294967296) × (second < 4294967296)
+  pub whole : d .at ≡ c .end + 1 → (u : Fields) × (o ≡ some u) × (getD (u .numbers) 0 0 ≡ first) × (getD (u .numbers) 1 0 ≡ second) × (columnsOf t (u .terms) ≡ width)
+  pub broken : (d .at ≡ c .end + 1 → ⊥) → o ≡ none
+
+-- how many levels may be opened below a line
+abbrev pub below : ℕ → ℕ → ℕ
+below sort level = cond (opens (sortAt sort)) (pred level) level
+
+-- the line is refused as the machine refuses it; or it asks for the same lines, counts the same, and keeps the same names
+unfoldable pub LineIs : Bytes → List ℕ → List ℕ → List ℕ → Cursor → ℕ → ℕ → ℕ → Tally → Line → Type 0
+LineIs s starts sizes hints c sort level width m Malformed = lineOf bounds (want (sortAt sort) level width) (split 9 (part (c .at) (c .end) s) ∷ []) m ≡ refused malformed
+LineIs s starts sizes hints c sort level width m OverBound = lineOf bounds (want (sortAt sort) level width) (split 9 (part (c .at) (c .end) s) ∷ []) m ≡ refused overBound
+LineIs s starts sizes hints c sort level width m (Asks a) =
+    (cs : List ℕ) × (m′ : Tally)
+    × (lineOf bounds (want (sortAt sort) level width) (split 9 (part (c .at) (c .end) s) ∷ []) m ≡ got (wants (below sort level) cs (rowOf (a .row) .below)) [] m′)
+    × (getD cs 0 0 ≡ a .first) × (getD cs 1 0 ≡ a .second) × (a .first < 4294967296) × (a .second < 4294967296)
+    × (m′ .lines ≡ suc (m .lines)) × (m′ .wide ≤ 64) × Holds s starts sizes hints (a .names) (m′ .names) × (a .names ≤ 1024)
+    × Tidy sort (Is (a .row)) × (opens (sortAt sort) ≡ true → level ≡ 0 → ⊥)
+
+-- the numbers of a good line are those of a field, and its row is one of the table
+abbrev pub Small : ℕ → ℕ → Line → Type 0
+Small sort level (Asks a) = (a .first < 4294967296) × (a .second < 4294967296) × Tidy sort (Is (a .row))
+Small sort level Malformed = Unit {0}
+Small sort level OverBound = Unit {0}

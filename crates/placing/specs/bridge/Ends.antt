@@ -1,0 +1,19 @@
+-- Where a pattern's lines end. Assumes nothing.
+use Prim.Native.Nat.{ℕ, _≤_}
+use mathlib.Core.Path.{_≡_}
+use mathlib.Core.List.{List, _++_}
+use lib.ListN.{length}
+use Rattle.text.specs.Text.{Bytes, Line, textOf, part, linesFrom}
+use Rattle.text.proofs.Texts.{Ended}
+use Rattle.words.specs.declared.Row.{Row as Code}
+use Rattle.filtering.specs.bridge.Copying.{copying}
+
+-- the numbers of lines that a row says itself are small
+abbrev pub Small : Code → Type 0
+Small c = (c .7 ≤ 3) × (c .10 ≤ 3) × (c .13 ≤ 3)
+
+-- the bytes from one place to the other are those of the pattern's own lines, if all lines are ended
+pub record EndsAt (s : Bytes) (from to : ℕ) : Type 0 where
+  pub low : from ≤ to
+  pub high : to ≤ length s
+  pub copied : Ended (linesFrom s from) → (v : List Line) → textOf (copying (linesFrom s from) 1 v) ≡ part from to s ++ textOf v

@@ -1,0 +1,89 @@
+-- What the calls that join know once their texts are checked, and what is to come of it. Assumes nothing.
+use Prim.Native.Nat.{ℕ, _≤_}
+use mathlib.Core.Path.{_≡_}
+use mathlib.Core.List.{List, [], _∷_, _++_}
+use mathlib.Core.Bool.{true, false}
+use lib.ListN.{length, take}
+use Rattle.text.specs.Text.{Bytes}
+use Rattle.algebra.specs.Tree.{Pattern}
+use Rattle.algebra.specs.Query.{Pair}
+use Rattle.algebra.specs.Layout.{layout}
+use Rattle.algebra.specs.Reader.{reads}
+use Rattle.algebra.specs.declared.Answer.{Answer as Check}
+use Rattle.algebra.specs.declared.Answer.the-variants.{Good, Malformed, OverBound}
+use Rattle.answers.specs.Outcome.{Outcome, refused, written, then, refusedUnless}
+use Rattle.scoping.specs.Premises.{inside, differentPositions}
+use Rattle.merging.specs.Sides.{Constant, Pair as Joined}
+use Rattle.merging.specs.Request.{Projection, tree, readJoins, readConstants, joinPositions, byPosition, constantsIn, positions, request, allInside}
+use Rattle.merging.specs.Merge.{lists, mergeProjectPatterns, mergeTrees}
+use Rattle.merging.specs.Push.{pushConstantsInProjectPattern}
+use Rattle.sides.specs.bridge.Listed.{Listed, positionsIn}
+use Rattle.sides.specs.bridge.Side.{TreeIn}
+
+-- a tree stands in a text from a place on, and no project at its root has more than 64 columns
+pub record Stands (s : Bytes) (at : ℕ) (a l h : List ℕ) (n : ℕ) (p : Pattern) : Type 0 where
+  pub tree-in : TreeIn s at a l h n p
+  pub narrow : (x : Projection) → p ≡ tree x → length (x .columns) ≤ 64
+
+-- a text is a constant list of these lines
+pub record Terms (s : Bytes) (ks : List Pair) : Type 0 where
+  pub listed : Listed s ks
+  pub different : differentPositions (positionsIn false ks) ≡ true
+
+-- a text that is a constant list's, and what it says
+pub record KnownTerms (s : Bytes) : Type 0 where
+  pub list : List Pair
+  pub terms : Terms s list
+  pub read : readConstants s ≡ reads (byPosition (constantsIn list))
+
+-- ---- one side
+
+-- 3 if a position is outside, else what stands before the tree and the tree with its constants
+abbrev pub pushedBehind : Bytes → Projection → List Pair → Outcome
+pushedBehind head x ks =
+    refusedUnless 3 (inside (x .columns) (positions (byPosition (constantsIn ks))))
+    (written (head ++ layout (pushConstantsInProjectPattern x (byPosition (constantsIn ks)))))
+
+-- ---- two sides
+
+-- the lists of a merge
+pub record Lists (pairs leftConstants rightConstants : Bytes) (js ks ls : List Pair) : Type 0 where
+  pub joins : Listed pairs js
+  pub left-terms : Terms leftConstants ks
+  pub right-terms : Terms rightConstants ls
+
+-- 4, 3, else what stands before the left tree and the merged tree
+abbrev pub mergedBehind : Bytes → Pattern → Pattern → List Pair → List Pair → List Pair → Outcome
+mergedBehind head p q js ks ls = mergeTrees p q (joinPositions js) (byPosition (constantsIn ks)) (byPosition (constantsIn ls)) (λ t. written (head ++ layout t))
+
+-- the same for two projects
+abbrev pub joinedBehind : Bytes → Projection → Projection → List Pair → List Pair → List Pair → Outcome
+joinedBehind head x y js ks ls =
+    refusedUnless 3 (allInside (request x y (joinPositions js) (byPosition (constantsIn ks)) (byPosition (constantsIn ls))))
+    (written (head ++ layout (mergeProjectPatterns (request x y (joinPositions js) (byPosition (constantsIn ks)) (byPosition (constantsIn ls))))))
+
+-- ---- the lists of a merge, checked
+
+-- what they say
+pub record ListsRead (pairs leftConstants rightConstants : Bytes) : Type 0 where
+  pub js : List Pair
+  pub joins : Listed pairs js
+  pub joins-read : readJoins pairs ≡ reads (joinPositions js)
+  pub left : KnownTerms leftConstants
+  pub right : KnownTerms rightConstants
+
+-- left and right constants, in this order
+abbrev pub bothTerms : Bytes → Bytes → (List Constant → List Constant → Outcome) → Outcome
+bothTerms a b k = then (readConstants a) λ ks. then (readConstants b) λ ls. k ks ls
+
+-- both constant lists are read, or what asks for them is refused
+unfoldable pub TermsChecked : Bytes → Bytes → Check → Type 0
+TermsChecked a b (Good n) = KnownTerms a × KnownTerms b
+TermsChecked a b Malformed = (k : List Constant → List Constant → Outcome) → bothTerms a b k ≡ refused 1
+TermsChecked a b OverBound = (k : List Constant → List Constant → Outcome) → bothTerms a b k ≡ refused 2
+
+-- all three are read, or what asks for them is refused
+unfoldable pub ListsChecked : Bytes → Bytes → Bytes → Check → Type 0
+ListsChecked pairs a b (Good n) = ListsRead pairs a b
+ListsChecked pairs a b Malformed = (k : List Joined → List Constant → List Constant → Outcome) → lists pairs a b k ≡ refused 1
+ListsChecked pairs a b OverBound = (k : List Joined → List Constant → List Constant → Outcome) → lists pairs a b k ≡ refused 2

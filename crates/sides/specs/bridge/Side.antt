@@ -1,0 +1,92 @@
+-- What the code finds of a side: its names, its line of renamed columns, its masks; and the lines that it writes. Assumes nothing.
+use Prim.Native.Nat.{ℕ, zero, suc, _≤_, _<_}
+use mathlib.Core.Path.{_≡_}
+use mathlib.Core.List.{List, [], _∷_, map}
+use mathlib.Core.Bool.{Bool, true, false, _&&_}
+use lib.ListN.{length, getD, take}
+use Rattle.text.specs.Text.{Bytes, Line, linesFrom}
+use Rattle.text.specs.Word.{bytes}
+use Rattle.text.specs.Field.{decimal}
+use Rattle.algebra.specs.Tree.{Pattern}
+use Rattle.algebra.specs.Query.{Pair}
+use Rattle.algebra.specs.Valid.{Valid, mem}
+use Rattle.algebra.specs.Depth.{depth}
+use Rattle.algebra.specs.Layout.{put}
+use Rattle.names.specs.bridge.Names.{listing, Holds}
+use Rattle.scoping.specs.Sets.{indexOf}
+use Rattle.scoping.specs.Numbering.{byPlace}
+use Rattle.scoping.specs.Premises.{sideName, inside}
+use Rattle.walking.specs.bridge.Code.{replacement}
+use Rattle.merging.specs.Request.{Projection, tree}
+use Rattle.merging.specs.Names.{from as countFrom, isAt}
+use Rattle.sides.specs.declared.side.Side.{Side}
+use Rattle.sides.specs.declared.side.Prepared.{Prepared}
+use Rattle.sides.specs.declared.side.Prepared.the-variants.{Outside, Ready}
+use Rattle.sides.specs.bridge.Columns.{columnsIn, maskOf}
+use Rattle.sides.specs.bridge.Listed.{Listed, positionsIn, Kept}
+
+-- a tree stands in a text from a place on, within the bounds, and the table lists its names
+pub record TreeIn (s : Bytes) (at : ℕ) (a l h : List ℕ) (n : ℕ) (p : Pattern) : Type 0 where
+  pub lines : linesFrom s at ≡ put p []
+  pub valid : Valid p
+  pub deep : depth p ≤ 64
+  pub few : length (byPlace p) ≤ 1024
+  pub table : Holds s a l h n (byPlace p)
+
+-- the names of a table of n become what a map says, and no entry behind them is set
+pub record Renames (ns : List Bytes) (n : ℕ) (pool targets spans : List ℕ) (new : Bytes → Bytes) : Type 0 where
+  pub found : (f : Bytes) → mem f ns ≡ true → replacement ns pool targets spans f ≡ new f
+  pub behind : (k : ℕ) → n ≤ k → getD spans k 0 ≡ 0
+
+-- the entries of fields among the names of a table
+abbrev pub entriesOf : List Bytes → List Bytes → List ℕ
+entriesOf ns fs = map (λ f. indexOf f ns) fs
+
+-- the mask of the positions that are listed, of c columns
+abbrev pub maskAt : List ℕ → ℕ → ℕ
+maskAt ps c = maskOf (map (λ i. isAt i ps) (countFrom 0 c))
+
+-- the new names that standardize_variables gives
+abbrev pub newNames : ℕ → Bool → Projection → List Pair → Bytes → Bytes
+newNames prefix second x js = sideName prefix (x .columns) (x .inner) (positionsIn second js)
+
+-- what a side is made of: a projection within the bounds, and two lists that were checked
+pub record Asked (s : Bytes) (at : ℕ) (a l h : List ℕ) (n : ℕ) (pairs constants : Bytes) : Type 0 where
+  pub projection : Projection
+  pub stands : TreeIn s at a l h n (tree projection)
+  pub narrow : length (projection .columns) ≤ 64
+  pub joins : List Pair
+  pub joins-listed : Listed pairs joins
+  pub terms : List Pair
+  pub terms-listed : Listed constants terms
+
+-- what was found for a projection, a join list and constants
+pub record SideIs (text : Bytes) (starts sizes : List ℕ) (n prefix : ℕ) (second : Bool) (constants : Bytes) (x : Projection) (js ks : List Pair) (pool targets spans line at lines : List ℕ) (s : Side) : Type 0 where
+  pub renames : Renames (listing text starts sizes n) n pool targets spans (newNames prefix second x js)
+  pub columns : columnsIn line (s .end) ≡ map (newNames prefix second x js) (x .columns)
+  pub end : s .end ≤ length line
+  pub width : s .columns ≡ length (x .columns)
+  pub constant : s .constant ≡ maskAt (positionsIn false ks) (length (x .columns))
+  pub joined : s .joined ≡ maskAt (positionsIn second js) (length (x .columns))
+  pub inner : linesFrom text (s .inner) ≡ put (x .inner) []
+  pub kept : Kept constants ks false at lines (s .constants)
+
+-- a position is outside the projection, or what was found is ready
+unfoldable pub PreparedIs : Bytes → List ℕ → List ℕ → ℕ → ℕ → Bool → Bytes → Projection → List Pair → List Pair → List ℕ → List ℕ → List ℕ → List ℕ → List ℕ → List ℕ → Prepared → Type 0
+PreparedIs text starts sizes n prefix second constants x js ks pool targets spans line at lines Outside =
+    (inside (x .columns) (positionsIn second js) && inside (x .columns) (positionsIn false ks)) ≡ false
+PreparedIs text starts sizes n prefix second constants x js ks pool targets spans line at lines (Ready s) =
+    (inside (x .columns) (positionsIn second js) ≡ true) × (inside (x .columns) (positionsIn false ks) ≡ true)
+    × SideIs text starts sizes n prefix second constants x js ks pool targets spans line at lines s
+
+-- ---- the lines that are written
+
+-- with m constants, a join in front
+abbrev pub joinLine : ℕ → List Line → List Line
+joinLine zero t = t
+joinLine (suc m) t = (bytes "join" ∷ []) ∷ t
+
+-- with m constants, a Values of one row behind: so many columns, their names, their terms
+abbrev pub valuesLines : ℕ → ℕ → List Bytes → List Bytes → List Line → List Line
+valuesLines zero n cs ts t = t
+valuesLines (suc m) n cs ts t = (bytes "values" ∷ decimal n ∷ decimal 1 ∷ []) ∷ (bytes "cols" ∷ cs) ∷ (bytes "row" ∷ ts) ∷ t

@@ -1,0 +1,19 @@
+-- A word as one number, by which the code finds its row. Assumes nothing.
+use Prim.Native.Nat.{ℕ, _+_, _*_, _%_}
+use mathlib.Core.Bool.{cond}
+use mathlib.Core.List.{List, [], _∷_}
+use mathlib.Core.Option.{Option, none, some}
+use lib.Dec.{eqb}
+use Rattle.text.specs.Text.{Bytes}
+use Rattle.algebra.specs.bridge.Table.{Row, Entry}
+
+-- the bytes behind those of k as one number, of which 64 bits are kept
+unfoldable pub keyOf : ℕ → Bytes → ℕ
+keyOf k [] = k
+keyOf k (x ∷ xs) = keyOf (k % 72057594037927936 * 256 + x) xs
+
+-- the first row whose word has this key
+unfoldable pub rowBy : ℕ → List Entry → Option Row
+unfolding keyOf
+rowBy k [] = none
+rowBy k (e ∷ es) = cond (eqb k (keyOf 0 (e .word))) (some (e .row)) (rowBy k es)
