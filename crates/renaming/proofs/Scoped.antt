@@ -1,52 +1,69 @@
--- The call scope, from the pass's flags to its two lines. Assumes nothing.
+-- The call scope, from the walk's flags to its two lines. Assumes nothing.
 use Prim.Native.Nat.{ℕ, _≤_, _<_}
 use mathlib.Core.Path.{_≡_, refl, sym, ap, ap₂, _∙_}
 use mathlib.Core.List.{List, [], _∷_}
 use mathlib.Core.Bool.{Bool, true, false, cond}
 use lib.ListN.{length, replicate}
-use Rattle.text.specs.Text.{Bytes, textOf}
+use Rattle.text.specs.Text.{Bytes, Line, textOf, linesFrom}
 use Rattle.text.specs.Word.{bytes}
-use Rattle.algebra.specs.Tree.{Pattern}
-use Rattle.algebra.specs.Bounded.{IsTree}
-use Rattle.algebra.specs.Tally.{bounds}
-use Rattle.algebra.proofs.Theorem.{tree-exactly}
+use Rattle.algebra.specs.Valid.{mem}
+use Rattle.algebra.specs.bridge.Table.{patterns}
 use Rattle.algebra.specs.Reader.{Outcome as Reading, reads, refuses, malformed, overBound, refusalNumber}
 use Rattle.algebra.specs.Texts.{readTree}
+use Rattle.algebra.specs.declared.Answer.the-variants as Check
+use Rattle.emit.specs.bridge.Emit.{em, last, puts}
 use Rattle.names.specs.bridge.Names.{listing}
+use Rattle.names.proofs.Cleared.{zeros}
 use Rattle.scoping.specs.bridge.Places.{visible, places}
 use Rattle.scoping.specs.Numbering.{byPlace}
+use Rattle.walking.specs.bridge.Walk.{State, state, output, tree}
 use Rattle.walking.specs.bridge.Flags.{flagAll, chosen}
+use Rattle.walking.specs.bridge.Code.{here, replacement, renames}
+use Rattle.walking.proofs.Trees.{walk-tree}
 use Rattle.answers.specs.declared.Answer.{Answer}
 use Rattle.answers.specs.declared.Answer.the-variants.{Written, Malformed, OverBound, TooShort}
 use Rattle.answers.specs.Outcome.{Outcome, refused, written, Reported, Answered}
 use Rattle.renaming.specs.Scope.{scopeText, scopeOutcome}
-use Rattle.passing.specs.declared.line.Place.{Place}
-use Rattle.passing.proofs.Told.{Good}
+use Rattle.heads.specs.bridge.Known.{Known}
 use Rattle.renaming.specs.bridge.Code.{chosenText}
+use Rattle.renaming.proofs.Tables.{known-valid, known-depth, known-few, known-names, known-lines}
 use Rattle.walking.proofs.Chosen.{chosen-in-scope, chosen-hidden}
-use Rattle.answers.proofs.Answers.{answered}
+use Rattle.answers.proofs.Answers.{too-short, all-written, answered}
 
--- the two lines, by the names of the table and its flags
-module _ (s a b fl : List ℕ) (n : ℕ) (p : Pattern) (read : readTree s ≡ reads p) (names : listing s a b n ≡ byPlace p) (noted : fl ≡ flagAll (byPlace p) (places p visible) (replicate 2048 0)) where
-  is-tree : IsTree bounds s p
-  is-tree = tree-exactly s p .0 read
+-- a table of nothing but zeros leaves every name
+nothing-new : (ns : List Bytes) (pool : Bytes) (f : Bytes) → replacement ns pool (replicate 1024 0) (replicate 1024 0) f ≡ f
+unfolding replacement
+nothing-new ns pool f = rw (zeros 1024 .each _)
 
-  few : length (byPlace p) ≤ 1024
-  unfolding byPlace
-  few = is-tree .2 .names
+module _ (s : Bytes) (a l h : List ℕ) (n : ℕ) (k : Known s a l h n) where
+  module _ (pool : Bytes) (from at : ℕ) (spare spare′ : Bytes) (flags : List ℕ)
+      (walked : here s from at spare′ flags ≡ tree (listing s a l n) (renames s a l n pool (replicate 1024 0) (replicate 1024 0)) 64 patterns visible (here s 0 0 spare (replicate 2048 0))) where
+    flags-are : flags ≡ flagAll (byPlace (k .pattern)) (places (k .pattern) visible) (replicate 2048 0)
+    flags-are =
+        ap (λ (st : State). st .output .flags)
+        (walked
+        ∙ ap (λ (ls : List Line). tree (listing s a l n) (renames s a l n pool (replicate 1024 0) (replicate 1024 0)) 64 patterns visible (state ls (output 0 spare (replicate 2048 0)))) (known-lines s a l h n k)
+        ∙ walk-tree (listing s a l n) (renames s a l n pool (replicate 1024 0) (replicate 1024 0)) (λ f e. nothing-new (listing s a l n) pool f) (k .pattern) visible 64 (output 0 spare (replicate 2048 0)) (known-valid s a l h n k) (known-depth s a l h n k))
+        ∙ ap (λ (ns : List Bytes). flagAll ns (places (k .pattern) visible) (replicate 2048 0)) (known-names s a l h n k)
 
-  text-is : chosenText fl (listing s a b n) ≡ scopeText p
-  unfolding chosenText scopeText
-  text-is =
-      (λ i. textOf ((bytes "in" ∷ chosen 0 (noted i) (names i)) ∷ (bytes "hid" ∷ chosen 1024 (noted i) (names i)) ∷ []))
-      ∙ (λ i. textOf ((bytes "in" ∷ chosen-in-scope p (is-tree .1) few i) ∷ (bytes "hid" ∷ chosen-hidden p (is-tree .1) few i) ∷ []))
+    text-is : chosenText flags (listing s a l n) ≡ scopeText (k .pattern)
+    unfolding chosenText scopeText
+    text-is =
+        let v = known-valid s a l h n k in
+        let few = known-few s a l h n k in
+        (λ i. textOf ((bytes "in" ∷ chosen 0 (flags-are i) (known-names s a l h n k i)) ∷ (bytes "hid" ∷ chosen 1024 (flags-are i) (known-names s a l h n k i)) ∷ []))
+        ∙ (λ i. textOf ((bytes "in" ∷ chosen-in-scope (k .pattern) v few i) ∷ (bytes "hid" ∷ chosen-hidden (k .pattern) v few i) ∷ []))
 
-  outcome-is : scopeOutcome s ≡ written (chosenText fl (listing s a b n))
-  unfolding scopeOutcome
-  outcome-is = rw read (ap written (sym text-is))
+    outcome-is : scopeOutcome s ≡ written (chosenText flags (listing s a l n))
+    unfolding scopeOutcome
+    outcome-is = rw (k .read) (ap written (sym text-is))
 
-pub scope-answered : (new : Bytes → Bytes) (s a b fl spare spare′ : List ℕ) (r : Place) (out out′ : Bytes) (x : Answer) → Good new visible s a b spare′ fl spare (replicate 2048 0) r → Answered (written (chosenText fl (listing s a b (r .n)))) out out′ x → Answered (scopeOutcome s) out out′ x
-scope-answered new s a b fl spare spare′ r out out′ x g w = answered _ _ out out′ x (outcome-is s a b fl (r .n) (g .pattern) (g .read) (g .names) (g .noted)) w
+    module _ (out : Bytes) (need : ℕ) (tiny tiny′ : Bytes) (measure : em need tiny′ ≡ puts (chosenText flags (listing s a l n)) (em 0 tiny)) where
+      pub scope-short : length out < need → Answered (scopeOutcome s) out out TooShort
+      scope-short h = answered _ _ out out TooShort outcome-is (too-short _ out need tiny tiny′ measure h)
+
+      pub scope-written : (size : ℕ) (out′ : Bytes) → need ≤ length out → length out < last → em size out′ ≡ puts (chosenText flags (listing s a l n)) (em 0 out) → Answered (scopeOutcome s) out out′ (Written size)
+      scope-written size out′ i j e = answered _ _ out out′ (Written size) outcome-is (all-written _ out need tiny tiny′ measure size out′ i j e)
 
 -- a tree that is refused
 pub scope-malformed : (s out : Bytes) → readTree s ≡ refuses malformed → Answered (scopeOutcome s) out out Malformed

@@ -1,10 +1,12 @@
 // The call scope: the variables of a tree that are in scope, and those that are hidden.
+use algebra::Answer as Check;
 use answers::Answer;
 use emit::put;
 use emit::put_all;
 use names::wide;
-use passing::whole::pass_tree;
+use reading::check_tree;
 use text::piece;
+use walking::tree::rename_in_graph_pattern;
 ghost use mathlib.Core.Path.{_≡_};
 ghost use Prim.Native.Nat.{_≤_, _<_};
 ghost use mathlib.Core.List.{[], _∷_};
@@ -12,9 +14,10 @@ ghost use mathlib.Core.Bool.{cond};
 ghost use lib.Dec.{eqb};
 ghost use Rattle.names.specs.bridge.Names.{listing, nameAt};
 ghost use Rattle.emit.specs.bridge.Emit.{em, puts};
-ghost use Rattle.answers.specs.Outcome.{Answered, written};
+ghost use Rattle.answers.specs.Outcome.{Answered};
 ghost use Rattle.renaming.specs.Scope.{scopeOutcome};
 ghost use Rattle.walking.specs.bridge.Flags.{chosen};
+ghost use Rattle.heads.specs.bridge.Known.{Known};
 ghost use Rattle.renaming.specs.bridge.Code.{chosenText, tabbed};
 
 // The names whose flags from `base` on are set, each after a tab.
@@ -85,24 +88,42 @@ fn put_scope(
     put(out, e, 10)
 }
 
-// The answer for a tree that was passed: measured on a buffer without room, and written if it fits.
+// The answer for a tree that was checked: noted, measured on a buffer without room, and written if it fits.
 fn scope_of(
     tree: &[u8],
     starts: &[u16; 1024],
     sizes: &[u16; 1024],
+    hints: &[u16; 4096],
     n: usize,
-    flags: &[u8; 2048],
     out: &mut [u8],
 ) -> Answer
-    requires { ⌜ n ≤ 1024 ⌝ }
-    ensures { λ r. ⌜ Answered (written (chosenText (now (flags .entry)) (listing (now (tree .entry)) (now (starts .entry)) (now (sizes .entry)) n))) (now (out .entry)) (now (out .exit)) r ⌝ }
+    requires { ⌜ Known (now tree) (now starts) (now sizes) (now hints) n ⌝ }
+    ensures { λ r. ⌜ Answered (scopeOutcome (now (tree .entry))) (now (out .entry)) (now (out .exit)) r ⌝ }
 {
+    let none = [0u16; 1024];
+    let mut flags = [0u8; 2048];
     let mut spare = [0u8; 0];
-    let need = put_scope(tree, starts, sizes, n, flags, &mut spare, 0);
+    rename_in_graph_pattern(
+        tree,
+        starts,
+        sizes,
+        hints,
+        n,
+        &tree[..0],
+        &none,
+        &none,
+        &mut flags,
+        &mut spare,
+        0,
+        0,
+        0,
+        64,
+    );
+    let need = put_scope(tree, starts, sizes, n, &flags, &mut spare, 0);
     if out.len() < need {
         return Answer::TooShort;
     }
-    let size = put_scope(tree, starts, sizes, n, flags, out, 0);
+    let size = put_scope(tree, starts, sizes, n, &flags, out, 0);
     Answer::Written(size)
 }
 
@@ -110,29 +131,12 @@ fn scope_of(
 pub fn scope(tree: &[u8], out: &mut [u8]) -> Answer
     ensures { λ r. ⌜ Answered (scopeOutcome (now (tree .entry))) (now (out .entry)) (now (out .exit)) r ⌝ }
 {
-    let keys = [[0u16; 4]; 64];
     let mut starts = [0u16; 1024];
     let mut sizes = [0u16; 1024];
     let mut hints = [0u16; 4096];
-    let mut flags = [0u8; 2048];
-    let mut spare = [0u8; 0];
-    let p = pass_tree(
-        tree,
-        &tree[..0],
-        &keys,
-        0,
-        0,
-        &mut starts,
-        &mut sizes,
-        &mut hints,
-        &mut flags,
-        &mut spare,
-    );
-    if p.fault == 1 {
-        return Answer::Malformed;
+    match check_tree(tree, &mut starts, &mut sizes, &mut hints) {
+        Check::Good(n) => scope_of(tree, &starts, &sizes, &hints, n, out),
+        Check::Malformed => Answer::Malformed,
+        Check::OverBound => Answer::OverBound,
     }
-    if p.fault != 0 {
-        return Answer::OverBound;
-    }
-    scope_of(tree, &starts, &sizes, p.n, &flags, out)
 }
