@@ -8,7 +8,7 @@ use joining::merge::merge_queries;
 use joining::push::push_constants;
 use libc::STDOUT_FILENO;
 use negating::negate;
-use parted::bars;
+use parted::part_texts;
 use parted::text_at;
 use renaming::rename::rename;
 use renaming::scope::scope;
@@ -26,10 +26,12 @@ pub fn answer_scope(input: &[u8], out: &mut [u8]) -> Answer
     if LIMIT < input.len() {
         return Answer::OverBound;
     }
-    if bars(input) != 0 {
+    let mut ends = [0usize; 5];
+    let n = part_texts(input, &mut ends);
+    if n != 0 {
         return Answer::Malformed;
     }
-    scope(text_at(input, 0), out)
+    scope(text_at(input, &ends, n, 0), out)
 }
 
 // The program `rename`: a tree and a mapping.
@@ -39,10 +41,12 @@ pub fn answer_rename(input: &[u8], out: &mut [u8]) -> Answer
     if LIMIT < input.len() {
         return Answer::OverBound;
     }
-    if bars(input) != 1 {
+    let mut ends = [0usize; 5];
+    let n = part_texts(input, &mut ends);
+    if n != 1 {
         return Answer::Malformed;
     }
-    rename(text_at(input, 0), text_at(input, 1), out)
+    rename(text_at(input, &ends, n, 0), text_at(input, &ends, n, 1), out)
 }
 
 // The program `merge`: two trees, a join list, left and right constants.
@@ -52,15 +56,17 @@ pub fn answer_merge(input: &[u8], out: &mut [u8]) -> Answer
     if LIMIT < input.len() {
         return Answer::OverBound;
     }
-    if bars(input) != 4 {
+    let mut ends = [0usize; 5];
+    let n = part_texts(input, &mut ends);
+    if n != 4 {
         return Answer::Malformed;
     }
     merge_patterns(
-        text_at(input, 0),
-        text_at(input, 1),
-        text_at(input, 2),
-        text_at(input, 3),
-        text_at(input, 4),
+        text_at(input, &ends, n, 0),
+        text_at(input, &ends, n, 1),
+        text_at(input, &ends, n, 2),
+        text_at(input, &ends, n, 3),
+        text_at(input, &ends, n, 4),
         out,
     )
 }
@@ -72,15 +78,17 @@ pub fn answer_merge_queries(input: &[u8], out: &mut [u8]) -> Answer
     if LIMIT < input.len() {
         return Answer::OverBound;
     }
-    if bars(input) != 4 {
+    let mut ends = [0usize; 5];
+    let n = part_texts(input, &mut ends);
+    if n != 4 {
         return Answer::Malformed;
     }
     merge_queries(
-        text_at(input, 0),
-        text_at(input, 1),
-        text_at(input, 2),
-        text_at(input, 3),
-        text_at(input, 4),
+        text_at(input, &ends, n, 0),
+        text_at(input, &ends, n, 1),
+        text_at(input, &ends, n, 2),
+        text_at(input, &ends, n, 3),
+        text_at(input, &ends, n, 4),
         out,
     )
 }
@@ -92,10 +100,12 @@ pub fn answer_push(input: &[u8], out: &mut [u8]) -> Answer
     if LIMIT < input.len() {
         return Answer::OverBound;
     }
-    if bars(input) != 1 {
+    let mut ends = [0usize; 5];
+    let n = part_texts(input, &mut ends);
+    if n != 1 {
         return Answer::Malformed;
     }
-    push_constants(text_at(input, 0), text_at(input, 1), out)
+    push_constants(text_at(input, &ends, n, 0), text_at(input, &ends, n, 1), out)
 }
 
 // The program `negate`: a query.
@@ -105,10 +115,12 @@ pub fn answer_negate(input: &[u8], out: &mut [u8]) -> Answer
     if LIMIT < input.len() {
         return Answer::OverBound;
     }
-    if bars(input) != 0 {
+    let mut ends = [0usize; 5];
+    let n = part_texts(input, &mut ends);
+    if n != 0 {
         return Answer::Malformed;
     }
-    negate(text_at(input, 0), out)
+    negate(text_at(input, &ends, n, 0), out)
 }
 
 // The program `bindings`: a tree and binding sets.
@@ -118,10 +130,12 @@ pub fn answer_bindings(input: &[u8], out: &mut [u8]) -> Answer
     if LIMIT < input.len() {
         return Answer::OverBound;
     }
-    if bars(input) != 1 {
+    let mut ends = [0usize; 5];
+    let n = part_texts(input, &mut ends);
+    if n != 1 {
         return Answer::Malformed;
     }
-    bindings(text_at(input, 0), text_at(input, 1), out)
+    bindings(text_at(input, &ends, n, 0), text_at(input, &ends, n, 1), out)
 }
 
 // The program `filters`: a tree and filters.
@@ -131,10 +145,12 @@ pub fn answer_filters(input: &[u8], out: &mut [u8]) -> Answer
     if LIMIT < input.len() {
         return Answer::OverBound;
     }
-    if bars(input) != 1 {
+    let mut ends = [0usize; 5];
+    let n = part_texts(input, &mut ends);
+    if n != 1 {
         return Answer::Malformed;
     }
-    filters(text_at(input, 0), text_at(input, 1), out)
+    filters(text_at(input, &ends, n, 0), text_at(input, &ends, n, 1), out)
 }
 
 // The answer's bytes, or the line `refused` with its number: whether all was written.

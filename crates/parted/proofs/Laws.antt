@@ -97,6 +97,14 @@ bar-long s at e h k q =
     let b : length (part at e s) ≡ 2 = ap length (same-eq (part at e s) bar q) in
     omega arith
 
+-- a line of another size is none
+pub no-bar : (s : Bytes) (at e : ℕ) → at ≤ e → e ≤ length s → (e - at ≡ 2 → ⊥) → false ≡ same (part at e s) bar
+no-bar s at e h k n = go (same (part at e s) bar) refl
+  where
+    go : (b : Bool) → same (part at e s) bar ≡ b → false ≡ b
+    go false q = refl
+    go true q = absurd (let two : e ≡ at + 2 = bar-long s at e h k q in n (omega arith))
+
 -- ---- what stands behind a text
 
 pub after-none : (s : Bytes) (at : ℕ) → length s ≤ at → after s at ≡ []

@@ -24,7 +24,7 @@ text-end-spec =
     (λ c κs. search needs)
     (λ c. let at-loop = c .before .before .before in
     ends-open _ _ _ _ (at-loop .loop .inv .2) (omega arith) (c .before .find .ensures) (omega arith))
-    (λ c κs. omega (arith, c .before .find .ensures .low))
+    (λ c κs. (omega (arith, c .before .find .ensures .low), c .before .find .ensures .high))
     (λ c. let at-loop = c .before .before .before .before .before in
     ends-bar _ _ _ _ (at-loop .loop .inv .2) (omega arith) (c .before .before .before .find .ensures) (omega (arith, c .before .before .before .find .ensures .high)) (sym (c .before .is-bar .ensures) ∙ c .if2 .taken))
     (λ c. omega arith)

@@ -1,12 +1,12 @@
 -- The texts of an input by places in it. Assumes nothing.
-use Prim.Native.Nat.{ℕ, _+_, _≤_, _<_}
+use Prim.Native.Nat.{ℕ, zero, suc, _+_, _≤_, _<_}
 use mathlib.Core.Path.{_≡_}
 use mathlib.Core.List.{List, [], _∷_}
 use mathlib.Core.Bool.{cond}
-use lib.ListN.{length}
+use lib.ListN.{length, getD}
 use lib.Dec.{ltb}
 use Rattle.text.specs.Text.{Bytes, split, part}
-use Rattle.parted.specs.Parted.{textsIn}
+use Rattle.parted.specs.Parted.{textsIn, texts}
 
 -- the texts from the start of a line on
 unfoldable pub textsFrom : Bytes → ℕ → List Bytes
@@ -24,3 +24,17 @@ pub record Ends (s : Bytes) (from r : ℕ) : Type 0 where
   pub high : r ≤ length s
   pub room : r < length s → r + 3 ≤ length s
   pub first : textsFrom s from ≡ part from r s ∷ after s r
+
+-- where the text of a number starts: at the beginning, or behind the line `--` that ends the one before
+abbrev pub startOf : List ℕ → ℕ → ℕ
+startOf ends zero = 0
+startOf ends (suc k) = getD ends k 0 + 3
+
+-- of the texts up to number n, each of the first five stands between its start and its end
+pub record Stands (s : Bytes) (ends : List ℕ) (k : ℕ) : Type 0 where
+  pub ended : Ends s (startOf ends k) (getD ends k 0)
+  pub left : (i : ℕ) → getD (texts s) (k + i) [] ≡ getD (textsFrom s (startOf ends k)) i []
+
+pub record Parted (s : Bytes) (ends : List ℕ) (n : ℕ) : Type 0 where
+  pub each : (k : ℕ) → k ≤ n → k < 5 → Stands s ends k
+  pub going : (k : ℕ) → k < n → k < 5 → getD ends k 0 < length s
