@@ -46,7 +46,11 @@ pub fn answer_rename(input: &[u8], out: &mut [u8]) -> Answer
     if n != 1 {
         return Answer::Malformed;
     }
-    rename(text_at(input, &ends, n, 0), text_at(input, &ends, n, 1), out)
+    rename(
+        text_at(input, &ends, n, 0),
+        text_at(input, &ends, n, 1),
+        out,
+    )
 }
 
 // The program `merge`: two trees, a join list, left and right constants.
@@ -105,7 +109,11 @@ pub fn answer_push(input: &[u8], out: &mut [u8]) -> Answer
     if n != 1 {
         return Answer::Malformed;
     }
-    push_constants(text_at(input, &ends, n, 0), text_at(input, &ends, n, 1), out)
+    push_constants(
+        text_at(input, &ends, n, 0),
+        text_at(input, &ends, n, 1),
+        out,
+    )
 }
 
 // The program `negate`: a query.
@@ -135,7 +143,11 @@ pub fn answer_bindings(input: &[u8], out: &mut [u8]) -> Answer
     if n != 1 {
         return Answer::Malformed;
     }
-    bindings(text_at(input, &ends, n, 0), text_at(input, &ends, n, 1), out)
+    bindings(
+        text_at(input, &ends, n, 0),
+        text_at(input, &ends, n, 1),
+        out,
+    )
 }
 
 // The program `filters`: a tree and filters.
@@ -150,7 +162,11 @@ pub fn answer_filters(input: &[u8], out: &mut [u8]) -> Answer
     if n != 1 {
         return Answer::Malformed;
     }
-    filters(text_at(input, &ends, n, 0), text_at(input, &ends, n, 1), out)
+    filters(
+        text_at(input, &ends, n, 0),
+        text_at(input, &ends, n, 1),
+        out,
+    )
 }
 
 // The answer's bytes, or the line `refused` with its number: whether all was written.
