@@ -1,0 +1,43 @@
+// The line reader: a text and the start of its next line. It is thin: what is done over it takes it apart and calls a function on slice and number.
+use text::find;
+ghost use Prim.Native.Nat.{_≤_};
+ghost use lib.ListN.{length};
+ghost use Rattle.text.specs.Text.{First};
+ghost use Rattle.reader.specs.bridge.Lines.{EndsAt};
+
+pub struct LineReader<'a> {
+    pub text: &'a [u8],
+    pub next: usize,
+}
+
+// The end of the line that starts at a place, or of the text.
+fn end_from(text: &[u8], next: usize) -> usize
+    ensures { λ r. ⌜ EndsAt (now (text .entry)) next r ⌝ }
+{
+    if text.len() < next {
+        return text.len();
+    }
+    find(text, next, text.len(), 10)
+}
+
+// The end of the reader's next line, or of its text.
+fn line_end<'a>(reader: LineReader<'a>) -> usize
+    ensures { λ r. ⌜ EndsAt (now (reader .entry .text)) (reader .entry .next) r ⌝ }
+{
+    end_from(reader.text, reader.next)
+}
+
+// The same for a text and a place, of which a reader is made and lent.
+fn end_of_line(text: &[u8], next: usize) -> usize
+    ensures { λ r. ⌜ EndsAt (now (text .entry)) next r ⌝ }
+{
+    line_end(LineReader { text, next })
+}
+
+// The end of the line that starts at a place of the text, for those who know that the place is one.
+pub fn next_end(text: &[u8], next: usize) -> usize
+    requires { ⌜ next ≤ length (now text) ⌝ }
+    ensures { λ r. ⌜ First 10 (now (text .entry)) next (length (now (text .entry))) r ⌝ }
+{
+    end_of_line(text, next)
+}
