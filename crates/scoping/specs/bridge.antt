@@ -1,3 +1,5 @@
 pub mod Places
+pub mod Walk
+pub mod Spots
 pub mod Services
 pub mod Pushes
