@@ -3,8 +3,8 @@ use algebra::Answer;
 use cursor::Cursor;
 use cursor::Field;
 use names::add_name;
-use names::clear;
 use names::find_name;
+use names::no_names;
 use text::is_kind;
 ghost use mathlib.Core.Path.{_≡_};
 ghost use Prim.Native.Nat.{ℕ, _+_, _≤_, _<_};
@@ -95,7 +95,7 @@ fn check_pairs(
 ) -> Answer
     ensures { λ r. ⌜ ((κ : PairList) → Stands κ first second unique → Checked (keysOf κ) (now (text .entry)) (now (starts .exit)) (now (sizes .exit)) (now (hints .exit)) (readPairs κ (now (text .entry))) r) ⌝ }
 {
-    clear(starts, sizes, hints);
+    no_names(starts, sizes, hints);
     if 16384 < text.len() {
         return Answer::OverBound;
     }

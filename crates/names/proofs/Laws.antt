@@ -1,7 +1,7 @@
 -- Laws of the variable table, one for each step of the code. Assumes nothing.
 use Prim.Native.Nat.{ℕ, zero, suc, _+_, _*_, _-_, _%_, _≤_, _<_}
 use mathlib.Core.Path.{_≡_, refl, sym, _∙_, ap, ap₂, subst}
-use mathlib.Core.List.{List, [], _∷_, _++_}
+use mathlib.Core.List.{List, [], _∷_, _++_, append-nil}
 use mathlib.Core.Bool.{Bool, true, false, cond, _||_, false≢true}
 use mathlib.Core.Logic.{⊎-elim}
 use native.Mathlib.Numerals.{add-one}
@@ -14,7 +14,7 @@ use Rattle.text.specs.Field.{isVar}
 use Rattle.text.proofs.Basics.{same-eq}
 use Rattle.algebra.specs.Valid.{mem}
 use Rattle.algebra.specs.Tally.{notes}
-use Rattle.names.specs.bridge.Names.{hashOf, nameAt, listing, after, Leads, HintedFrom, Hinted, Grows, kept, Holds}
+use Rattle.names.specs.bridge.Names.{hashOf, nameAt, listing, after, Leads, HintedFrom, Hinted, Grows, Free, kept, Holds, Lists}
 use Rattle.names.proofs.Hints.{leads-on, leads-past, leads-back, leads-here, leads-none, grows-set, grows-same, hinted-grows, hinted-more, hinted-last}
 
 -- ---- the hash
@@ -28,6 +28,15 @@ unfolding hashOf
 hash-end f i h k = rw (drop-of-length-le f k)
 
 -- ---- names
+
+pub getD-front : (xs ys : List Bytes) (i : ℕ) → i < length xs → getD (xs ++ ys) i [] ≡ getD xs i []
+getD-front [] ys i h = absurd (omega arith)
+getD-front (x ∷ xs) ys zero h = refl
+getD-front (x ∷ xs) ys (suc i) h = getD-front xs ys i (omega arith)
+
+getD-behind : (xs : List Bytes) (x : Bytes) → getD (xs ++ (x ∷ [])) (length xs) [] ≡ x
+getD-behind [] x = refl
+getD-behind (y ∷ xs) x = getD-behind xs x
 
 or-false : (a b : Bool) → a ≡ false → b ≡ false → (a || b) ≡ false
 or-false a b p q = ap₂ _||_ p q
@@ -145,13 +154,18 @@ module _ (h : List ℕ) (from : ℕ) where
     unfolding Taken
     taken-on r some nz e g v gr q = taken g v gr (leads-back g v p k some (λ z. nz (sym (gr .stays p nz) ∙ z)) (rw (← e) q))
 
-    pub put-here : (old : List ℕ) (v : ℕ) → h ≡ old → p < length h → getD h p 0 ≡ 0 → Grows old (set h p v) × Leads (set h p v) v from 4096
+    -- an empty place
+    pub free-here : p < 4096 → getD h p 0 ≡ 0 → Free h from p
     unfolding Taken
-    put-here old v e i z = rw (← e) (grows-set h p v z, taken (set h p v) v (grows-set h p v z) (leads-here (set h p v) v p k (getD-set-same h p v 0 i)))
+    free-here i z = record {
+      here = λ l v e. (grows-set h p v z, taken (set h p v) v (grows-set h p v z) (leads-here (set h p v) v p k (getD-set-same h p v 0 (omega arith))));
+      none = λ l. absurd (omega arith);
+    }
 
-    pub put-nowhere : (old : List ℕ) (v : ℕ) → h ≡ old → k ≤ 0 → Grows old h × Leads h v from 4096
+    -- no place is left
+    pub free-none : k ≤ 0 → Free h from 4096
     unfolding Taken
-    put-nowhere old v e z = rw (← e) (grows-same h, taken h v (grows-same h) (leads-none h v p k z))
+    free-none z = record { here = λ l. absurd (omega arith); none = λ l v. (grows-same h, taken h v (grows-same h) (leads-none h v p k z)) }
 
 -- ---- keeping a name
 
@@ -198,9 +212,9 @@ module _ (s f : Bytes) (a l h : List ℕ) (n : ℕ) (want : List Bytes) (holds :
             over = λ m. rw (new not-there low high) g;
           }
 
-      pub keep-new : (from size p : ℕ) (g : List ℕ) → f ≡ piece from size s → (n ≡ 1024 → ⊥) → p ≡ hashOf 0 f → (length h ≡ 4096 → Grows h g × Leads g (n + 1) p 4096) → Holds s (set a n from) (set l n size) g (n + 1) (kept f want)
+      pub keep-new : (from size : ℕ) (g : List ℕ) → f ≡ piece from size s → (n ≡ 1024 → ⊥) → (length h ≡ 4096 → Grows h g × Leads g (n + 1) (hashOf 0 f) 4096) → Holds s (set a n from) (set l n size) g (n + 1) (kept f want)
       unfolding listing Hinted
-      keep-new from size p g e ne ep puts =
+      keep-new from size g e ne puts =
           let put = puts (holds .entries .2) in
           let i : n < length a = let q = holds .entries .0 in omega arith in
           let j : n < length l = let q = holds .entries .1 in omega arith in
@@ -210,9 +224,71 @@ module _ (s f : Bytes) (a l h : List ℕ) (n : ℕ) (want : List Bytes) (holds :
             entries = (rw (length-set a n from) (holds .entries .0), rw (length-set l n size) (holds .entries .1), put .0 .size ∙ holds .entries .2);
             high = omega arith;
             fits = λ m. rw (add-one, listing-below s a l n from size n (omega arith), getD-set-same a n from 0 i, getD-set-same l n size 0 j, ← e) (ap (λ x. x ++ (f ∷ [])) (holds .fits room));
-            hinted = λ m. hinted-more g f want 1 (n + 1) (omega arith) (hinted-grows h g 1 want (put .0) (omega arith) (holds .hinted room)) (rw (← ep) (put .1));
+            hinted = λ m. hinted-more g f want 1 (n + 1) (omega arith) (hinted-grows h g 1 want (put .0) (omega arith) (holds .hinted room)) (put .1);
             over = λ m. absurd (omega arith);
           })
+
+-- ---- the entry of a name that is kept
+
+pub listing-at : (s : Bytes) (a l : List ℕ) (n i : ℕ) → i < n → getD (listing s a l n) i [] ≡ nameAt s a l i
+unfolding listing
+listing-at s a l zero i h = absurd (omega arith)
+listing-at s a l (suc n) i h = ⊎-elim (λ (e : i ≡ n). rw e (last n (listing-long s a l n))) (λ k. getD-front (listing s a l n) (nameAt s a l n ∷ []) i (rw (listing-long s a l n) k) ∙ listing-at s a l n i k) (eq-or-lt-of-le (omega arith))
+  where
+    last : (k : ℕ) → length (listing s a l n) ≡ k → getD (listing s a l n ++ (nameAt s a l n ∷ [])) k [] ≡ nameAt s a l n
+    last k e = rw (← e) (getD-behind (listing s a l n) (nameAt s a l n))
+
+module _ (s f : Bytes) (a l : List ℕ) (n : ℕ) where
+  -- no room
+  pub lists-over : 1024 < n → Lists s a l n a l n 0 f
+  lists-over k = record {
+    grows = omega arith;
+    low = omega arith;
+    tables = λ t. t;
+    more = λ m. absurd (omega arith);
+    inside = λ m. absurd (omega arith);
+    here = λ m. absurd (omega arith);
+  }
+
+  pub lists-full : n ≡ 1024 → Lists s a l n a l 1025 0 f
+  lists-full k = record {
+    grows = omega arith;
+    low = omega arith;
+    tables = λ t. t;
+    more = λ m. absurd (omega arith);
+    inside = λ m. absurd (omega arith);
+    here = λ m. absurd (omega arith);
+  }
+
+  -- it is there
+  pub lists-known : (r : ℕ) → n ≤ 1024 → r < n → (r < n → same f (nameAt s a l r) ≡ true) → Lists s a l n a l n r f
+  lists-known r room k e = record {
+    grows = omega arith;
+    low = omega arith;
+    tables = λ t. t;
+    more = λ m t. ([], sym (append-nil (listing s a l n)));
+    inside = λ m. k;
+    here = λ m t. listing-at s a l n r k ∙ sym (same-eq f (nameAt s a l r) (e k));
+  }
+
+  -- it is new
+  pub lists-new : (from size : ℕ) → n ≤ 1024 → (n ≡ 1024 → ⊥) → f ≡ piece from size s → Lists s a l n (set a n from) (set l n size) (n + 1) n f
+  unfolding listing
+  lists-new from size room ne e = record {
+    grows = omega arith;
+    low = omega arith;
+    tables = λ t. (rw (length-set a n from) (t .0), rw (length-set l n size) (t .1));
+    more = λ m t. (nameAt s (set a n from) (set l n size) n ∷ [], rw (add-one, listing-below s a l n from size n (omega arith)));
+    inside = λ m. omega arith;
+    here = λ m t. listing-at s (set a n from) (set l n size) (n + 1) n (omega arith) ∙ rw (getD-set-same a n from 0 (let q = t .0 in omega arith), getD-set-same l n size 0 (let q = t .1 in omega arith)) (sym e);
+  }
+
+-- for callers that know what the table lists
+pub lists-kept : (s : Bytes) (a l a′ l′ h h′ : List ℕ) (n m entry : ℕ) (f : Bytes) (want : List Bytes) → Lists s a l n a′ l′ m entry f → Holds s a l h n want → Holds s a′ l′ h′ m (kept f want) → m ≤ 1024
+    → (getD (kept f want) entry [] ≡ f) × (entry < length (kept f want))
+lists-kept s a l a′ l′ h h′ n m entry f want q old later room =
+    let t : (length a ≡ 1024) × (length l ≡ 1024) = (old .entries .0, old .entries .1) in
+    (rw (← later .fits room) (q .here room t), rw (← later .fits room, listing-long s a′ l′ m) (q .inside room))
 
 -- ---- noting a field
 

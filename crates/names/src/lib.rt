@@ -1,7 +1,6 @@
 // The variable table of a text: its distinct names by first place, each as a start and a size, and a hint to each name at the first place
 // that was empty from a cheap hash of it on.
 use text::equal;
-use text::is_var;
 use text::piece;
 ghost use mathlib.Core.Path.{_≡_};
 ghost use Prim.Native.Nat.{ℕ, _+_, _≤_, _<_};
@@ -10,8 +9,7 @@ ghost use mathlib.Core.Bool.{false, true};
 ghost use lib.ListN.{length, getD};
 ghost use Rattle.text.specs.Text.{same, piece as pieceOf};
 ghost use Rattle.algebra.specs.Valid.{mem};
-ghost use Rattle.algebra.specs.Tally.{notes};
-ghost use Rattle.names.specs.bridge.Names.{hashOf, nameAt, listing, after as afterOf, Leads, Hinted, Grows, Holds, kept, Zeros};
+ghost use Rattle.names.specs.bridge.Names.{hashOf, nameAt, listing, after as afterOf, Leads, Hinted, Free, Grows, Holds, Lists, kept, Zeros};
 
 // A number of the table as a place.
 pub fn wide(x: u16) -> usize
@@ -27,12 +25,42 @@ fn byte(x: u8) -> usize
 }
 
 // The table is cleared.
-pub fn clear(starts: &mut [u16; 1024], sizes: &mut [u16; 1024], hints: &mut [u16; 4096])
+fn clear(starts: &mut [u16; 1024], sizes: &mut [u16; 1024], hints: &mut [u16; 4096])
     ensures { λ r. ⌜ Zeros 1024 (now (starts .exit)) × Zeros 1024 (now (sizes .exit)) × Zeros 4096 (now (hints .exit)) ⌝ }
 {
     *starts = [0; 1024];
     *sizes = [0; 1024];
     *hints = [0; 4096];
+}
+
+fn has_places(a: &[u16], n: usize) -> bool
+    ensures { λ r. ⌜ (r ≡ true → length (now (a .entry)) ≡ n) ⌝ }
+{
+    a.len() == n
+}
+
+// Each part of the table has its places.
+fn have_places(starts: &[u16; 1024], sizes: &[u16; 1024], hints: &[u16; 4096]) -> bool
+    ensures { λ r. ⌜ (r ≡ true → (length (now (starts .entry)) ≡ 1024) × (length (now (sizes .entry)) ≡ 1024) × (length (now (hints .entry)) ≡ 4096)) ⌝ }
+{
+    if !has_places(starts, 1024) {
+        return false;
+    }
+    if !has_places(sizes, 1024) {
+        return false;
+    }
+    has_places(hints, 4096)
+}
+
+// A table without names. Whoever made it has cleared it; what earlier names left would do no harm, as a hint is compared with the
+// name itself. The test is one of types, and the compiled code has none.
+pub fn no_names(starts: &mut [u16; 1024], sizes: &mut [u16; 1024], hints: &mut [u16; 4096])
+    ensures { λ _. ⌜ (length (now (starts .exit)) ≡ 1024) × (length (now (sizes .exit)) ≡ 1024) × (length (now (hints .exit)) ≡ 4096) ⌝ }
+{
+    if have_places(starts, sizes, hints) {
+        return;
+    }
+    clear(starts, sizes, hints);
 }
 
 // Where the search for a name's hint starts.
@@ -99,6 +127,44 @@ fn is_hinted(
     is_name(f, s, starts, sizes, hint - 1)
 }
 
+// The entry of a name among the first n, or n; and where the hint of one that is new goes, 4,096 for nowhere.
+struct Seen {
+    entry: usize,
+    at: usize,
+}
+
+fn probe(
+    f: &[u8],
+    s: &[u8],
+    starts: &[u16; 1024],
+    sizes: &[u16; 1024],
+    hints: &[u16; 4096],
+    n: usize,
+) -> Seen
+    requires { ⌜ n ≤ 1024 ⌝ }
+    ensures { λ r. ⌜ (r .entry ≤ n) × (r .entry < n → same (now (f .entry)) (nameAt (now (s .entry)) (now (starts .entry)) (now (sizes .entry)) (r .entry)) ≡ true) × (r .entry ≡ n → Hinted (now (hints .entry)) (listing (now (s .entry)) (now (starts .entry)) (now (sizes .entry)) n) → mem (now (f .entry)) (listing (now (s .entry)) (now (starts .entry)) (now (sizes .entry)) n) ≡ false) ⌝ }
+    ensures free { λ r. ⌜ (r .entry ≡ n → Free (now (hints .entry)) (hashOf 0 (now (f .entry))) (r .at)) ⌝ }
+{
+    let mut p = place(f);
+    let mut left: usize = 4096;
+    while 0 < left {
+        let hint = wide(hints[p]);
+        if hint == 0 {
+            return Seen { entry: n, at: p };
+        }
+        if is_hinted(f, s, starts, sizes, n, hint) {
+            return Seen {
+                entry: hint - 1,
+                at: 4096,
+            };
+        }
+        p = after(p);
+        left -= 1;
+    }
+    let e = scan(f, s, starts, sizes, n);
+    Seen { entry: e, at: 4096 }
+}
+
 // The entry of a name among the first n, or n.
 pub fn find_name(
     f: &[u8],
@@ -111,36 +177,61 @@ pub fn find_name(
     requires { ⌜ n ≤ 1024 ⌝ }
     ensures { λ r. ⌜ (r ≤ n) × (r < n → same (now (f .entry)) (nameAt (now (s .entry)) (now (starts .entry)) (now (sizes .entry)) r) ≡ true) × (r ≡ n → Hinted (now (hints .entry)) (listing (now (s .entry)) (now (starts .entry)) (now (sizes .entry)) n) → mem (now (f .entry)) (listing (now (s .entry)) (now (starts .entry)) (now (sizes .entry)) n) ≡ false) ⌝ }
 {
-    let mut p = place(f);
-    let mut left: usize = 4096;
-    while 0 < left {
-        let hint = wide(hints[p]);
-        if hint == 0 {
-            return n;
-        }
-        if is_hinted(f, s, starts, sizes, n, hint) {
-            return hint - 1;
-        }
-        p = after(p);
-        left -= 1;
-    }
-    scan(f, s, starts, sizes, n)
+    let r = probe(f, s, starts, sizes, hints, n);
+    r.entry
 }
 
-// Puts a hint at the first empty place from one on, or nowhere if there is none.
-fn put_hint(hints: &mut [u16; 4096], from: usize, hint: u16)
-    requires { ⌜ from < 4096 ⌝ }
-    ensures { λ r. ⌜ (length (now (hints .entry)) ≡ 4096 → Grows (now (hints .entry)) (now (hints .exit)) × Leads (now (hints .exit)) hint from 4096) ⌝ }
+// Puts a hint at a place, or nowhere if there is none.
+fn put_hint(hints: &mut [u16; 4096], at: usize, hint: u16)
+    ensures { λ r. ⌜ ((from : ℕ) → Free (now (hints .entry)) from at → length (now (hints .entry)) ≡ 4096 → Grows (now (hints .entry)) (now (hints .exit)) × Leads (now (hints .exit)) hint from 4096) ⌝ }
 {
-    let mut p = from;
-    let mut left: usize = 4096;
-    while 0 < left {
-        if hints[p] == 0 {
-            hints[p] = hint;
-            return;
-        }
-        p = after(p);
-        left -= 1;
+    if at < 4096 {
+        hints[at] = hint;
+    }
+}
+
+// A name's entry in the table, and how many names there are.
+pub struct Listed {
+    pub entry: usize,
+    pub names: usize,
+}
+
+// Keeps a name in the table if it is new, and tells its entry. A count of 1,025 says that it has no room.
+pub fn keep_name(
+    s: &[u8],
+    from: usize,
+    size: usize,
+    starts: &mut [u16; 1024],
+    sizes: &mut [u16; 1024],
+    hints: &mut [u16; 4096],
+    n: usize,
+) -> Listed
+    requires { ⌜ (from < 65536) × (size < 65536) ⌝ }
+    ensures { λ r. ⌜ ((want : List (List ℕ)) → Holds (now (s .entry)) (now (starts .entry)) (now (sizes .entry)) (now (hints .entry)) n want → Holds (now (s .entry)) (now (starts .exit)) (now (sizes .exit)) (now (hints .exit)) (r .names) (kept (pieceOf from size (now (s .entry))) want)) ⌝ }
+    ensures lists { λ r. ⌜ Lists (now (s .entry)) (now (starts .entry)) (now (sizes .entry)) n (now (starts .exit)) (now (sizes .exit)) (r .names) (r .entry) (pieceOf from size (now (s .entry))) ⌝ }
+{
+    if 1024 < n {
+        return Listed { entry: 0, names: n };
+    }
+    let found = probe(piece(s, from, size), s, starts, sizes, hints, n);
+    if found.entry < n {
+        return Listed {
+            entry: found.entry,
+            names: n,
+        };
+    }
+    if n == 1024 {
+        return Listed {
+            entry: 0,
+            names: 1025,
+        };
+    }
+    starts[n] = from as u16;
+    sizes[n] = size as u16;
+    put_hint(hints, found.at, (n + 1) as u16);
+    Listed {
+        entry: n,
+        names: n + 1,
     }
 }
 
@@ -157,37 +248,6 @@ pub fn add_name(
     requires { ⌜ (from < 65536) × (size < 65536) ⌝ }
     ensures { λ r. ⌜ ((want : List (List ℕ)) → Holds (now (s .entry)) (now (starts .entry)) (now (sizes .entry)) (now (hints .entry)) n want → Holds (now (s .entry)) (now (starts .exit)) (now (sizes .exit)) (now (hints .exit)) r (kept (pieceOf from size (now (s .entry))) want)) ⌝ }
 {
-    if 1024 < n {
-        return n;
-    }
-    if find_name(piece(s, from, size), s, starts, sizes, hints, n) < n {
-        return n;
-    }
-    if n == 1024 {
-        return 1025;
-    }
-    let p = place(piece(s, from, size));
-    starts[n] = from as u16;
-    sizes[n] = size as u16;
-    put_hint(hints, p, (n + 1) as u16);
-    n + 1
-}
-
-// Keeps a field in the table if it is a variable that is new.
-pub fn note_field(
-    s: &[u8],
-    from: usize,
-    size: usize,
-    starts: &mut [u16; 1024],
-    sizes: &mut [u16; 1024],
-    hints: &mut [u16; 4096],
-    n: usize,
-) -> usize
-    requires { ⌜ (from ≤ 16384) × (size ≤ 16384) ⌝ }
-    ensures { λ r. ⌜ ((want : List (List ℕ)) → Holds (now (s .entry)) (now (starts .entry)) (now (sizes .entry)) (now (hints .entry)) n want → Holds (now (s .entry)) (now (starts .exit)) (now (sizes .exit)) (now (hints .exit)) r (notes (pieceOf from size (now (s .entry)) ∷ []) want)) ⌝ }
-{
-    if is_var(piece(s, from, size)) {
-        return add_name(s, from, size, starts, sizes, hints, n);
-    }
-    n
+    let l = keep_name(s, from, size, starts, sizes, hints, n);
+    l.names
 }

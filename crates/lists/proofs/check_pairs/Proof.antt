@@ -23,7 +23,7 @@ check-pairs-spec =
     (λ c κs. search needs)
     (λ c. G.too-long _ _ _ _ _ _ _ (omega (arith, c .if1 .taken)))
     (λ c κs. search needs)
-    (λ c. G.going-start _ _ _ _ _ _ _ _ (c .new .ensures .0) (omega (arith, c .before .if1 .left)) (c .before .before .clear .ensures .0 .size, c .before .before .clear .ensures .1 .size, c .before .before .clear .ensures .2 .size))
+    (λ c. G.going-start _ _ _ _ _ _ _ _ (c .new .ensures .0) (omega (arith, c .before .if1 .left)) (c .before .before .no-names .ensures .0, c .before .before .no-names .ensures .1, c .before .before .no-names .ensures .2))
     (λ c κs. search needs)
     (λ c. T.done-open _ _ _ _ _ _ _ _ _ _ (c .before .before .before .before .before .loop .inv) (c .before .before .next-line .result) (c .before .before .next-line .ensures .0) (c .before .before .next-line .ensures .2) _ _ _ (c .before .before .before .if2 .taken) (omega (arith, c .before .before .next-line .ensures .2 .high, c .if3 .taken)))
     (λ c κs. search needs)

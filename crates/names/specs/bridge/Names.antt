@@ -3,7 +3,7 @@ use Prim.Native.Nat.{ℕ, zero, suc, _+_, _*_, _%_, _≤_, _<_}
 use mathlib.Core.Path.{_≡_}
 use mathlib.Core.List.{List, [], _∷_, _++_}
 use mathlib.Core.Bool.{Bool, cond}
-use lib.ListN.{length, getD}
+use lib.ListN.{length, getD, set}
 use Rattle.text.specs.Text.{Bytes, piece}
 use Rattle.algebra.specs.Valid.{mem}
 
@@ -45,6 +45,11 @@ pub record Grows (old new : List ℕ) : Type 0 where
   pub size : length new ≡ length old
   pub stays : (p : ℕ) → (getD old p 0 ≡ 0 → ⊥) → getD new p 0 ≡ getD old p 0
 
+-- a hint that is put at a place is led to from another place on; past the last place it is put nowhere
+pub record Free (hints : List ℕ) (from at : ℕ) : Type 0 where
+  pub here : at < 4096 → (v : ℕ) → length hints ≡ 4096 → Grows hints (set hints at v) × Leads (set hints at v) v from 4096
+  pub none : 4096 ≤ at → (v : ℕ) → Grows hints hints × Leads hints v from 4096
+
 -- a name more, if it is new
 abbrev pub kept : Bytes → List Bytes → List Bytes
 kept f ns = cond (mem f ns) ns (ns ++ (f ∷ []))
@@ -56,6 +61,15 @@ pub record Holds (s : Bytes) (starts sizes hints : List ℕ) (n : ℕ) (want : L
   pub fits : n ≤ 1024 → listing s starts sizes n ≡ want
   pub hinted : n ≤ 1024 → Hinted hints want
   pub over : 1024 < n → 1024 < length want
+
+-- a table with n names has grown to one with m, which lists the name f at an entry, where it has room
+pub record Lists (s : Bytes) (a l : List ℕ) (n : ℕ) (a′ l′ : List ℕ) (m entry : ℕ) (f : Bytes) : Type 0 where
+  pub grows : n ≤ m
+  pub low : entry < 1025
+  pub tables : (length a ≡ 1024) × (length l ≡ 1024) → (length a′ ≡ 1024) × (length l′ ≡ 1024)
+  pub more : m ≤ 1024 → (length a ≡ 1024) × (length l ≡ 1024) → (xs : List Bytes) × (listing s a′ l′ m ≡ listing s a l n ++ xs)
+  pub inside : m ≤ 1024 → entry < m
+  pub here : m ≤ 1024 → (length a ≡ 1024) × (length l ≡ 1024) → getD (listing s a′ l′ m) entry [] ≡ f
 
 -- n entries, all 0
 pub record Zeros (n : ℕ) (a : List ℕ) : Type 0 where
