@@ -13,8 +13,9 @@ use Rattle.text.proofs.Basics.{and-left, and-right, same-eq}
 use Rattle.text.proofs.Lists.{same-long}
 use Rattle.algebra.specs.bridge.Table.{Row, Entry, Sort, triples, columns, patterns, expressions, rows, orders, aggregates, heads, sets, positions, valueRows, parts, rowsOf, rowIn, rowFor}
 use Rattle.words.specs.declared.Found.{Found}
-use Rattle.words.specs.bridge.Code.{sortAt, rowFound, Tidy}
-use Rattle.words.specs.bridge.Key.{keyOf, rowBy}
+use Rattle.words.specs.declared.Found.the-variants.{Is, None}
+use Rattle.words.specs.bridge.Code.{sortAt, rowOf, rowFound, Tidy, flagOf, Flags}
+use Rattle.words.specs.bridge.Key.{keyOf, rowBy, flagBy, Flagged}
 use Rattle.words.proofs.Keys.{Small, Told, same-by-key, all-small}
 
 -- ---- every word of the table is one that a key tells
@@ -80,6 +81,22 @@ row-by-key s f k l n e b =
     let t : Told f = record { first = n; long = l; small = all-small f b } in
     ap (λ (j : ℕ). rowBy j (rowsOf (sortAt s))) e ∙ sym (by-key (rowsOf (sortAt s)) f (words-tell (sortAt s)) t)
 
+-- what the key tells of the names is what the word does
+flag-is : (es : List Entry) (f : Bytes) (r : Row) → allTell es ≡ true → Told f → some r ≡ rowBy (keyOf 0 f) es → flagBy (keyOf 0 f) es ≡ flagOf f
+unfolding allTell rowBy flagBy
+flag-is [] f r h t q = let z : _≡_ {A = ℕ} 0 1 = cc in absurd (omega arith)
+flag-is (e ∷ es) f r h t q = go (eqb (keyOf 0 f) (keyOf 0 (e .word))) refl (λ w. flag-is es f r (and-right (tells (e .word)) (allTell es) h) t w) q
+  where
+    go : (b : Bool) → eqb (keyOf 0 f) (keyOf 0 (e .word)) ≡ b → (some r ≡ rowBy (keyOf 0 f) es → flagBy (keyOf 0 f) es ≡ flagOf f) → some r ≡ cond b (some (e .row)) (rowBy (keyOf 0 f) es) → cond b (flagOf (e .word)) (flagBy (keyOf 0 f) es) ≡ flagOf f
+    go true p on w = ap flagOf (sym (same-eq f (e .word) (same-by-key f (e .word) t (told (e .word) (and-left (tells (e .word)) (allTell es) h)) ∙ p)))
+    go false p on w = on w
+
+pub flag-by-key : (s : ℕ) (f : Bytes) (k : ℕ) (r : Found) → length f ≤ 8 → (getD f 0 0 ≡ 0 → ⊥) → k ≡ keyOf 0 f → ((i : ℕ) → i < length f → getD f i 0 < 256) → rowFound r ≡ rowBy k (rowsOf (sortAt s)) → Flagged k (rowsOf (sortAt s)) r → Flags f r
+flag-by-key s f k (Is c) l n e b w q =
+    let t : Told f = record { first = n; long = l; small = all-small f b } in
+    q ∙ ap (λ (j : ℕ). flagBy j (rowsOf (sortAt s))) e ∙ flag-is (rowsOf (sortAt s)) f (rowOf c) (words-tell (sortAt s)) t (w ∙ ap (λ (j : ℕ). rowBy j (rowsOf (sortAt s))) e)
+flag-by-key s f k None l n e b w q = tt
+
 pub too-long : (s : ℕ) (f : Bytes) → 8 < length f → none ≡ rowFor (sortAt s) f
 too-long s f h = sym (no-row (rowsOf (sortAt s)) f (words-tell (sortAt s)) (λ w t. let k = t .long in same-long f w (λ e. omega arith)))
 
@@ -121,8 +138,8 @@ few n {a} {b} {c} h =
 -- ---- the sorts by their numbers
 
 -- what holds of a sort's number holds of a number that is the same
-pub of-sort : (s n k : ℕ) (r : Found) → s ≡ n → (rowFound r ≡ rowBy k (rowsOf (sortAt n))) × Tidy n r → (rowFound r ≡ rowBy k (rowsOf (sortAt s))) × Tidy s r
-of-sort s n k r e h = subst (λ (m : ℕ). (rowFound r ≡ rowBy k (rowsOf (sortAt m))) × Tidy m r) (sym e) h
+pub of-sort : (s n k : ℕ) (r : Found) → s ≡ n → (rowFound r ≡ rowBy k (rowsOf (sortAt n))) × Flagged k (rowsOf (sortAt n)) r × Tidy n r → (rowFound r ≡ rowBy k (rowsOf (sortAt s))) × Flagged k (rowsOf (sortAt s)) r × Tidy s r
+of-sort s n k r e h = subst (λ (m : ℕ). (rowFound r ≡ rowBy k (rowsOf (sortAt m))) × Flagged k (rowsOf (sortAt m)) r × Tidy m r) (sym e) h
 
 -- s is none of the n numbers from i on, behind what is known already
 abbrev pub Past : ℕ → ℕ → ℕ → Type 0 → Type 0
@@ -133,7 +150,7 @@ known : (s i n : ℕ) (B : Type 0) → Past s i n B → B
 known s i zero B h = h
 known s i (suc n) B h = known s (suc i) n (B × (s ≡ i → ⊥)) h .0
 
-past : (s i n : ℕ) (B : Type 0) → i ≤ s → Past s i n B → i + n ≤ s
+pub past : (s i n : ℕ) (B : Type 0) → i ≤ s → Past s i n B → i + n ≤ s
 past s i zero B l h = omega arith
 past s i (suc n) B l h =
     let other : s ≡ i → ⊥ = known s (suc i) n (B × (s ≡ i → ⊥)) h .1 in

@@ -3,30 +3,18 @@ use mathlib.Core.Path.{_≡_, refl, _∙_, sym, ap}
 use mathlib.Core.Bool.{Bool, true, false}
 use mathlib.Core.List.{List, [], _∷_, map}
 use mathlib.Core.Option.{Option, none, some}
-use Prim.Native.Nat.{ℕ, zero, suc, _+_, _≤_, _<_}
+use Prim.Native.Nat.{ℕ, zero, suc, _+_, _≤_, _<_, zero-le}
 use native.Mathlib.Numerals.{add-one}
 use native.Mathlib.Omega.{arith}
 use lib.ListN.{length, getD, drop, drop-of-length-le, List·getD-map}
 use lib.Seq.{drop-cons}
-use Rattle.text.specs.Text.{Bytes, same, piece}
+use Rattle.text.specs.Text.{Bytes, same}
 use Rattle.text.specs.Word.{spelled}
 use Rattle.text.specs.Field.{Kind}
 use Rattle.algebra.specs.Query.{PlainString, extraKind}
 use Rattle.algebra.specs.Word.{spellV, domains}
-use Rattle.words.specs.bridge.Code.{mapped, extraFound, domainWords, domainStarts, domainSizes, extras, domainAt}
-
--- the pieces of s at the places and of the sizes listed
-cuts : Bytes → List ℕ → List ℕ → List Bytes
-cuts s [] ns = []
-cuts s (a ∷ as') [] = []
-cuts s (a ∷ as') (n ∷ ns) = piece a n s ∷ cuts s as' ns
-
-cut-at : (s : Bytes) (as' ns : List ℕ) (i : ℕ) → i < length as' → i < length ns → piece (getD as' i 0) (getD ns i 0) s ≡ getD (cuts s as' ns) i []
-unfolding cuts
-cut-at s [] ns i h k = absurd (omega arith)
-cut-at s (a ∷ as') [] i h k = absurd (omega arith)
-cut-at s (a ∷ as') (n ∷ ns) zero h k = refl
-cut-at s (a ∷ as') (n ∷ ns) (suc i) h k = cut-at s as' ns i (omega arith) (omega arith)
+use Rattle.words.specs.bridge.Code.{mapped, extraFound, extras, domainAt}
+use Rattle.words.proofs.ByKey.{Past, past}
 
 -- within a list it does not matter what stands past its end
 any-default : {A : Type 0} (l : List A) (i : ℕ) (d d′ : A) → i < length l → getD l i d ≡ getD l i d′
@@ -34,9 +22,15 @@ any-default [] i d d′ h = absurd (omega arith)
 any-default (x ∷ l) zero d d′ h = refl
 any-default (x ∷ l) (suc i) d d′ h = any-default l i d d′ (omega arith)
 
-pub domain-right : (i : ℕ) → i < 16 → piece (getD domainStarts i 0) (getD domainSizes i 0) domainWords ≡ domainAt i
-unfolding cuts
-domain-right i h = cut-at domainWords domainStarts domainSizes i h h
+-- the arms of the code, by number
+pub at-domain : (f : Bytes) (i k : ℕ) (r : Bool) → i ≡ k → r ≡ same f (domainAt k) → r ≡ same f (domainAt i)
+at-domain f i k r e p = p ∙ ap (λ (j : ℕ). same f (domainAt j)) (sym e)
+
+pub at-extra : (i k : ℕ) → i ≡ k → getD extras k 0 ≡ getD extras i 0
+at-extra i k e = ap (λ (j : ℕ). getD extras j 0) (sym e)
+
+pub last-domain : (i : ℕ) (B : Type 0) → i < 16 → Past i 0 15 B → i ≡ 15
+last-domain i B h r = let l : 0 + 15 ≤ i = past i 0 15 B zero-le r in omega arith
 
 -- ---- the search for a domain
 

@@ -3,18 +3,19 @@ mod rows;
 
 use crate::rows::row_of;
 use text::equal;
-use text::piece;
 ghost use mathlib.Core.Path.{_≡_};
 ghost use Prim.Native.Nat.{ℕ, _<_};
 ghost use lib.ListN.{length, getD};
 ghost use Rattle.text.specs.Text.{same};
 ghost use Rattle.algebra.specs.bridge.Table.{rowFor};
-ghost use Rattle.words.specs.bridge.Code.{domainAt, rowFound, sortAt, Tidy, extraFound, extraOf, extras};
+ghost use Rattle.words.specs.bridge.Code.{domainAt, rowFound, sortAt, Tidy, Flags, extraFound, extraOf, extras};
 ghost use Rattle.words.specs.bridge.Key.{keyOf};
 
 // The role and the kind of each of up to three fields; what stands behind them; and of each of up to three groups of lines
-// below: so many, which number of the line counts more of them, and their sort. `specs/Code.antt` says what each number means.
+// below: so many, which number of the line counts more of them, and their sort; and what the word means for the names of its
+// line and of its last pattern. `specs/Code.antt` says what each number means.
 pub struct Row(
+    pub u8,
     pub u8,
     pub u8,
     pub u8,
@@ -38,49 +39,38 @@ pub enum Found {
     None,
 }
 
-const DOMAINS: [u8; 128] =
-    *b"PlainStringLanguageTaggedStringIriFloatDoubleUnsignedLongNonNegativeLongUnsignedIntNonNegativeIntLongIntBooleanNullTupleMapOther";
+// The domains of values.
+const PLAIN_STRING: [u8; 11] = *b"PlainString";
 
-const DOMAIN_STARTS: [usize; 16] = [
-    0,
-    11,
-    31,
-    34,
-    39,
-    45,
-    57,
-    72,
-    83,
-    97,
-    101,
-    104,
-    111,
-    115,
-    120,
-    123,
-];
+const LANGUAGE_TAGGED_STRING: [u8; 20] = *b"LanguageTaggedString";
 
-const DOMAIN_SIZES: [usize; 16] = [11, 20, 3, 5, 6, 12, 15, 11, 14, 4, 3, 7, 4, 5, 3, 5];
+const IRI: [u8; 3] = *b"Iri";
 
-// The kind of each domain's extra.
-const EXTRAS: [u8; 16] = [
-    11,
-    12,
-    11,
-    13,
-    13,
-    13,
-    13,
-    13,
-    13,
-    13,
-    13,
-    13,
-    11,
-    11,
-    11,
-    13,
-];
+const FLOAT: [u8; 5] = *b"Float";
+
+const DOUBLE: [u8; 6] = *b"Double";
+
+const UNSIGNED_LONG: [u8; 12] = *b"UnsignedLong";
+
+const NON_NEGATIVE_LONG: [u8; 15] = *b"NonNegativeLong";
+
+const UNSIGNED_INT: [u8; 11] = *b"UnsignedInt";
+
+const NON_NEGATIVE_INT: [u8; 14] = *b"NonNegativeInt";
+
+const LONG: [u8; 4] = *b"Long";
+
+const INT: [u8; 3] = *b"Int";
+
+const BOOLEAN: [u8; 7] = *b"Boolean";
+
+const NULL: [u8; 4] = *b"Null";
+
+const TUPLE: [u8; 5] = *b"Tuple";
+
+const MAP: [u8; 3] = *b"Map";
+
+const OTHER: [u8; 5] = *b"Other";
 
 fn wide(x: u8) -> u64
     ensures { λ r. ⌜ (r ≡ x) × (r < 256) ⌝ }
@@ -106,6 +96,7 @@ pub fn lookup(sort: u8, f: &[u8]) -> Found
     requires { ⌜ sort < 12 ⌝ }
     ensures { λ r. ⌜ rowFound r ≡ rowFor (sortAt sort) (now (f .entry)) ⌝ }
     ensures tidy { λ r. ⌜ Tidy sort r ⌝ }
+    ensures flags { λ r. ⌜ Flags (now (f .entry)) r ⌝ }
 {
     if 8 < f.len() {
         return Found::None;
@@ -119,20 +110,54 @@ pub fn lookup(sort: u8, f: &[u8]) -> Found
     row_of(sort, key_of(f))
 }
 
+// A field is the domain of a number. Each domain is a constant of its own: it is laid out only where it is compared.
 fn is_domain(f: &[u8], i: usize) -> bool
     requires { ⌜ i < 16 ⌝ }
     ensures { λ r. ⌜ r ≡ same (now (f .entry)) (domainAt i) ⌝ }
 {
-    let from = DOMAIN_STARTS[i];
-    let size = DOMAIN_SIZES[i];
-    equal(f, piece(&DOMAINS, from, size))
+    match i {
+        0 => equal(f, &PLAIN_STRING),
+        1 => equal(f, &LANGUAGE_TAGGED_STRING),
+        2 => equal(f, &IRI),
+        3 => equal(f, &FLOAT),
+        4 => equal(f, &DOUBLE),
+        5 => equal(f, &UNSIGNED_LONG),
+        6 => equal(f, &NON_NEGATIVE_LONG),
+        7 => equal(f, &UNSIGNED_INT),
+        8 => equal(f, &NON_NEGATIVE_INT),
+        9 => equal(f, &LONG),
+        10 => equal(f, &INT),
+        11 => equal(f, &BOOLEAN),
+        12 => equal(f, &NULL),
+        13 => equal(f, &TUPLE),
+        14 => equal(f, &MAP),
+        _ => equal(f, &OTHER),
+    }
 }
 
+// The kind of each domain's extra.
 fn extra_at(i: usize) -> u8
     requires { ⌜ i < 16 ⌝ }
     ensures { λ r. ⌜ r ≡ getD extras i 0 ⌝ }
 {
-    EXTRAS[i]
+    match i {
+        0 => 11,
+        1 => 12,
+        2 => 11,
+        3 => 13,
+        4 => 13,
+        5 => 13,
+        6 => 13,
+        7 => 13,
+        8 => 13,
+        9 => 13,
+        10 => 13,
+        11 => 13,
+        12 => 11,
+        13 => 11,
+        14 => 11,
+        _ => 13,
+    }
 }
 
 // The kind of the extra that stands with a domain of values, or 0 where it is none.

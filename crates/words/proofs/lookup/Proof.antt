@@ -2,7 +2,7 @@
 use borrow.Author.Needs.{needs}
 use denote.Ref.{now}
 use mathlib.Core.Path.{_∙_}
-use Rattle.words.proofs.ByKey.{row-by-key, too-long, no-first, no-bytes}
+use Rattle.words.proofs.ByKey.{row-by-key, flag-by-key, too-long, no-first, no-bytes}
 use Rattle.words.proofs.lookup.Statement.{statement}
 use Rattle.words.proofs.lookup.Tie as tie
 
@@ -10,13 +10,16 @@ pub lookup-spec : {M : Type 1} → statement M
 lookup-spec =
     tie.close
     (tie.spec
-    (λ c. (too-long (c .before .before .args .sort) _ (c .if1 .taken), tt))
-    (λ c. (no-first (c .before .before .before .args .sort) _ (no-bytes (now (c .before .before .before .args .f)) (c .if2 .taken)), tt))
+    (λ c. (too-long (c .before .before .args .sort) _ (c .if1 .taken), (tt, tt)))
+    (λ c. (no-first (c .before .before .before .args .sort) _ (no-bytes (now (c .before .before .before .args .f)) (c .if2 .taken)), (tt, tt)))
     (λ c. search needs)
-    (λ c. (no-first (c .before .before .before .before .before .args .sort) (now (c .before .before .before .before .before .args .f)) (c .if3 .taken), tt))
+    (λ c. (no-first (c .before .before .before .before .before .args .sort) (now (c .before .before .before .before .before .args .f)) (c .if3 .taken), (tt, tt)))
     (λ c κs. search needs)
     (λ c κs. search needs)
     (λ c. let k = c .before .key-of .ensures in let a = c .before .before .before .before .before .before .before .args in (
       c .row-of .ensures .0 ∙ row-by-key (a .sort) (now (a .f)) _ (search needs) (c .before .before .if3 .left) (k .0) (k .1),
-      c .row-of .ensures .1,
+      (
+        c .row-of .ensures .2,
+        flag-by-key (a .sort) (now (a .f)) _ (c .row-of .result) (search needs) (c .before .before .if3 .left) (k .0) (k .1) (c .row-of .ensures .0) (c .row-of .ensures .1),
+      ),
     )))

@@ -1,12 +1,13 @@
 -- How the code writes the table of words, and what its numbers mean. Assumes nothing.
 use Prim.Native.Nat.{ℕ, zero, suc, _≤_}
 use mathlib.Core.Path.{_≡_}
-use mathlib.Core.Bool.{true, false}
+use mathlib.Core.Bool.{Bool, true, false, cond, not, _&&_, _||_}
+use lib.Dec.{eqb, leb, ltb}
 use mathlib.Core.Logic.{_⊎_}
 use mathlib.Core.List.{List, [], _∷_, _++_, map}
 use mathlib.Core.Option.{Option, none, some}
 use lib.ListN.{getD}
-use Rattle.text.specs.Text.{Bytes}
+use Rattle.text.specs.Text.{Bytes, same}
 use Rattle.text.specs.Word.{bytes, spelled}
 use Rattle.text.specs.Field.{Kind, cell, integer}
 use Rattle.text.specs.bridge.Code.{kindAt}
@@ -61,12 +62,30 @@ abbrev pub rowFound : Found → Option Row
 rowFound (Is c) = some (rowOf c)
 rowFound None = none
 
+-- the number that a group's lines are counted by, if any, stands in a field that says so
+abbrev pub counting : Code → ℕ → Bool
+counting c k =
+    getD (true ∷ (not (eqb (c .6) 1) && leb 3 (c .0)) ∷ (not (eqb (c .6) 1) && (leb 1 (c .0) && leb 3 (c .2))) ∷ (not (eqb (c .6) 1) && leb 3 (c .0)) ∷ (not (eqb (c .6) 1) && (leb 1 (c .0) && leb 3 (c .2))) ∷ []) k true
+
+-- under a query's head and the lines of a tree stand lines of a tree, and no values stand behind their fields
+abbrev pub inTree : ℕ → Code → Bool
+inTree s c = ltb 7 s || ((leb (c .9) 6 && (leb (c .12) 6 && leb (c .15) 6)) && (leb (c .6) 3 && (counting c (c .8) && (counting c (c .11) && counting c (c .14)))))
+
 -- the numbers of a row are small; and under a line that opens no level stands at most one group, of lines that open one
 abbrev pub Tidy : ℕ → Found → Type 0
 Tidy s (Is c) =
-    ((c .9 ≤ 11) × (c .12 ≤ 11) × (c .15 ≤ 11)) × ((c .7 ≤ 3) × (c .10 ≤ 3) × (c .13 ≤ 3))
+    ((c .9 ≤ 11) × (c .12 ≤ 11) × (c .15 ≤ 11)) × ((c .7 ≤ 3) × (c .10 ≤ 3) × (c .13 ≤ 3)) × (inTree s c ≡ true)
     × (opens (sortAt s) ≡ false → ((c .10 ≡ 0) × (c .11 ≡ 0) × (c .13 ≡ 0) × (c .14 ≡ 0)) × (((c .7 ≡ 0) × (c .8 ≡ 0)) ⊎ (opens (sortAt (c .9)) ≡ true)))
 Tidy s None = Unit {0}
+
+-- what a word means for the names under it: 1 its last pattern hides them, 2 those of its own line stay as they are, 0 neither
+unfoldable pub flagOf : Bytes → ℕ
+unfolding same
+flagOf w = cond (same w (bytes "project") || (same w (bytes "group") || same w (bytes "minus"))) 1 (cond (same w (bytes "service")) 2 0)
+
+abbrev pub Flags : Bytes → Found → Type 0
+Flags w (Is c) = c .16 ≡ flagOf w
+Flags w None = Unit {0}
 
 -- the kind of the extra that stands with a domain
 abbrev pub mapped : {A B : Type 0} → (A → B) → Option A → Option B
@@ -82,20 +101,11 @@ extraFound (suc k) = some (kindAt (suc k))
 
 -- ---- the constants of the code for the domains of values
 
-abbrev pub domainWords : List ℕ
-domainWords = bytes "PlainStringLanguageTaggedStringIriFloatDoubleUnsignedLongNonNegativeLongUnsignedIntNonNegativeIntLongIntBooleanNullTupleMapOther"
-
-abbrev pub domainStarts : List ℕ
-domainStarts = 0 ∷ 11 ∷ 31 ∷ 34 ∷ 39 ∷ 45 ∷ 57 ∷ 72 ∷ 83 ∷ 97 ∷ 101 ∷ 104 ∷ 111 ∷ 115 ∷ 120 ∷ 123 ∷ []
-
-abbrev pub domainSizes : List ℕ
-domainSizes = 11 ∷ 20 ∷ 3 ∷ 5 ∷ 6 ∷ 12 ∷ 15 ∷ 11 ∷ 14 ∷ 4 ∷ 3 ∷ 7 ∷ 4 ∷ 5 ∷ 3 ∷ 5 ∷ []
-
 abbrev pub extras : List ℕ
 extras = 11 ∷ 12 ∷ 11 ∷ 13 ∷ 13 ∷ 13 ∷ 13 ∷ 13 ∷ 13 ∷ 13 ∷ 13 ∷ 13 ∷ 11 ∷ 11 ∷ 11 ∷ 13 ∷ []
 
 abbrev pub noCode : Code
-noCode = record { 0 = 0; 1 = 0; 2 = 0; 3 = 0; 4 = 0; 5 = 0; 6 = 0; 7 = 0; 8 = 0; 9 = 0; 10 = 0; 11 = 0; 12 = 0; 13 = 0; 14 = 0; 15 = 0 }
+noCode = record { 0 = 0; 1 = 0; 2 = 0; 3 = 0; 4 = 0; 5 = 0; 6 = 0; 7 = 0; 8 = 0; 9 = 0; 10 = 0; 11 = 0; 12 = 0; 13 = 0; 14 = 0; 15 = 0; 16 = 0 }
 
 abbrev pub domainAt : ℕ → Bytes
 domainAt i = getD (map spellV domains) i []

@@ -1,11 +1,15 @@
 -- A word as one number, by which the code finds its row. Assumes nothing.
 use Prim.Native.Nat.{ℕ, _+_, _*_, _%_}
+use mathlib.Core.Path.{_≡_}
 use mathlib.Core.Bool.{cond}
 use mathlib.Core.List.{List, [], _∷_}
 use mathlib.Core.Option.{Option, none, some}
 use lib.Dec.{eqb}
 use Rattle.text.specs.Text.{Bytes}
 use Rattle.algebra.specs.bridge.Table.{Row, Entry}
+use Rattle.words.specs.declared.Found.{Found}
+use Rattle.words.specs.declared.Found.the-variants.{Is, None}
+use Rattle.words.specs.bridge.Code.{flagOf}
 
 -- the bytes behind those of k as one number, of which 64 bits are kept
 unfoldable pub keyOf : ℕ → Bytes → ℕ
@@ -17,3 +21,13 @@ unfoldable pub rowBy : ℕ → List Entry → Option Row
 unfolding keyOf
 rowBy k [] = none
 rowBy k (e ∷ es) = cond (eqb k (keyOf 0 (e .word))) (some (e .row)) (rowBy k es)
+
+-- what the first word with this key means for the names under it
+unfoldable pub flagBy : ℕ → List Entry → ℕ
+unfolding keyOf flagOf
+flagBy k [] = 0
+flagBy k (e ∷ es) = cond (eqb k (keyOf 0 (e .word))) (flagOf (e .word)) (flagBy k es)
+
+abbrev pub Flagged : ℕ → List Entry → Found → Type 0
+Flagged k es (Is c) = c .16 ≡ flagBy k es
+Flagged k es None = Unit {0}
