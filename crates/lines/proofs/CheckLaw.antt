@@ -115,14 +115,14 @@ module _ (s a b h : List ℕ) (x : Check) (p : Place) (r : Answer) (told : Told 
       go (suc n) e q = told-fault done [] w (λ z. absurd (omega (arith, e, z)))
 
 module _ (s a0 b0 h0 : List ℕ) (sort : Sort) (level : ℕ) (short : length s ≤ 16384) (none : Holds s a0 b0 h0 0 []) where
-  begun : Stood s a0 b0 h0 (record { from = 0; lines = 0; n = 0; fault = 0 }) start
+  begun : Stood s a0 b0 h0 (record { from = 0; lines = 0; n = 0; spots = 0; fault = 0 }) start
   begun = record { lines = refl; wide = omega arith; names = none }
 
-  pub one-is : (a b h : List ℕ) (p : Place) (r : Answer) → Told s p r → Goes s a0 b0 h0 (record { from = 0; lines = 0; n = 0; fault = 0 }) a b h (replicate 1 (want sort level 0)) p → Tells s a b h (checkText bounds done (want sort level 0 ∷ []) s) r
+  pub one-is : (a b h : List ℕ) (p : Place) (r : Answer) → Told s p r → Goes s a0 b0 h0 (record { from = 0; lines = 0; n = 0; spots = 0; fault = 0 }) a b h (replicate 1 (want sort level 0)) p → Tells s a b h (checkText bounds done (want sort level 0 ∷ []) s) r
   one-is a b h p r told f = told-one s a b h _ p r told (subst (λ x. Went s a b h done [] x p) (sym (check-start done (want sort level 0 ∷ []) s short)) (f done [] start begun))
 
-  pub list-begin : Went s a0 b0 h0 (entries 64 sort level) [] (checkText bounds (entries 64 sort level) [] s) (record { from = 0; lines = 0; n = 0; fault = 0 })
-  list-begin = subst (λ x. Went s a0 b0 h0 (entries 64 sort level) [] x (record { from = 0; lines = 0; n = 0; fault = 0 })) (sym (check-start (entries 64 sort level) [] s short)) (went-here s (entries 64 sort level) a0 b0 h0 [] (record { from = 0; lines = 0; n = 0; fault = 0 }) start begun refl)
+  pub list-begin : Went s a0 b0 h0 (entries 64 sort level) [] (checkText bounds (entries 64 sort level) [] s) (record { from = 0; lines = 0; n = 0; spots = 0; fault = 0 })
+  list-begin = subst (λ x. Went s a0 b0 h0 (entries 64 sort level) [] x (record { from = 0; lines = 0; n = 0; spots = 0; fault = 0 })) (sym (check-start (entries 64 sort level) [] s short)) (went-here s (entries 64 sort level) a0 b0 h0 [] (record { from = 0; lines = 0; n = 0; spots = 0; fault = 0 }) start begun refl)
 
 -- ---- entries of a list
 

@@ -77,11 +77,11 @@ module _ (s a b h : List ℕ) (ρ : More) (ws : List Want) (sort level width : �
       unfolding LineIs
       line-over us r e f = went-over s ρ a b h us _ r f (refused-here overBound (subst (LineIs s a b h (record { at = p .from; end = end; height = 0 }) sort level width m) e is))
 
-      pub line-asks : (x : Asked) → l ≡ Asks x → m .lines ≡ p .lines → Went s a b h ρ (groups (x .row) (below sort level) (x .first) (x .second) ++ ws) (run bounds (linesFrom s (p .from)) ρ (this ∷ ws) m) (record { from = end + 1; lines = p .lines + 1; n = x .names; fault = 0 })
+      pub line-asks : (x : Asked) → l ≡ Asks x → m .lines ≡ p .lines → Went s a b h ρ (groups (x .row) (below sort level) (x .first) (x .second) ++ ws) (run bounds (linesFrom s (p .from)) ρ (this ∷ ws) m) (record { from = end + 1; lines = p .lines + 1; n = x .names; spots = x .spots; fault = 0 })
       unfolding LineIs
       line-asks x e same = go (subst (LineIs s a b h (record { at = p .from; end = end; height = 0 }) sort level width m) e is)
         where
-          go : LineIs s a b h (record { at = p .from; end = end; height = 0 }) sort level width m (Asks x) → Went s a b h ρ (groups (x .row) (below sort level) (x .first) (x .second) ++ ws) (run bounds (linesFrom s (p .from)) ρ (this ∷ ws) m) (record { from = end + 1; lines = p .lines + 1; n = x .names; fault = 0 })
+          go : LineIs s a b h (record { at = p .from; end = end; height = 0 }) sort level width m (Asks x) → Went s a b h ρ (groups (x .row) (below sort level) (x .first) (x .second) ++ ws) (run bounds (linesFrom s (p .from)) ρ (this ∷ ws) m) (record { from = end + 1; lines = p .lines + 1; n = x .names; spots = x .spots; fault = 0 })
           go q = record {
             on = λ z. (
               q .1,

@@ -12,3 +12,9 @@ pub mod SaysLaw
 pub mod LineIsLaw
 pub mod DescentLaw
 pub mod CheckLaw
+pub mod StoreLaw
+pub mod SpotsLaw
+pub mod AddLaw
+pub mod WalkLaw
+pub mod NotesLaw
+pub mod WalksLaw

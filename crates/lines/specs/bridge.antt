@@ -3,3 +3,6 @@ pub mod Steps
 pub mod Says
 pub mod Below
 pub mod Run
+pub mod Spotted
+pub mod Stored
+pub mod Walks

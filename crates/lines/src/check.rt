@@ -2,30 +2,42 @@
 use crate::below::alone;
 use crate::below::amount;
 use crate::below::below_level;
+use crate::fields::Spot;
 use crate::line::Line;
 use crate::line::read_line;
 use algebra::Answer;
 use cursor::Cursor;
-use text::find;
+use reader::next_end;
 use words::Row;
 ghost use mathlib.Core.Path.{_≡_};
-ghost use Prim.Native.Nat.{_≤_, _<_, pred};
+ghost use Prim.Native.Nat.{ℕ, _≤_, _<_, pred};
 ghost use mathlib.Core.List.{List, [], _∷_, _++_};
+ghost use mathlib.Core.Bool.{true};
 ghost use lib.ListN.{replicate};
+ghost use lib.Dec.{eqb};
 ghost use Rattle.text.specs.Text.{linesFrom};
 ghost use Rattle.algebra.specs.Tally.{Tally, bounds};
 ghost use Rattle.algebra.specs.bridge.Machine.{Want, want, More, done, entries, run, checkText};
 ghost use Rattle.names.specs.bridge.Names.{Holds};
-ghost use Rattle.words.specs.bridge.Code.{sortAt};
+ghost use Rattle.algebra.specs.bridge.Table.{opens};
+ghost use Rattle.algebra.specs.declared.Answer.the-variants.{Good as GoodOf};
+ghost use Rattle.scoping.specs.bridge.Walk.{times as many, child, beneath, tree};
+ghost use Rattle.scoping.specs.bridge.Spots.{spotLine};
+ghost use Rattle.scoping.specs.bridge.Places.{silent};
+ghost use Rattle.words.specs.bridge.Code.{sortAt, rowOf};
 ghost use Rattle.lines.specs.bridge.Says.{below};
 ghost use Rattle.lines.specs.bridge.Below.{groups};
 ghost use Rattle.lines.specs.bridge.Run.{Ready, Stood, Went, Sound, Told, levelFor, Tells};
+ghost use Rattle.lines.specs.bridge.Spotted.{markAt};
+ghost use Rattle.lines.specs.bridge.Walks.{storeAt, Walks, LineWalks, entryOf, markUnder, answerOf, Charts};
+ghost use Rattle.lines.specs.declared.check.Noting.the-variants.{Good};
 
-// Where the text goes on, how many lines and names there were; and the fault that ended the check: 0 for none, 1 for malformed, else over a bound.
+// Where the text goes on, how many lines, names and spots there were; and the fault that ended the check: 0 for none, 1 for malformed, else over a bound.
 pub struct Place {
     pub from: usize,
     pub lines: usize,
     pub n: usize,
+    pub spots: usize,
     pub fault: usize,
 }
 
@@ -36,8 +48,31 @@ fn stopped(fault: usize) -> Place
         from: 0,
         lines: 0,
         n: 0,
+        spots: 0,
         fault,
     }
+}
+
+// The mark of a line below another with that flag: expressions are silent, and the last pattern may be hidden.
+fn mark_below(sort: u8, flag: u8, last: bool, mark: u8) -> u8
+    ensures { λ r. ⌜ markAt r ≡ markUnder sort (eqb flag 1) last (markAt mark) ⌝ }
+{
+    if sort == 3 {
+        return 2;
+    }
+    if sort != 2 {
+        return mark;
+    }
+    if flag != 1 {
+        return mark;
+    }
+    if !last {
+        return mark;
+    }
+    if mark == 0 {
+        return 1;
+    }
+    mark
 }
 
 // A line that was read: what it asks for, and the place behind it.
@@ -52,7 +87,7 @@ fn lost(fault: usize) -> Taken
     ensures { λ r. ⌜ r .place .fault ≡ fault ⌝ }
 {
     Taken {
-        row: Row(0, 0, 0, 0, 0, 0, 0, 0, 0, 0, 0, 0, 0, 0, 0, 0),
+        row: Row(0, 0, 0, 0, 0, 0, 0, 0, 0, 0, 0, 0, 0, 0, 0, 0, 0),
         first: 0,
         second: 0,
         place: stopped(fault),
@@ -65,20 +100,23 @@ fn take_line(
     level: u8,
     sort: u8,
     width: usize,
+    mark: u8,
     s: &[u8],
     starts: &mut [u16; 1024],
     sizes: &mut [u16; 1024],
     hints: &mut [u16; 4096],
+    spots: &mut [Spot],
 ) -> Taken
     requires { ⌜ (sort ≤ 11) × Ready (now s) p ⌝ }
     ensures { λ r. ⌜ ((ρ : More) (ws : List Want) (m : Tally) → Stood (now (s .entry)) (now (starts .entry)) (now (sizes .entry)) (now (hints .entry)) p m → Went (now (s .entry)) (now (starts .exit)) (now (sizes .exit)) (now (hints .exit)) ρ (groups (r .row) (below sort level) (r .first) (r .second) ++ ws) (run bounds (linesFrom (now (s .entry)) (p .from)) ρ (want (sortAt sort) level width ∷ ws) m) (r .place)) ⌝ }
-    ensures sound { λ r. ⌜ (r .place .fault ≡ 0 → Sound (now (s .entry)) p r) ⌝ }
+    ensures sound { λ r. ⌜ (r .place .fault ≡ 0 → Sound (now (s .entry)) p sort level r) ⌝ }
+    ensures walks { λ r. ⌜ (r .place .fault ≡ 0 → sort ≤ 7 → LineWalks (now (s .entry)) (storeAt (now (starts .entry)) (now (sizes .entry)) (now (spots .entry)) p) p (storeAt (now (starts .exit)) (now (sizes .exit)) (now (spots .exit)) (r .place)) sort mark r) ⌝ }
 {
     let from = p.from;
     if s.len() <= from {
         return lost(1);
     }
-    let end = find(s, from, s.len(), 10);
+    let end = next_end(s, from);
     if end == s.len() {
         return lost(1);
     }
@@ -87,7 +125,21 @@ fn take_line(
         end,
         height: 0,
     };
-    let l = read_line(s, c, sort, level, width, p.lines, starts, sizes, hints, p.n);
+    let l = read_line(
+        s,
+        c,
+        sort,
+        level,
+        width,
+        p.lines,
+        mark,
+        starts,
+        sizes,
+        hints,
+        p.n,
+        spots,
+        p.spots,
+    );
     match l {
         Line::Asks(a) => {
             let row = a.row;
@@ -99,6 +151,7 @@ fn take_line(
                     from: end + 1,
                     lines: p.lines + 1,
                     n: a.names,
+                    spots: a.spots,
                     fault: 0,
                 },
             };
@@ -118,16 +171,20 @@ fn check_entry(
     level: u8,
     sort: u8,
     width: usize,
+    mark: u8,
     s: &[u8],
     starts: &mut [u16; 1024],
     sizes: &mut [u16; 1024],
     hints: &mut [u16; 4096],
+    spots: &mut [Spot],
 ) -> Place
     requires { ⌜ (sort ≤ 11) × Ready (now s) p ⌝ }
     ensures { λ r. ⌜ ((ρ : More) (ws : List Want) (m : Tally) → Stood (now (s .entry)) (now (starts .entry)) (now (sizes .entry)) (now (hints .entry)) p m → Went (now (s .entry)) (now (starts .exit)) (now (sizes .exit)) (now (hints .exit)) ρ ws (run bounds (linesFrom (now (s .entry)) (p .from)) ρ (want (sortAt sort) level width ∷ ws) m) r) ⌝ }
     ensures ready { λ r. ⌜ (r .fault ≡ 0 → (p .from < r .from) × Ready (now (s .entry)) r) ⌝ }
+    ensures walks { λ r. ⌜ (r .fault ≡ 0 → sort ≤ 7 → Walks (now (s .entry)) (storeAt (now (starts .entry)) (now (sizes .entry)) (now (spots .entry)) p) p (storeAt (now (starts .exit)) (now (sizes .exit)) (now (spots .exit)) r) r (entryOf level sort (markAt mark))) ⌝ }
+    ensures deep { λ r. ⌜ (r .fault ≡ 0 → opens (sortAt sort) ≡ true → level ≡ 0 → ⊥) ⌝ }
 {
-    let t = take_line(p, level, sort, width, s, starts, sizes, hints);
+    let t = take_line(p, level, sort, width, mark, s, starts, sizes, hints, spots);
     let q = t.place;
     if q.fault != 0 {
         return q;
@@ -136,7 +193,19 @@ fn check_entry(
         return q;
     }
     let d = below_level(sort, level);
-    check_below(q, d, t.row, t.first, t.second, s, starts, sizes, hints)
+    check_below(
+        q,
+        d,
+        t.row,
+        t.first,
+        t.second,
+        mark,
+        s,
+        starts,
+        sizes,
+        hints,
+        spots,
+    )
 }
 
 // The groups of lines that a line with that row asks for.
@@ -146,27 +215,69 @@ fn check_below(
     row: Row,
     first: usize,
     second: usize,
+    mark: u8,
     s: &[u8],
     starts: &mut [u16; 1024],
     sizes: &mut [u16; 1024],
     hints: &mut [u16; 4096],
+    spots: &mut [Spot],
 ) -> Place
     requires { ⌜ ((row .9 ≤ 11) × (row .12 ≤ 11) × (row .15 ≤ 11)) × (first < 4294967296) × (second < 4294967296) × Ready (now s) p ⌝ }
     ensures { λ r. ⌜ ((ρ : More) (ws : List Want) (m : Tally) → Stood (now (s .entry)) (now (starts .entry)) (now (sizes .entry)) (now (hints .entry)) p m → Went (now (s .entry)) (now (starts .exit)) (now (sizes .exit)) (now (hints .exit)) ρ ws (run bounds (linesFrom (now (s .entry)) (p .from)) ρ (groups row level first second ++ ws) m) r) ⌝ }
     ensures ready { λ r. ⌜ (r .fault ≡ 0 → (p .from ≤ r .from) × Ready (now (s .entry)) r) ⌝ }
+    ensures walks { λ r. ⌜ (r .fault ≡ 0 → (row .9 ≤ 6) × (row .12 ≤ 6) × (row .15 ≤ 6) → Walks (now (s .entry)) (storeAt (now (starts .entry)) (now (sizes .entry)) (now (spots .entry)) p) p (storeAt (now (starts .exit)) (now (sizes .exit)) (now (spots .exit)) r) r (beneath spotLine (tree spotLine level) (eqb (row .16) 1) (markAt mark) (rowOf row .below) (first ∷ second ∷ []))) ⌝ }
 {
     let k = amount(row.7, row.8, first, second);
-    let a = check_group(p, level, row.9, first, k, s, starts, sizes, hints);
+    let a = check_group(
+        p,
+        level,
+        row.9,
+        first,
+        k,
+        mark,
+        row.16,
+        s,
+        starts,
+        sizes,
+        hints,
+        spots,
+    );
     if a.fault != 0 {
         return a;
     }
     let l = amount(row.10, row.11, first, second);
-    let b = check_group(a, level, row.12, first, l, s, starts, sizes, hints);
+    let b = check_group(
+        a,
+        level,
+        row.12,
+        first,
+        l,
+        mark,
+        row.16,
+        s,
+        starts,
+        sizes,
+        hints,
+        spots,
+    );
     if b.fault != 0 {
         return b;
     }
     let x = amount(row.13, row.14, first, second);
-    check_group(b, level, row.15, first, x, s, starts, sizes, hints)
+    check_group(
+        b,
+        level,
+        row.15,
+        first,
+        x,
+        mark,
+        row.16,
+        s,
+        starts,
+        sizes,
+        hints,
+        spots,
+    )
 }
 
 // So many lines of a sort, if any.
@@ -176,19 +287,36 @@ fn check_group(
     sort: u8,
     width: usize,
     times: u64,
+    mark: u8,
+    flag: u8,
     s: &[u8],
     starts: &mut [u16; 1024],
     sizes: &mut [u16; 1024],
     hints: &mut [u16; 4096],
+    spots: &mut [Spot],
 ) -> Place
     requires { ⌜ (sort ≤ 11) × Ready (now s) p ⌝ }
     ensures { λ r. ⌜ ((ρ : More) (ws : List Want) (m : Tally) → Stood (now (s .entry)) (now (starts .entry)) (now (sizes .entry)) (now (hints .entry)) p m → Went (now (s .entry)) (now (starts .exit)) (now (sizes .exit)) (now (hints .exit)) ρ ws (run bounds (linesFrom (now (s .entry)) (p .from)) ρ (replicate times (want (sortAt sort) level width) ++ ws) m) r) ⌝ }
     ensures ready { λ r. ⌜ (r .fault ≡ 0 → (p .from ≤ r .from) × Ready (now (s .entry)) r) ⌝ }
+    ensures walks { λ r. ⌜ (r .fault ≡ 0 → sort ≤ 6 → Walks (now (s .entry)) (storeAt (now (starts .entry)) (now (sizes .entry)) (now (spots .entry)) p) p (storeAt (now (starts .exit)) (now (sizes .exit)) (now (spots .exit)) r) r (many (child spotLine (tree spotLine level) (eqb flag 1) (markAt mark) (sortAt sort)) times)) ⌝ }
 {
     if times == 0 {
         return p;
     }
-    check_lines(p, level, sort, width, times, s, starts, sizes, hints)
+    check_lines(
+        p,
+        level,
+        sort,
+        width,
+        times,
+        mark,
+        flag,
+        s,
+        starts,
+        sizes,
+        hints,
+        spots,
+    )
 }
 
 // So many lines of a sort, each with all that it asks for.
@@ -198,25 +326,99 @@ fn check_lines(
     sort: u8,
     width: usize,
     times: u64,
+    mark: u8,
+    flag: u8,
     s: &[u8],
     starts: &mut [u16; 1024],
     sizes: &mut [u16; 1024],
     hints: &mut [u16; 4096],
+    spots: &mut [Spot],
 ) -> Place
     requires { ⌜ (sort ≤ 11) × Ready (now s) p ⌝ }
     ensures { λ r. ⌜ ((ρ : More) (ws : List Want) (m : Tally) → Stood (now (s .entry)) (now (starts .entry)) (now (sizes .entry)) (now (hints .entry)) p m → Went (now (s .entry)) (now (starts .exit)) (now (sizes .exit)) (now (hints .exit)) ρ ws (run bounds (linesFrom (now (s .entry)) (p .from)) ρ (replicate times (want (sortAt sort) level width) ++ ws) m) r) ⌝ }
     ensures ready { λ r. ⌜ (r .fault ≡ 0 → (p .from ≤ r .from) × Ready (now (s .entry)) r) ⌝ }
+    ensures walks { λ r. ⌜ (r .fault ≡ 0 → sort ≤ 6 → Walks (now (s .entry)) (storeAt (now (starts .entry)) (now (sizes .entry)) (now (spots .entry)) p) p (storeAt (now (starts .exit)) (now (sizes .exit)) (now (spots .exit)) r) r (many (child spotLine (tree spotLine level) (eqb flag 1) (markAt mark) (sortAt sort)) times)) ⌝ }
 {
     let mut q = p;
     let mut left = times;
     while 0 < left {
         left -= 1;
-        q = check_entry(q, level, sort, width, s, starts, sizes, hints);
+        let m = mark_below(sort, flag, left == 0, mark);
+        q = check_child(q, level, sort, width, m, s, starts, sizes, hints, spots);
         if q.fault != 0 {
             return q;
         }
     }
     q
+}
+
+// A graph pattern with all that stands below it.
+fn check_pattern(
+    p: Place,
+    level: u8,
+    width: usize,
+    mark: u8,
+    s: &[u8],
+    starts: &mut [u16; 1024],
+    sizes: &mut [u16; 1024],
+    hints: &mut [u16; 4096],
+    spots: &mut [Spot],
+) -> Place
+    requires { ⌜ Ready (now s) p ⌝ }
+    ensures { λ r. ⌜ ((ρ : More) (ws : List Want) (m : Tally) → Stood (now (s .entry)) (now (starts .entry)) (now (sizes .entry)) (now (hints .entry)) p m → Went (now (s .entry)) (now (starts .exit)) (now (sizes .exit)) (now (hints .exit)) ρ ws (run bounds (linesFrom (now (s .entry)) (p .from)) ρ (want (sortAt 2) level width ∷ ws) m) r) ⌝ }
+    ensures ready { λ r. ⌜ (r .fault ≡ 0 → (p .from < r .from) × Ready (now (s .entry)) r) ⌝ }
+    ensures walks { λ r. ⌜ (r .fault ≡ 0 → Walks (now (s .entry)) (storeAt (now (starts .entry)) (now (sizes .entry)) (now (spots .entry)) p) p (storeAt (now (starts .exit)) (now (sizes .exit)) (now (spots .exit)) r) r (entryOf level 2 (markAt mark))) ⌝ }
+    ensures deep { λ r. ⌜ (r .fault ≡ 0 → opens (sortAt 2) ≡ true → level ≡ 0 → ⊥) ⌝ }
+{
+    check_entry(p, level, 2, width, mark, s, starts, sizes, hints, spots)
+}
+
+// An expression with all that stands below it: none of its variables is visible or covered.
+fn check_expression(
+    p: Place,
+    level: u8,
+    width: usize,
+    s: &[u8],
+    starts: &mut [u16; 1024],
+    sizes: &mut [u16; 1024],
+    hints: &mut [u16; 4096],
+    spots: &mut [Spot],
+) -> Place
+    requires { ⌜ Ready (now s) p ⌝ }
+    ensures { λ r. ⌜ ((ρ : More) (ws : List Want) (m : Tally) → Stood (now (s .entry)) (now (starts .entry)) (now (sizes .entry)) (now (hints .entry)) p m → Went (now (s .entry)) (now (starts .exit)) (now (sizes .exit)) (now (hints .exit)) ρ ws (run bounds (linesFrom (now (s .entry)) (p .from)) ρ (want (sortAt 3) level width ∷ ws) m) r) ⌝ }
+    ensures ready { λ r. ⌜ (r .fault ≡ 0 → (p .from < r .from) × Ready (now (s .entry)) r) ⌝ }
+    ensures walks { λ r. ⌜ (r .fault ≡ 0 → Walks (now (s .entry)) (storeAt (now (starts .entry)) (now (sizes .entry)) (now (spots .entry)) p) p (storeAt (now (starts .exit)) (now (sizes .exit)) (now (spots .exit)) r) r (entryOf level 3 silent)) ⌝ }
+    ensures deep { λ r. ⌜ (r .fault ≡ 0 → opens (sortAt 3) ≡ true → level ≡ 0 → ⊥) ⌝ }
+{
+    check_entry(p, level, 3, width, 2, s, starts, sizes, hints, spots)
+}
+
+// A line below another, with all that it asks for: a pattern, an expression, or a line of another sort.
+fn check_child(
+    p: Place,
+    level: u8,
+    sort: u8,
+    width: usize,
+    mark: u8,
+    s: &[u8],
+    starts: &mut [u16; 1024],
+    sizes: &mut [u16; 1024],
+    hints: &mut [u16; 4096],
+    spots: &mut [Spot],
+) -> Place
+    requires { ⌜ ((sort ≤ 11) × (sort ≡ 3 → markAt mark ≡ silent)) × Ready (now s) p ⌝ }
+    ensures { λ r. ⌜ ((ρ : More) (ws : List Want) (m : Tally) → Stood (now (s .entry)) (now (starts .entry)) (now (sizes .entry)) (now (hints .entry)) p m → Went (now (s .entry)) (now (starts .exit)) (now (sizes .exit)) (now (hints .exit)) ρ ws (run bounds (linesFrom (now (s .entry)) (p .from)) ρ (want (sortAt sort) level width ∷ ws) m) r) ⌝ }
+    ensures ready { λ r. ⌜ (r .fault ≡ 0 → (p .from < r .from) × Ready (now (s .entry)) r) ⌝ }
+    ensures walks { λ r. ⌜ (r .fault ≡ 0 → sort ≤ 7 → Walks (now (s .entry)) (storeAt (now (starts .entry)) (now (sizes .entry)) (now (spots .entry)) p) p (storeAt (now (starts .exit)) (now (sizes .exit)) (now (spots .exit)) r) r (entryOf level sort (markAt mark))) ⌝ }
+    ensures deep { λ r. ⌜ (r .fault ≡ 0 → opens (sortAt sort) ≡ true → level ≡ 0 → ⊥) ⌝ }
+{
+    if sort == 2 {
+        return check_pattern(p, level, width, mark, s, starts, sizes, hints, spots);
+    }
+    if sort == 3 {
+        return check_expression(p, level, width, s, starts, sizes, hints, spots);
+    }
+    check_entry(p, level, sort, width, mark, s, starts, sizes, hints, spots)
 }
 
 // What a check that ended here says: a fault, lines that are left over, or the number of names.
@@ -247,17 +449,59 @@ pub fn check_one(
     requires { ⌜ (sort ≤ 11) × Holds (now s) (now starts) (now sizes) (now hints) 0 [] ⌝ }
     ensures { λ r. ⌜ Tells (now (s .entry)) (now (starts .exit)) (now (sizes .exit)) (now (hints .exit)) (checkText bounds done (want (sortAt sort) level 0 ∷ []) (now (s .entry))) r ⌝ }
 {
+    let mut none: [Spot; 1] = [[0, 0, 0]];
+    let r = note_one(s, sort, level, starts, sizes, hints, &mut none);
+    match r {
+        Noting::Good(n, _) => Answer::Good(n),
+        Noting::Malformed => Answer::Malformed,
+        Noting::OverBound => Answer::OverBound,
+    }
+}
+
+// The answer of a check that notes spots: how many names and spots there are.
+pub enum Noting {
+    Good(usize, usize),
+    Malformed,
+    OverBound,
+}
+
+// The same with all its spots.
+fn noted(p: Place, r: Answer) -> Noting
+    ensures { λ q. ⌜ (answerOf q ≡ r) × ((n k : ℕ) → q ≡ Good n k → (r ≡ GoodOf n) × (k ≡ p .spots)) ⌝ }
+{
+    match r {
+        Answer::Good(n) => Noting::Good(n, p.spots),
+        Answer::Malformed => Noting::Malformed,
+        Answer::OverBound => Noting::OverBound,
+    }
+}
+
+// A text that is one line of a sort with all that it asks for, and its spots.
+pub fn note_one(
+    s: &[u8],
+    sort: u8,
+    level: u8,
+    starts: &mut [u16; 1024],
+    sizes: &mut [u16; 1024],
+    hints: &mut [u16; 4096],
+    spots: &mut [Spot],
+) -> Noting
+    requires { ⌜ (sort ≤ 11) × Holds (now s) (now starts) (now sizes) (now hints) 0 [] ⌝ }
+    ensures { λ r. ⌜ Tells (now (s .entry)) (now (starts .exit)) (now (sizes .exit)) (now (hints .exit)) (checkText bounds done (want (sortAt sort) level 0 ∷ []) (now (s .entry))) (answerOf r) ⌝ }
+    ensures charts { λ r. ⌜ (sort ≤ 7 → Charts (now (s .entry)) (now (starts .exit)) (now (sizes .exit)) (now (spots .entry)) (now (spots .exit)) sort level r) ⌝ }
+{
     if 16384 < s.len() {
-        return Answer::OverBound;
+        return Noting::OverBound;
     }
     let start = Place {
         from: 0,
         lines: 0,
         n: 0,
+        spots: 0,
         fault: 0,
     };
-    let p = check_entry(start, level, sort, 0, s, starts, sizes, hints);
-    told(s, p)
+    let p = check_entry(start, level, sort, 0, 0, s, starts, sizes, hints, spots);
+    noted(p, told(s, p))
 }
 
 // An entry too many has no level.
@@ -298,13 +542,15 @@ pub fn check_list(
         from: 0,
         lines: 0,
         n: 0,
+        spots: 0,
         fault: 0,
     };
     let mut left = 64;
+    let mut none: [Spot; 1] = [[0, 0, 0]];
     while p.from < s.len() {
         let d = entry_level(left, level);
         left = fewer(left);
-        p = check_entry(p, d, sort, 0, s, starts, sizes, hints);
+        p = check_entry(p, d, sort, 0, 0, s, starts, sizes, hints, &mut none);
         if p.fault != 0 {
             return told(s, p);
         }

@@ -1,27 +1,88 @@
 // The fields of a line, taken one after the other by what the table says of them.
 use cursor::Cursor;
 use cursor::Field;
-use names::note_field;
+use names::keep_name;
 use text::Number;
 use text::is_kind;
+use text::is_var;
 use text::number_of;
+use text::piece;
 use words::extra_kind;
 ghost use mathlib.Core.Path.{_≡_};
 ghost use Prim.Native.Nat.{ℕ, _+_, _≤_, _<_};
 ghost use mathlib.Core.List.{List, [], _∷_};
-ghost use lib.ListN.{length, getD};
+ghost use lib.ListN.{length, getD, set};
+ghost use Rattle.text.specs.Text.{piece as pieceOf};
 ghost use Rattle.text.specs.Field.{variable};
 ghost use Rattle.text.specs.bridge.Code.{kindAt};
 ghost use Rattle.algebra.specs.Tally.{notes};
-ghost use Rattle.algebra.specs.bridge.Table.{term, text, count, choice};
+ghost use Rattle.algebra.specs.bridge.Table.{Slot, term, text, count, choice};
 ghost use Rattle.names.specs.bridge.Names.{Holds};
 ghost use Rattle.lines.specs.bridge.Line.{takeField, takeTimes, takeValue, takeValues};
 ghost use Rattle.lines.specs.bridge.Steps.{InLine, leftAt, Follows, restOf, restIn, termsOf, termsIn, numberTaken};
+ghost use Rattle.lines.specs.bridge.Spotted.{markAt};
+ghost use Rattle.lines.specs.bridge.Stored.{store, Placed, Adds, found, oneSpot};
 
-// A cursor and the number of names in the table, or the number in a field.
+// A cursor and the number in a field.
 pub struct Taken {
     pub cursor: Cursor,
     pub number: usize,
+}
+
+// Where a field of a variable starts, its name's entry in the table, and its mark.
+pub type Spot = [u16; 3];
+
+// How many names are in the table, and how many spots were noted.
+pub struct Counts {
+    pub names: usize,
+    pub spots: usize,
+}
+
+// A cursor, and how many names and spots there are.
+pub struct Noted {
+    pub cursor: Cursor,
+    pub names: usize,
+    pub spots: usize,
+}
+
+// Notes a spot where there is room.
+fn put_spot(spots: &mut [Spot], k: usize, at: usize, entry: usize, mark: u8) -> usize
+    requires { ⌜ (at ≤ 16384) × (entry < 1025) ⌝ }
+    ensures { λ r. ⌜ Placed (now (spots .entry)) k (at ∷ entry ∷ mark ∷ []) (now (spots .exit)) r ⌝ }
+{
+    if k < spots.len() {
+        spots[k] = [at as u16, entry as u16, mark as u16];
+        return k + 1;
+    }
+    k
+}
+
+// Keeps a field in the table and notes where it stands, if it is a variable.
+fn note_field(
+    s: &[u8],
+    from: usize,
+    size: usize,
+    mark: u8,
+    starts: &mut [u16; 1024],
+    sizes: &mut [u16; 1024],
+    hints: &mut [u16; 4096],
+    n: usize,
+    spots: &mut [Spot],
+    k: usize,
+) -> Counts
+    requires { ⌜ (from ≤ 16384) × (size ≤ 16384) × (from + size < length (now s)) ⌝ }
+    ensures keeps { λ r. ⌜ ((want : List (List ℕ)) → Holds (now (s .entry)) (now (starts .entry)) (now (sizes .entry)) (now (hints .entry)) n want → Holds (now (s .entry)) (now (starts .exit)) (now (sizes .exit)) (now (hints .exit)) (r .names) (notes (pieceOf from size (now (s .entry)) ∷ []) want)) ⌝ }
+    ensures adds { λ r. ⌜ Adds (now (s .entry)) (store (now (starts .entry)) (now (sizes .entry)) n (now (spots .entry)) k) from (store (now (starts .exit)) (now (sizes .exit)) (r .names) (now (spots .exit)) (r .spots)) (from + size + 1) (oneSpot (markAt mark) from (pieceOf from size (now (s .entry)))) [] ⌝ }
+{
+    if is_var(piece(s, from, size)) {
+        let l = keep_name(s, from, size, starts, sizes, hints, n);
+        let j = put_spot(spots, k, from, l.entry, mark);
+        return Counts {
+            names: l.names,
+            spots: j,
+        };
+    }
+    Counts { names: n, spots: k }
 }
 
 // A field that counts nothing, of a kind.
@@ -44,40 +105,47 @@ pub fn text_field(s: &[u8], c: Cursor, kind: u8) -> Cursor
     }
 }
 
-// A term of a kind, whose variable goes into the table.
+// A term of a kind, whose variable goes into the table and is noted.
 pub fn term_field(
     s: &[u8],
     c: Cursor,
     kind: u8,
+    mark: u8,
     starts: &mut [u16; 1024],
     sizes: &mut [u16; 1024],
     hints: &mut [u16; 4096],
     n: usize,
-) -> Taken
+    spots: &mut [Spot],
+    k: usize,
+) -> Noted
     requires { ⌜ InLine (now s) c ⌝ }
     ensures follows { λ r. ⌜ Follows (now (s .entry)) c (restOf (takeField (term (kindAt kind)) (leftAt (now (s .entry)) c))) (r .cursor) ⌝ }
-    ensures keeps { λ r. ⌜ ((want : List (List ℕ)) → Holds (now (s .entry)) (now (starts .entry)) (now (sizes .entry)) (now (hints .entry)) n want → Holds (now (s .entry)) (now (starts .exit)) (now (sizes .exit)) (now (hints .exit)) (r .number) (notes (termsOf (takeField (term (kindAt kind)) (leftAt (now (s .entry)) c))) want)) ⌝ }
+    ensures keeps { λ r. ⌜ ((want : List (List ℕ)) → Holds (now (s .entry)) (now (starts .entry)) (now (sizes .entry)) (now (hints .entry)) n want → Holds (now (s .entry)) (now (starts .exit)) (now (sizes .exit)) (now (hints .exit)) (r .names) (notes (termsOf (takeField (term (kindAt kind)) (leftAt (now (s .entry)) c))) want)) ⌝ }
+    ensures adds { λ r. ⌜ (r .cursor .at ≤ c .end + 1 → (ss : List Slot) → Adds (now (s .entry)) (store (now (starts .entry)) (now (sizes .entry)) n (now (spots .entry)) k) (c .at) (store (now (starts .exit)) (now (sizes .exit)) (r .names) (now (spots .exit)) (r .spots)) (r .cursor .at) (found (markAt mark) (term (kindAt kind) ∷ ss) (now (s .entry)) c) (found (markAt mark) ss (now (s .entry)) (r .cursor))) ⌝ }
 {
     let at = c.at;
     let field = c.next_field(s);
     match field {
         Field::At(e, next) => {
             if is_kind(kind, &s[at..e]) {
-                let m = note_field(s, at, e - at, starts, sizes, hints, n);
-                return Taken {
+                let m = note_field(s, at, e - at, mark, starts, sizes, hints, n, spots, k);
+                return Noted {
                     cursor: next,
-                    number: m,
+                    names: m.names,
+                    spots: m.spots,
                 };
             }
-            return Taken {
+            return Noted {
                 cursor: c.failed(),
-                number: n,
+                names: n,
+                spots: k,
             };
         }
         Field::None => {
-            return Taken {
+            return Noted {
                 cursor: c.failed(),
-                number: n,
+                names: n,
+                spots: k,
             };
         }
     }
@@ -188,35 +256,42 @@ pub fn value_fields(s: &[u8], c: Cursor, times: usize) -> Cursor
     d
 }
 
-// So many variables, which go into the table.
+// So many variables, which go into the table and are noted.
 pub fn variable_fields(
     s: &[u8],
     c: Cursor,
     times: usize,
+    mark: u8,
     starts: &mut [u16; 1024],
     sizes: &mut [u16; 1024],
     hints: &mut [u16; 4096],
     n: usize,
-) -> Taken
+    spots: &mut [Spot],
+    k: usize,
+) -> Noted
     requires { ⌜ InLine (now s) c × (c .at ≤ c .end + 1) ⌝ }
     ensures follows { λ r. ⌜ Follows (now (s .entry)) c (restIn (takeTimes times (term variable) (leftAt (now (s .entry)) c))) (r .cursor) ⌝ }
-    ensures keeps { λ r. ⌜ (r .cursor .at ≤ c .end + 1 → (want : List (List ℕ)) → Holds (now (s .entry)) (now (starts .entry)) (now (sizes .entry)) (now (hints .entry)) n want → Holds (now (s .entry)) (now (starts .exit)) (now (sizes .exit)) (now (hints .exit)) (r .number) (notes (termsIn (takeTimes times (term variable) (leftAt (now (s .entry)) c))) want)) ⌝ }
+    ensures keeps { λ r. ⌜ (r .cursor .at ≤ c .end + 1 → (want : List (List ℕ)) → Holds (now (s .entry)) (now (starts .entry)) (now (sizes .entry)) (now (hints .entry)) n want → Holds (now (s .entry)) (now (starts .exit)) (now (sizes .exit)) (now (hints .exit)) (r .names) (notes (termsIn (takeTimes times (term variable) (leftAt (now (s .entry)) c))) want)) ⌝ }
+    ensures adds { λ r. ⌜ (r .cursor .at ≤ c .end + 1 → Adds (now (s .entry)) (store (now (starts .entry)) (now (sizes .entry)) n (now (spots .entry)) k) (c .at) (store (now (starts .exit)) (now (sizes .exit)) (r .names) (now (spots .exit)) (r .spots)) (r .cursor .at) (found (markAt mark) [] (now (s .entry)) c) (found (markAt mark) [] (now (s .entry)) (r .cursor))) ⌝ }
 {
     let mut d = c;
     let mut m = n;
-    let mut k = times;
-    while 0 < k {
-        let t = term_field(s, d, 0, starts, sizes, hints, m);
+    let mut j = k;
+    let mut left = times;
+    while 0 < left {
+        let t = term_field(s, d, 0, mark, starts, sizes, hints, m, spots, j);
         d = t.cursor;
         if d.end + 1 < d.at {
             return t;
         }
-        m = t.number;
-        k -= 1;
+        m = t.names;
+        j = t.spots;
+        left -= 1;
     }
-    Taken {
+    Noted {
         cursor: d,
-        number: m,
+        names: m,
+        spots: j,
     }
 }
 

@@ -1,5 +1,5 @@
-// The check of a text by descent, by the one table of words, with the text's variables kept on the way.
+// The check of a text by descent, by the one table of words, with the text's variables kept and their places noted on the way.
 pub mod below;
 pub mod check;
-mod fields;
+pub mod fields;
 mod line;

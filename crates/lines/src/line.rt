@@ -1,5 +1,5 @@
 // One line: its word, the fields that the word's row of the table asks for, and the bounds.
-use crate::fields::Taken;
+use crate::fields::Spot;
 use crate::fields::choice_field;
 use crate::fields::count_field;
 use crate::fields::fields_left;
@@ -15,21 +15,26 @@ use words::Row;
 use words::lookup;
 ghost use mathlib.Core.Path.{_≡_};
 ghost use Prim.Native.Nat.{ℕ, _+_, _≤_, _<_};
-ghost use mathlib.Core.List.{List, []};
+ghost use mathlib.Core.List.{List, [], _∷_};
+ghost use mathlib.Core.Bool.{cond};
 ghost use lib.ListN.{length, getD};
+ghost use lib.Dec.{eqb};
 ghost use Rattle.text.specs.bridge.Code.{kindAt};
 ghost use Rattle.algebra.specs.Tally.{notes, Tally};
-ghost use Rattle.algebra.specs.bridge.Table.{opens};
+ghost use Rattle.algebra.specs.bridge.Table.{Slot, opens};
 ghost use Rattle.names.specs.bridge.Names.{Holds};
 ghost use Rattle.words.specs.bridge.Code.{tailOf, rowOf, sortAt};
 ghost use Rattle.lines.specs.bridge.Line.{takeField, takeSlots, takeTail, takeLine, columnsOf};
 ghost use Rattle.lines.specs.bridge.Says.{Says, LineIs, Small};
 ghost use Rattle.lines.specs.bridge.Steps.{InLine, leftAt, Follows, restOf, restIn, termsOf, termsIn, numberTaken, numbersIn, oneSlot, TookSlots};
+ghost use Rattle.lines.specs.bridge.Spotted.{markAt};
+ghost use Rattle.lines.specs.bridge.Stored.{store, Adds, found, LineNotes};
 
 // A cursor, the number of names in the table, and the number in a field or of a project's columns.
 pub struct Step {
     pub cursor: Cursor,
     pub names: usize,
+    pub spots: usize,
     pub number: usize,
 }
 
@@ -39,21 +44,26 @@ fn slot(
     c: Cursor,
     role: u8,
     kind: u8,
+    mark: u8,
     starts: &mut [u16; 1024],
     sizes: &mut [u16; 1024],
     hints: &mut [u16; 4096],
     n: usize,
+    spots: &mut [Spot],
+    k: usize,
 ) -> Step
     requires { ⌜ InLine (now s) c × (role ≡ 0 → ⊥) ⌝ }
     ensures follows { λ r. ⌜ Follows (now (s .entry)) c (restOf (takeField (oneSlot role (kindAt kind)) (leftAt (now (s .entry)) c))) (r .cursor) × (numberTaken (takeField (oneSlot role (kindAt kind)) (leftAt (now (s .entry)) c)) ≡ r .number) × (r .number < 4294967296) ⌝ }
     ensures keeps { λ r. ⌜ ((want : List (List ℕ)) → Holds (now (s .entry)) (now (starts .entry)) (now (sizes .entry)) (now (hints .entry)) n want → Holds (now (s .entry)) (now (starts .exit)) (now (sizes .exit)) (now (hints .exit)) (r .names) (notes (termsOf (takeField (oneSlot role (kindAt kind)) (leftAt (now (s .entry)) c))) want)) ⌝ }
+    ensures adds { λ r. ⌜ (r .cursor .at ≤ c .end + 1 → (ss : List Slot) → Adds (now (s .entry)) (store (now (starts .entry)) (now (sizes .entry)) n (now (spots .entry)) k) (c .at) (store (now (starts .exit)) (now (sizes .exit)) (r .names) (now (spots .exit)) (r .spots)) (r .cursor .at) (found (markAt mark) (oneSlot role (kindAt kind) ∷ ss) (now (s .entry)) c) (found (markAt mark) ss (now (s .entry)) (r .cursor))) ⌝ }
 {
     if role == 1 {
-        let t = term_field(s, c, kind, starts, sizes, hints, n);
+        let t = term_field(s, c, kind, mark, starts, sizes, hints, n, spots, k);
         let d = t.cursor;
         return Step {
             cursor: d,
-            names: t.number,
+            names: t.names,
+            spots: t.spots,
             number: 0,
         };
     }
@@ -62,6 +72,7 @@ fn slot(
         return Step {
             cursor: d,
             names: n,
+            spots: k,
             number: 0,
         };
     }
@@ -71,6 +82,7 @@ fn slot(
         return Step {
             cursor: d,
             names: n,
+            spots: k,
             number: t.number,
         };
     }
@@ -79,6 +91,7 @@ fn slot(
     Step {
         cursor: d,
         names: n,
+        spots: k,
         number: t.number,
     }
 }
@@ -87,6 +100,7 @@ fn slot(
 pub struct Filled {
     pub cursor: Cursor,
     pub names: usize,
+    pub spots: usize,
     pub first: usize,
     pub second: usize,
 }
@@ -96,19 +110,24 @@ fn slots(
     s: &[u8],
     c: Cursor,
     row: Row,
+    mark: u8,
     starts: &mut [u16; 1024],
     sizes: &mut [u16; 1024],
     hints: &mut [u16; 4096],
     n: usize,
+    spots: &mut [Spot],
+    k: usize,
 ) -> Filled
     requires { ⌜ InLine (now s) c × (c .at ≤ c .end + 1) ⌝ }
     ensures { λ r. ⌜ TookSlots (now (s .entry)) c (takeSlots (rowOf row .slots) (leftAt (now (s .entry)) c)) (r .cursor) (r .first) (r .second) ⌝ }
     ensures keeps { λ r. ⌜ (r .cursor .at ≤ c .end + 1 → (want : List (List ℕ)) → Holds (now (s .entry)) (now (starts .entry)) (now (sizes .entry)) (now (hints .entry)) n want → Holds (now (s .entry)) (now (starts .exit)) (now (sizes .exit)) (now (hints .exit)) (r .names) (notes (termsIn (takeSlots (rowOf row .slots) (leftAt (now (s .entry)) c))) want)) ⌝ }
+    ensures adds { λ r. ⌜ (r .cursor .at ≤ c .end + 1 → Adds (now (s .entry)) (store (now (starts .entry)) (now (sizes .entry)) n (now (spots .entry)) k) (c .at) (store (now (starts .exit)) (now (sizes .exit)) (r .names) (now (spots .exit)) (r .spots)) (r .cursor .at) (found (markAt mark) (rowOf row .slots) (now (s .entry)) c) (found (markAt mark) [] (now (s .entry)) (r .cursor))) ⌝ }
 {
     if row.6 == 1 {
         return Filled {
             cursor: c,
             names: n,
+            spots: k,
             first: 0,
             second: 0,
         };
@@ -117,35 +136,63 @@ fn slots(
         return Filled {
             cursor: c,
             names: n,
+            spots: k,
             first: 0,
             second: 0,
         };
     }
-    let a = slot(s, c, row.0, row.1, starts, sizes, hints, n);
+    let a = slot(s, c, row.0, row.1, mark, starts, sizes, hints, n, spots, k);
     let ca = a.cursor;
     if row.2 == 0 {
         return Filled {
             cursor: ca,
             names: a.names,
+            spots: a.spots,
             first: a.number,
             second: 0,
         };
     }
-    let b = slot(s, ca, row.2, row.3, starts, sizes, hints, a.names);
+    let b = slot(
+        s,
+        ca,
+        row.2,
+        row.3,
+        mark,
+        starts,
+        sizes,
+        hints,
+        a.names,
+        spots,
+        a.spots,
+    );
     let cb = b.cursor;
     if row.4 == 0 {
         return Filled {
             cursor: cb,
             names: b.names,
+            spots: b.spots,
             first: a.number,
             second: b.number,
         };
     }
-    let d = slot(s, cb, row.4, row.5, starts, sizes, hints, b.names);
+    let d = slot(
+        s,
+        cb,
+        row.4,
+        row.5,
+        mark,
+        starts,
+        sizes,
+        hints,
+        b.names,
+        spots,
+        b.spots,
+    );
     let cd = d.cursor;
     Filled {
         cursor: cd,
         names: d.names,
+        spots: d.spots,
         first: a.number,
         second: b.number,
     }
@@ -157,31 +204,37 @@ fn tail(
     c: Cursor,
     kind: u8,
     width: usize,
+    mark: u8,
     starts: &mut [u16; 1024],
     sizes: &mut [u16; 1024],
     hints: &mut [u16; 4096],
     n: usize,
+    spots: &mut [Spot],
+    k: usize,
 ) -> Step
     requires { ⌜ InLine (now s) c × (c .at ≤ c .end + 1) ⌝ }
     ensures follows { λ r. ⌜ Follows (now (s .entry)) c (restIn (takeTail (tailOf kind) width (leftAt (now (s .entry)) c))) (r .cursor) × (r .cursor .at ≤ c .end + 1 → columnsOf (tailOf kind) (termsIn (takeTail (tailOf kind) width (leftAt (now (s .entry)) c))) ≡ r .number) ⌝ }
     ensures keeps { λ r. ⌜ (r .cursor .at ≤ c .end + 1 → (want : List (List ℕ)) → Holds (now (s .entry)) (now (starts .entry)) (now (sizes .entry)) (now (hints .entry)) n want → Holds (now (s .entry)) (now (starts .exit)) (now (sizes .exit)) (now (hints .exit)) (r .names) (notes (termsIn (takeTail (tailOf kind) width (leftAt (now (s .entry)) c))) want)) ⌝ }
+    ensures adds { λ r. ⌜ (r .cursor .at ≤ c .end + 1 → kind ≤ 3 → Adds (now (s .entry)) (store (now (starts .entry)) (now (sizes .entry)) n (now (spots .entry)) k) (c .at) (store (now (starts .exit)) (now (sizes .exit)) (r .names) (now (spots .exit)) (r .spots)) (r .cursor .at) (found (markAt mark) [] (now (s .entry)) c) (found (markAt mark) [] (now (s .entry)) (r .cursor))) ⌝ }
 {
     if kind == 1 {
-        let k = fields_left(s, c);
-        let t = variable_fields(s, c, k, starts, sizes, hints, n);
+        let w = fields_left(s, c);
+        let t = variable_fields(s, c, w, mark, starts, sizes, hints, n, spots, k);
         let d = t.cursor;
         return Step {
             cursor: d,
-            names: t.number,
-            number: k,
+            names: t.names,
+            spots: t.spots,
+            number: w,
         };
     }
     if kind == 2 {
-        let t = variable_fields(s, c, width, starts, sizes, hints, n);
+        let t = variable_fields(s, c, width, mark, starts, sizes, hints, n, spots, k);
         let d = t.cursor;
         return Step {
             cursor: d,
-            names: t.number,
+            names: t.names,
+            spots: t.spots,
             number: 0,
         };
     }
@@ -189,6 +242,7 @@ fn tail(
     Step {
         cursor: d,
         names: n,
+        spots: k,
         number: 0,
     }
 }
@@ -217,6 +271,7 @@ fn plain_tail(s: &[u8], c: Cursor, kind: u8, width: usize) -> Cursor
 pub struct Said {
     pub cursor: Cursor,
     pub names: usize,
+    pub spots: usize,
     pub first: usize,
     pub second: usize,
     pub columns: usize,
@@ -227,31 +282,49 @@ fn fields(
     c: Cursor,
     row: Row,
     width: usize,
+    mark: u8,
     starts: &mut [u16; 1024],
     sizes: &mut [u16; 1024],
     hints: &mut [u16; 4096],
     n: usize,
+    spots: &mut [Spot],
+    k: usize,
 ) -> Said
     requires { ⌜ InLine (now s) c × (c .at ≤ c .end + 1) ⌝ }
     ensures says { λ r. ⌜ Says c (takeLine (rowOf row) width (leftAt (now (s .entry)) c)) (rowOf row .tail) (r .cursor) (r .first) (r .second) (r .columns) ⌝ }
     ensures keeps { λ r. ⌜ (r .cursor .at ≡ c .end + 1 → (want : List (List ℕ)) → Holds (now (s .entry)) (now (starts .entry)) (now (sizes .entry)) (now (hints .entry)) n want → Holds (now (s .entry)) (now (starts .exit)) (now (sizes .exit)) (now (hints .exit)) (r .names) (notes (termsIn (takeLine (rowOf row) width (leftAt (now (s .entry)) c))) want)) ⌝ }
+    ensures adds { λ r. ⌜ (r .cursor .at ≡ c .end + 1 → row .6 ≤ 3 → Adds (now (s .entry)) (store (now (starts .entry)) (now (sizes .entry)) n (now (spots .entry)) k) (c .at) (store (now (starts .exit)) (now (sizes .exit)) (r .names) (now (spots .exit)) (r .spots)) (r .cursor .at) (found (markAt mark) (rowOf row .slots) (now (s .entry)) c) (found (markAt mark) [] (now (s .entry)) (r .cursor))) ⌝ }
 {
-    let a = slots(s, c, row, starts, sizes, hints, n);
+    let a = slots(s, c, row, mark, starts, sizes, hints, n, spots, k);
     let ca = a.cursor;
     if ca.end + 1 < ca.at {
         return Said {
             cursor: ca,
             names: a.names,
+            spots: a.spots,
             first: a.first,
             second: a.second,
             columns: 0,
         };
     }
-    let t = tail(s, ca, row.6, width, starts, sizes, hints, a.names);
+    let t = tail(
+        s,
+        ca,
+        row.6,
+        width,
+        mark,
+        starts,
+        sizes,
+        hints,
+        a.names,
+        spots,
+        a.spots,
+    );
     let ct = t.cursor;
     Said {
         cursor: ct,
         names: t.names,
+        spots: t.spots,
         first: a.first,
         second: a.second,
         columns: t.number,
@@ -269,12 +342,23 @@ pub fn opens_level(sort: u8) -> bool
     OPENS[i] == 1
 }
 
-// What a good line asks for: its row, its first two numbers, and the number of names kept so far.
+// How many spots there are behind a line: where the names of a line stay as they are, none is noted.
+fn spots_behind(flag: u8, before: usize, after: usize) -> usize
+    ensures { λ r. ⌜ r ≡ cond (eqb flag 2) before after ⌝ }
+{
+    if flag == 2 {
+        return before;
+    }
+    after
+}
+
+// What a good line asks for: its row, its first two numbers, and the numbers of names and spots kept so far.
 pub struct Asked {
     pub row: Row,
     pub first: usize,
     pub second: usize,
     pub names: usize,
+    pub spots: usize,
 }
 
 pub enum Line {
@@ -291,14 +375,18 @@ pub fn read_line(
     level: u8,
     width: usize,
     lines: usize,
+    mark: u8,
     starts: &mut [u16; 1024],
     sizes: &mut [u16; 1024],
     hints: &mut [u16; 4096],
     n: usize,
+    spots: &mut [Spot],
+    k: usize,
 ) -> Line
     requires { ⌜ InLine (now s) c × (c .at ≤ c .end) × (sort ≤ 11) ⌝ }
     ensures { λ r. ⌜ ((m : Tally) → m .lines ≡ lines → m .wide ≤ 64 → Holds (now (s .entry)) (now (starts .entry)) (now (sizes .entry)) (now (hints .entry)) n (m .names) → LineIs (now (s .entry)) (now (starts .exit)) (now (sizes .exit)) (now (hints .exit)) c sort level width m r) ⌝ }
     ensures small { λ r. ⌜ Small sort level r ⌝ }
+    ensures notes { λ r. ⌜ (sort ≤ 7 → LineNotes (now (s .entry)) (now (starts .entry)) (now (sizes .entry)) n (now (spots .entry)) k (now (starts .exit)) (now (sizes .exit)) (now (spots .exit)) c sort mark r) ⌝ }
 {
     let at = c.at;
     let field = c.next_field(s);
@@ -307,8 +395,9 @@ pub fn read_line(
             let found = lookup(sort, &s[at..e]);
             match found {
                 Found::Is(row) => {
-                    let f = fields(s, next, row, width, starts, sizes, hints, n);
+                    let f = fields(s, next, row, width, mark, starts, sizes, hints, n, spots, k);
                     let d = f.cursor;
+                    let j = spots_behind(row.16, k, f.spots);
                     if d.at != d.end + 1 {
                         return Line::Malformed;
                     }
@@ -331,6 +420,7 @@ pub fn read_line(
                         first: f.first,
                         second: f.second,
                         names: f.names,
+                        spots: j,
                     });
                 }
                 Found::None => {

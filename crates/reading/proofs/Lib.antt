@@ -1,2 +1,4 @@
 pub mod ToldLaw
 pub mod Said
+pub mod ChartLaw
+pub mod ChartSaid

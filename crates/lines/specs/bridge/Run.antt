@@ -2,6 +2,7 @@
 use Prim.Native.Nat.{ℕ, zero, suc, _≤_, _<_}
 use mathlib.Core.Path.{_≡_}
 use mathlib.Core.List.{List}
+use mathlib.Core.Bool.{true}
 use lib.ListN.{length}
 use Rattle.text.specs.Text.{Bytes, linesFrom}
 use Rattle.algebra.specs.Tally.{Tally, bounds}
@@ -9,6 +10,8 @@ use Rattle.algebra.specs.Reader.{malformed, overBound}
 use Rattle.algebra.specs.bridge.Machine.{Want, More, Check, good, bad, run}
 use Rattle.algebra.specs.declared.Answer.{Answer}
 use Rattle.algebra.specs.declared.Answer.the-variants as A
+use Rattle.algebra.specs.bridge.Table.{opens}
+use Rattle.words.specs.bridge.Code.{sortAt}
 use Rattle.names.specs.bridge.Names.{Holds}
 use Rattle.lines.specs.declared.check.Place.{Place}
 use Rattle.lines.specs.declared.check.Taken.{Taken}
@@ -32,11 +35,13 @@ pub record Went (s : Bytes) (starts sizes hints : List ℕ) (ρ : More) (ws : Li
   pub over : (p .fault ≡ 0 → ⊥) → (p .fault ≡ 1 → ⊥) → x ≡ bad overBound
 
 -- what a good line from p on asks for is of known sorts, and its numbers are those of a field
-pub record Sound (s : Bytes) (p : Place) (r : Taken) : Type 0 where
+pub record Sound (s : Bytes) (p : Place) (sort level : ℕ) (r : Taken) : Type 0 where
   pub inside : p .from < 16384
   pub behind : p .from < r .place .from
   pub ready : Ready s (r .place)
   pub sorts : (r .row .9 ≤ 11) × (r .row .12 ≤ 11) × (r .row .15 ≤ 11)
+  pub trees : sort ≤ 7 → (r .row .9 ≤ 6) × (r .row .12 ≤ 6) × (r .row .15 ≤ 6)
+  pub deep : opens (sortAt sort) ≡ true → level ≡ 0 → ⊥
   pub small : (r .first < 4294967296) × (r .second < 4294967296)
 
 -- an entry of a list has so many levels; one too many has none

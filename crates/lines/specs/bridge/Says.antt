@@ -41,8 +41,8 @@ LineIs s starts sizes hints c sort level width m (Asks a) =
     × (m′ .lines ≡ suc (m .lines)) × (m′ .wide ≤ 64) × Holds s starts sizes hints (a .names) (m′ .names) × (a .names ≤ 1024)
     × Tidy sort (Is (a .row)) × (opens (sortAt sort) ≡ true → level ≡ 0 → ⊥)
 
--- the numbers of a good line are those of a field, and its row is one of the table
+-- the numbers of a good line are those of a field, its row is one of the table, and it has a level if it opens one
 abbrev pub Small : ℕ → ℕ → Line → Type 0
-Small sort level (Asks a) = (a .first < 4294967296) × (a .second < 4294967296) × Tidy sort (Is (a .row))
+Small sort level (Asks a) = (a .first < 4294967296) × (a .second < 4294967296) × Tidy sort (Is (a .row)) × (opens (sortAt sort) ≡ true → level ≡ 0 → ⊥)
 Small sort level Malformed = Unit {0}
 Small sort level OverBound = Unit {0}

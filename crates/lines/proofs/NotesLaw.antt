@@ -1,0 +1,299 @@
+-- A line by its word and its fields: the spots that were noted are those of the walk, and it asks for what the walk goes on with. Assumes nothing.
+use Prim.Native.Nat.{ℕ, zero, suc, _+_, _-_, _≤_, _<_}
+use mathlib.Core.Path.{_≡_, refl, sym, _∙_, ap, ap₂, subst}
+use mathlib.Core.List.{List, [], _∷_, _++_, append-nil}
+use mathlib.Core.Bool.{Bool, true, false, cond, not, _&&_, _||_, true≢false, false≢true}
+use mathlib.Core.Option.{Option, none, some}
+use native.Mathlib.Omega.{arith}
+use lib.ListN.{length, getD}
+use lib.Dec.{eqb, leb, ltb}
+use borrow.Author.Tests.{leb-true, eqb-false, not-true, ltb-true}
+use Rattle.text.specs.Text.{Bytes, Line, same, split, part}
+use Rattle.text.specs.Word.{bytes}
+use Rattle.text.specs.Field.{Kind, numberOf, fits}
+use Rattle.text.specs.bridge.Code.{kindAt}
+use Rattle.text.proofs.Basics.{and-left, and-right, same-eq}
+use Rattle.cursor.specs.declared.Cursor.{Cursor}
+use Rattle.cursor.proofs.Laws.{left-all, Next}
+use Rattle.algebra.specs.Reader.{kept, zeroOne}
+use Rattle.algebra.specs.bridge.Table.{Slot, term, text, count, choice, Tail, Sort, Row, rowFor}
+use Rattle.scoping.specs.bridge.Places.{Mark}
+use Rattle.scoping.specs.bridge.Walk.{State, state, numberIn, hides, beneath, whole}
+use Rattle.scoping.specs.bridge.Spots.{Spot, spotsIn, fieldsSize, Trace, trace, spotLine}
+use Rattle.words.specs.declared.Row.{Row as Code}
+use Rattle.words.specs.declared.Found.{Found}
+use Rattle.words.specs.declared.Found.the-variants.{Is, None}
+use Rattle.words.specs.bridge.Code.{mapped, sortAt, slotThen, rowOf, rowFound, counting, inTree, Tidy, flagOf, Flags}
+use Rattle.lines.specs.declared.line.Line.{Line as Read}
+use Rattle.lines.specs.declared.line.Line.the-variants.{Asks, Malformed, OverBound}
+use Rattle.lines.specs.bridge.Below.{amountIn}
+use Rattle.lines.specs.bridge.Line.{andThen, Took, took, takeField, Fields, fields, takeSlots, takeTail, takeLine}
+use Rattle.lines.specs.bridge.Line as W
+use Rattle.lines.specs.bridge.Steps.{InLine, leftAt, restOf, oneSlot}
+use Rattle.lines.specs.bridge.Says.{Says}
+use Rattle.lines.specs.bridge.Spotted.{markAt}
+use Rattle.lines.specs.bridge.Stored.{store, Keeps, Adds, found, LineNotes}
+use Rattle.lines.proofs.StepLaw.{field, left-is, in-line}
+use Rattle.lines.proofs.SlotLaw.{slots-more, under-others}
+use Rattle.lines.proofs.StoreLaw.{keeps-at, keeps-cut}
+use Rattle.lines.proofs.SpotsLaw.{choice-count, left-size, behind, found-end}
+use Rattle.lines.proofs.WalkLaw.{beneath-same, whole-line}
+
+-- ---- what the word means for names
+
+flag-hides : (w : Bytes) → eqb (flagOf w) 1 ≡ hides w
+unfolding flagOf hides
+flag-hides w = go (same w (bytes "project") || (same w (bytes "group") || same w (bytes "minus"))) (same w (bytes "service"))
+  where
+    go : (x y : Bool) → eqb (cond x 1 (cond y 2 0)) 1 ≡ x
+    go true y = refl
+    go false true = refl
+    go false false = refl
+
+flag-stays : (w : Bytes) → eqb (flagOf w) 2 ≡ same w (bytes "service")
+unfolding flagOf same
+flag-stays w = go (same w (bytes "service")) refl
+  where
+    other : (x : Bool) → same w (bytes "service") ≡ false → eqb (cond x 1 (cond (same w (bytes "service")) 2 0)) 2 ≡ false
+    other true e = refl
+    other false e = rw e
+
+    go : (y : Bool) → same w (bytes "service") ≡ y → eqb (flagOf w) 2 ≡ y
+    go true e = ap (λ (x : Bytes). eqb (flagOf x) 2) (same-eq w (bytes "service") e)
+    go false e = other (same w (bytes "project") || (same w (bytes "group") || same w (bytes "minus"))) e
+
+-- ---- the numbers of a line
+
+-- a slot's number is the number that its field is
+abbrev Counts : Slot → Type 0
+Counts σ = (l : List Bytes) (t : Took) → takeField σ l ≡ some t → t .number ≡ numberIn (getD l 0 [])
+
+counts-count : Counts count
+counts-count [] t e = let z : _≡_ {A = ℕ} 0 1 = cc in absurd (omega arith)
+counts-count (f ∷ fs) t e = go (numberOf f) refl e
+  where
+    go : (o : Option ℕ) → numberOf f ≡ o → mapped (λ n. took fs [] n) o ≡ some t → t .number ≡ numberIn f
+    go none p q = let z : _≡_ {A = ℕ} 0 1 = cc in absurd (omega arith)
+    go (some n) p q = let i : took fs [] n ≡ t = cc in sym (ap (λ (x : Took). x .number) i) ∙ sym (rw p)
+
+counts-choice : Counts choice
+counts-choice l t e = counts-count l t (sym (choice-count l (t .rest) (ap restOf e)) ∙ e)
+
+counts-role : (r : ℕ) (κ : Kind) → 3 ≤ r → Counts (oneSlot r κ)
+unfolding oneSlot
+counts-role zero κ h = absurd (omega arith)
+counts-role (suc zero) κ h = absurd (omega arith)
+counts-role (suc (suc zero)) κ h = absurd (omega arith)
+counts-role (suc (suc (suc zero))) κ h = counts-count
+counts-role (suc (suc (suc (suc r)))) κ h = counts-choice
+
+-- behind a slot the next field stands
+rest-next : (σ : Slot) (l : List Bytes) (t : Took) → takeField σ l ≡ some t → getD (t .rest) 0 [] ≡ getD l 1 []
+unfolding kept
+rest-next σ [] t e = let z : _≡_ {A = ℕ} 0 1 = cc in absurd (omega arith)
+rest-next (term κ) (f ∷ fs) t e = go (fits κ f) e
+  where
+    go : (b : Bool) → kept b (took fs (f ∷ []) 0) ≡ some t → getD (t .rest) 0 [] ≡ getD fs 0 []
+    go true q = let i : took fs (f ∷ []) 0 ≡ t = cc in ap (λ (x : Took). getD (x .rest) 0 []) (sym i)
+    go false q = let z : _≡_ {A = ℕ} 0 1 = cc in absurd (omega arith)
+rest-next (text κ) (f ∷ fs) t e = go (fits κ f) e
+  where
+    go : (b : Bool) → kept b (took fs [] 0) ≡ some t → getD (t .rest) 0 [] ≡ getD fs 0 []
+    go true q = let i : took fs [] 0 ≡ t = cc in ap (λ (x : Took). getD (x .rest) 0 []) (sym i)
+    go false q = let z : _≡_ {A = ℕ} 0 1 = cc in absurd (omega arith)
+rest-next count (f ∷ fs) t e = go (numberOf f) e
+  where
+    go : (o : Option ℕ) → mapped (λ n. took fs [] n) o ≡ some t → getD (t .rest) 0 [] ≡ getD fs 0 []
+    go none q = let z : _≡_ {A = ℕ} 0 1 = cc in absurd (omega arith)
+    go (some n) q = let i : took fs [] n ≡ t = cc in ap (λ (x : Took). getD (x .rest) 0 []) (sym i)
+rest-next choice (f ∷ fs) t e = go (zeroOne f) e
+  where
+    go : (o : Option Bool) → mapped (λ b. took fs [] (cond b 1 0)) o ≡ some t → getD (t .rest) 0 [] ≡ getD fs 0 []
+    go none q = let z : _≡_ {A = ℕ} 0 1 = cc in absurd (omega arith)
+    go (some n) q = let i : took fs [] (cond n 1 0) ≡ t = cc in ap (λ (x : Took). getD (x .rest) 0 []) (sym i)
+
+-- the first slot, and those behind it
+record Split (σ : Slot) (ss : List Slot) (l : List Bytes) (u : Fields) : Type 0 where
+  pub one : Took
+  pub took-one : takeField σ l ≡ some one
+  pub more : Fields
+  pub took-more : takeSlots ss (one .rest) ≡ some more
+  pub numbers : u .numbers ≡ one .number ∷ more .numbers
+
+splits : (σ : Slot) (ss : List Slot) (l : List Bytes) (u : Fields) → takeSlots (σ ∷ ss) l ≡ some u → Split σ ss l u
+unfolding takeSlots
+splits σ ss l u e = go (takeField σ l) refl e
+  where
+    inner : (t : Took) → takeField σ l ≡ some t → (o : Option Fields) → takeSlots ss (t .rest) ≡ o → mapped (λ v. fields (v .rest) (t .terms ++ v .terms) (t .number ∷ v .numbers)) o ≡ some u → Split σ ss l u
+    inner t p none r q = let z : _≡_ {A = ℕ} 0 1 = cc in absurd (omega arith)
+    inner t p (some v) r q = let i : fields (v .rest) (t .terms ++ v .terms) (t .number ∷ v .numbers) ≡ u = cc in record { one = t; took-one = p; more = v; took-more = r; numbers = ap (λ (x : Fields). x .numbers) (sym i) }
+
+    go : (o : Option Took) → takeField σ l ≡ o → andThen o (λ t. mapped (λ v. fields (v .rest) (t .terms ++ v .terms) (t .number ∷ v .numbers)) (takeSlots ss (t .rest))) ≡ some u → Split σ ss l u
+    go none p q = let z : _≡_ {A = ℕ} 0 1 = cc in absurd (omega arith)
+    go (some t) p q = inner t p (takeSlots ss (t .rest)) refl q
+
+first-number : (σ : Slot) (ss : List Slot) (l : List Bytes) (u : Fields) → Counts σ → takeSlots (σ ∷ ss) l ≡ some u → getD (u .numbers) 0 0 ≡ numberIn (getD l 0 [])
+first-number σ ss l u k e = let p = splits σ ss l u e in ap (λ (x : List ℕ). getD x 0 0) (p .numbers) ∙ k l (p .one) (p .took-one)
+
+second-number : (σ τ : Slot) (ss : List Slot) (l : List Bytes) (u : Fields) → Counts τ → takeSlots (σ ∷ τ ∷ ss) l ≡ some u → getD (u .numbers) 1 0 ≡ numberIn (getD l 1 [])
+second-number σ τ ss l u k e =
+    let p = splits σ (τ ∷ ss) l u e in
+    ap (λ (x : List ℕ). getD x 1 0) (p .numbers) ∙ first-number τ ss (p .one .rest) (p .more) k (p .took-more) ∙ ap numberIn (rest-next σ l (p .one) (p .took-one))
+
+line-slots : (r : Row) (n : ℕ) (l : List Bytes) (u : Fields) → takeLine r n l ≡ some u → (t : Fields) × (takeSlots (r .slots) l ≡ some t) × (t .numbers ≡ u .numbers)
+unfolding takeLine
+line-slots r n l u e = go (takeSlots (r .slots) l) refl e
+  where
+    end : (v : Fields) (t : Fields) (rest : List Bytes) → W.whole (fields rest (v .terms ++ t .terms) (v .numbers)) ≡ some u → v .numbers ≡ u .numbers
+    end v t [] q = let i : fields [] (v .terms ++ t .terms) (v .numbers) ≡ u = cc in ap (λ (x : Fields). x .numbers) i
+    end v t (f ∷ fs) q = let z : _≡_ {A = ℕ} 0 1 = cc in absurd (omega arith)
+
+    tail : (t : Fields) (o : Option Fields) → andThen o (λ v. W.whole (fields (v .rest) (t .terms ++ v .terms) (t .numbers))) ≡ some u → t .numbers ≡ u .numbers
+    tail t none q = let z : _≡_ {A = ℕ} 0 1 = cc in absurd (omega arith)
+    tail t (some v) q = end t v (v .rest) q
+
+    go : (o : Option Fields) → takeSlots (r .slots) l ≡ o → andThen o (λ t. andThen (takeTail (r .tail) n (t .rest)) (λ v. W.whole (fields (v .rest) (t .terms ++ v .terms) (t .numbers)))) ≡ some u
+        → (t : Fields) × (takeSlots (r .slots) l ≡ some t) × (t .numbers ≡ u .numbers)
+    go none p q = let z : _≡_ {A = ℕ} 0 1 = cc in absurd (omega arith)
+    go (some t) p q = (t, p, tail t (takeTail (r .tail) n (t .rest)) q)
+
+module _ (c : Code) (l : List Bytes) (u : Fields) (e : takeSlots (rowOf c .slots) l ≡ some u) where
+  first-is : (not (eqb (c .6) 1) && leb 3 (c .0)) ≡ true → getD (u .numbers) 0 0 ≡ numberIn (getD l 0 [])
+  first-is h =
+      let n : c .6 ≡ 1 → ⊥ = eqb-false (c .6) 1 (not-true _ (and-left (not (eqb (c .6) 1)) (leb 3 (c .0)) h)) in
+      let r : 3 ≤ c .0 = leb-true 3 (c .0) (and-right (not (eqb (c .6) 1)) (leb 3 (c .0)) h) in
+      first-number _ _ l u (counts-role (c .0) _ r) (subst (λ (ss : List Slot). takeSlots ss l ≡ some u) (under-others (c .6) _ n ∙ slots-more (c .0) _ _ (λ z. omega arith)) e)
+
+  second-is : (not (eqb (c .6) 1) && (leb 1 (c .0) && leb 3 (c .2))) ≡ true → getD (u .numbers) 1 0 ≡ numberIn (getD l 1 [])
+  second-is h =
+      let n : c .6 ≡ 1 → ⊥ = eqb-false (c .6) 1 (not-true _ (and-left (not (eqb (c .6) 1)) (leb 1 (c .0) && leb 3 (c .2)) h)) in
+      let k = and-right (not (eqb (c .6) 1)) (leb 1 (c .0) && leb 3 (c .2)) h in
+      let p : 1 ≤ c .0 = leb-true 1 (c .0) (and-left (leb 1 (c .0)) (leb 3 (c .2)) k) in
+      let r : 3 ≤ c .2 = leb-true 3 (c .2) (and-right (leb 1 (c .0)) (leb 3 (c .2)) k) in
+      let last = slotThen (c .4) (kindAt (c .5)) [] in
+      second-number (oneSlot (c .0) (kindAt (c .1))) (oneSlot (c .2) (kindAt (c .3))) last l u (counts-role (c .2) (kindAt (c .3)) r)
+      (subst (λ (ss : List Slot). takeSlots ss l ≡ some u)
+      (under-others (c .6) (slotThen (c .0) (kindAt (c .1)) (slotThen (c .2) (kindAt (c .3)) last)) n
+      ∙ slots-more (c .0) (kindAt (c .1)) (slotThen (c .2) (kindAt (c .3)) last) (λ z. omega arith)
+      ∙ ap (λ (ss : List Slot). oneSlot (c .0) (kindAt (c .1)) ∷ ss) (slots-more (c .2) (kindAt (c .3)) last (λ z. omega arith))) e)
+
+  amounts : (n k : ℕ) → counting c k ≡ true → amountIn n k (getD (u .numbers) 0 0) (getD (u .numbers) 1 0) ≡ amountIn n k (numberIn (getD l 0 [])) (numberIn (getD l 1 []))
+  amounts n zero h = refl
+  amounts n (suc zero) h = first-is h
+  amounts n (suc (suc zero)) h = second-is h
+  amounts n (suc (suc (suc zero))) h = ap (λ (i : ℕ). i + n) (first-is h)
+  amounts n (suc (suc (suc (suc zero)))) h = ap (λ (i : ℕ). i + n) (second-is h)
+  amounts n (suc (suc (suc (suc (suc k))))) h = refl
+
+-- what the table says of a line of a tree
+pub record Plain (c : Code) : Type 0 where
+  pub sorts : (c .9 ≤ 6) × (c .12 ≤ 6) × (c .15 ≤ 6)
+  pub tail : c .6 ≤ 3
+  pub counts : (counting c (c .8) ≡ true) × (counting c (c .11) ≡ true) × (counting c (c .14) ≡ true)
+
+pub plain-row : (s : ℕ) (c : Code) → s ≤ 7 → inTree s c ≡ true → Plain c
+plain-row s c h e = go (ltb 7 s) refl e
+  where
+    low : Bool
+    low = leb (c .9) 6 && (leb (c .12) 6 && leb (c .15) 6)
+
+    num : Bool
+    num = counting c (c .8) && (counting c (c .11) && counting c (c .14))
+
+    go : (b : Bool) → ltb 7 s ≡ b → (b || ((leb (c .9) 6 && (leb (c .12) 6 && leb (c .15) 6)) && (leb (c .6) 3 && (counting c (c .8) && (counting c (c .11) && counting c (c .14)))))) ≡ true → Plain c
+    go true p q = let z = ltb-true 7 s p in absurd (omega arith)
+    go false p q =
+        let a = and-left (leb (c .9) 6 && (leb (c .12) 6 && leb (c .15) 6)) (leb (c .6) 3 && (counting c (c .8) && (counting c (c .11) && counting c (c .14)))) q in
+        let b = and-right (leb (c .9) 6 && (leb (c .12) 6 && leb (c .15) 6)) (leb (c .6) 3 && (counting c (c .8) && (counting c (c .11) && counting c (c .14)))) q in
+        let d = and-right (leb (c .9) 6) (leb (c .12) 6 && leb (c .15) 6) a in
+        let k = and-right (leb (c .6) 3) (counting c (c .8) && (counting c (c .11) && counting c (c .14))) b in
+        let j = and-right (counting c (c .8)) (counting c (c .11) && counting c (c .14)) k in record {
+          sorts = (leb-true (c .9) 6 (and-left (leb (c .9) 6) (leb (c .12) 6 && leb (c .15) 6) a), leb-true (c .12) 6 (and-left (leb (c .12) 6) (leb (c .15) 6) d), leb-true (c .15) 6 (and-right (leb (c .12) 6) (leb (c .15) 6) d));
+          tail = leb-true (c .6) 3 (and-left (leb (c .6) 3) (counting c (c .8) && (counting c (c .11) && counting c (c .14))) b);
+          counts = (and-left (counting c (c .8)) (counting c (c .11) && counting c (c .14)) k, and-left (counting c (c .11)) (counting c (c .14)) j, and-right (counting c (c .11)) (counting c (c .14)) j);
+        }
+
+-- ---- the line
+
+module _ (s : Bytes) (c : Cursor) (e : ℕ) (d : Cursor) (i : InLine s c) (low : c .at ≤ c .end) (here : Next s c e d) (sort mark : ℕ) (f : Found) (is : rowFound f ≡ rowFor (sortAt sort) (field s c e d i here))
+    (flags : Flags (field s c e d i here) f) (tidy : Tidy sort f) (row : Code) (q : f ≡ Is row) (width : ℕ) (b : Cursor) (x y k : ℕ)
+    (says : Says d (takeLine (rowOf row) width (leftAt s d)) (rowOf row .tail) b x y k) (z : b .at ≡ d .end + 1)
+    (a l : List ℕ) (n : ℕ) (p : List (List ℕ)) (j : ℕ) (a′ l′ : List ℕ) (n′ : ℕ) (p′ : List (List ℕ)) (j′ r : ℕ)
+    (adds : b .at ≡ d .end + 1 → row .6 ≤ 3 → Adds s (store a l n p j) (d .at) (store a′ l′ n′ p′ j′) (b .at) (found (markAt mark) (rowOf row .slots) s d) (found (markAt mark) [] s b))
+    (counted : r ≡ cond (eqb (row .16) 2) j j′) (room : n′ ≤ 1024) where
+  abbrev word : Bytes
+  word = field s c e d i here
+
+  fields-are : split 9 (part (c .at) (c .end) s) ≡ field s c e d i here ∷ leftAt s d
+  fields-are = sym (left-all s (c .at) (c .end) low) ∙ left-is s c e d i here
+
+  row-flag : row .16 ≡ flagOf (field s c e d i here)
+  row-flag = subst (Flags (field s c e d i here)) q flags
+
+  plain : sort ≤ 7 → Plain row
+  plain h = plain-row sort row h (subst (Tidy sort) q tidy .2)
+
+  next-at : c .at + length (field s c e d i here) + 1 ≡ d .at
+  next-at = let u = here .first .high in let v = here .at in behind s c d i (in-line s c e d i here) (here .end, here .height) (omega arith) (omega arith) (field s c e d i here) (left-is s c e d i here)
+
+  end-at : c .at + length (field s c e d i here) + fieldsSize (leftAt s d) + 1 ≡ c .end + 1
+  unfolding fieldsSize
+  end-at = let g = left-size s c i (omega arith) in let t : fieldsSize (leftAt s c) ≡ suc (length (field s c e d i here) + fieldsSize (leftAt s d)) = ap fieldsSize (left-is s c e d i here) in omega arith
+
+  -- the line's own step of the walk
+  put-is : (xs ys : List Spot) → ys ≡ xs ++ cond (eqb (row .16) 2) [] (found (markAt mark) (rowOf row .slots) s d) → trace (c .end + 1) ys ≡ spotLine (markAt mark) (rowOf row) (field s c e d i here) (leftAt s d) (trace (c .at) xs)
+  unfolding spotLine
+  put-is xs ys g =
+      ap₂ trace (sym end-at)
+      (g ∙ ap₂ (λ (t : Bool) (v : ℕ). xs ++ cond t [] (spotsIn (markAt mark) (rowOf row .slots) 0 v (leftAt s d))) (ap (λ (w : ℕ). eqb w 2) row-flag ∙ flag-stays (field s c e d i here)) (sym next-at))
+
+  walk-is : sort ≤ 7 → (xs ys : List Spot) → trace (c .end + 1) ys ≡ spotLine (markAt mark) (rowOf row) (field s c e d i here) (leftAt s d) (trace (c .at) xs)
+      → (trees : Sort → Mark → State Trace → State Trace) (ls : List Line)
+      → beneath spotLine trees (eqb (row .16) 1) (markAt mark) (rowOf row .below) (x ∷ y ∷ []) (state ls (trace (c .end + 1) ys)) ≡ whole spotLine trees (sortAt sort) (markAt mark) (split 9 (part (c .at) (c .end) s) ∷ ls) (trace (c .at) xs)
+  walk-is h xs ys g trees ls =
+      let w = field s c e d i here in
+      let fs = leftAt s d in
+      let o = says .whole z in
+      let t = line-slots (rowOf row) width fs (o .0) (o .1) in
+      let ct = plain h .counts in
+      let same-first : getD (t .0 .numbers) 0 0 ≡ x = ap (λ (v : List ℕ). getD v 0 0) (t .2) ∙ o .2 in
+      let same-second : getD (t .0 .numbers) 1 0 ≡ y = ap (λ (v : List ℕ). getD v 1 0) (t .2) ∙ o .3 in
+      let am : (m v : ℕ) → counting row v ≡ true → amountIn m v x y ≡ amountIn m v (numberIn (getD fs 0 [])) (numberIn (getD fs 1 [])) = λ m v u. ap₂ (λ (x1 y1 : ℕ). amountIn m v x1 y1) (sym same-first) (sym same-second) ∙ amounts row fs (t .0) (t .1) m v u in
+      beneath-same spotLine trees (eqb (row .16) 1) (markAt mark) row x y (numberIn (getD fs 0 [])) (numberIn (getD fs 1 [])) (state ls (trace (c .end + 1) ys)) (am (row .7) (row .8) (ct .0)) (am (row .10) (row .11) (ct .1)) (am (row .13) (row .14) (ct .2))
+      ∙ ap₂ (λ (u : Bool) (v : Trace). beneath spotLine trees u (markAt mark) (rowOf row .below) (numberIn (getD fs 0 []) ∷ numberIn (getD fs 1 []) ∷ []) (state ls v)) (ap (λ (v : ℕ). eqb v 1) row-flag ∙ flag-hides w) g
+      ∙ whole-line spotLine trees (eqb (row .16) 1) (markAt mark) w fs ls (trace (c .at) xs) (sortAt sort) (rowOf row) (sym is ∙ ap rowFound q)
+      ∙ ap (λ (v : List Bytes). whole spotLine trees (sortAt sort) (markAt mark) (v ∷ ls) (trace (c .at) xs)) (sym fields-are)
+
+  pub line-notes : sort ≤ 7 → LineNotes s a l n p j a′ l′ p′ c sort mark (Asks (record { row = row; first = x; second = y; names = n′; spots = r }))
+  unfolding LineNotes
+  line-notes h xs kp = go (eqb (row .16) 2) refl
+    where
+      u1 : b .at ≡ c .end + 1
+      u1 = z ∙ ap (λ (v : ℕ). v + 1) (here .end)
+
+      kd : Keeps s (store a l n p j) (d .at) xs
+      kd = keeps-at s (store a l n p j) (c .at) (d .at) xs (let u = here .first .low in let v = here .at in omega arith) (let u = here .first .high in let v = here .at in let w = i .ends in omega arith) kp
+
+      step : (ys : List Spot) × (ys ++ found (markAt mark) [] s b ≡ found (markAt mark) (rowOf row .slots) s d) × Keeps s (store a′ l′ n′ p′ j′) (b .at) (xs ++ ys)
+      step = adds z (plain h .tail) .on room xs kd
+
+      got : step .0 ≡ found (markAt mark) (rowOf row .slots) s d
+      got = sym (append-nil (step .0)) ∙ ap (λ (v : List Spot). step .0 ++ v) (sym (found-end (markAt mark) [] s b (z ∙ ap (λ (v : ℕ). v + 1) (sym (says .along .0))))) ∙ step .1
+
+      kb : Keeps s (store a′ l′ n′ p′ j′) (c .end + 1) (xs ++ step .0)
+      kb = subst (λ (v : ℕ). Keeps s (store a′ l′ n′ p′ j′) v (xs ++ step .0)) u1 (step .2)
+
+      go : (t : Bool) → eqb (row .16) 2 ≡ t
+          → (ys : List Spot) × Keeps s (store a′ l′ n′ p′ r) (c .end + 1) ys
+          × ((trees : Sort → Mark → State Trace → State Trace) (ls : List Line) → beneath spotLine trees (eqb (row .16) 1) (markAt mark) (rowOf row .below) (x ∷ y ∷ []) (state ls (trace (c .end + 1) ys)) ≡ whole spotLine trees (sortAt sort) (markAt mark) (split 9 (part (c .at) (c .end) s) ∷ ls) (trace (c .at) xs))
+      go true t = (xs, subst (λ (v : ℕ). Keeps s (store a′ l′ n′ p′ v) (c .end + 1) xs) (sym (counted ∙ rw t)) (keeps-cut s a l n p j a′ l′ n′ p′ j′ (c .at) (c .end + 1) xs (step .0) (omega arith) kp kb), walk-is h xs xs (put-is xs xs (sym (append-nil xs) ∙ rw t)))
+      go false t = (xs ++ step .0, subst (λ (v : ℕ). Keeps s (store a′ l′ n′ p′ v) (c .end + 1) (xs ++ step .0)) (sym (counted ∙ rw t)) kb, walk-is h xs (xs ++ step .0) (put-is xs (xs ++ step .0) (ap (λ (v : List Spot). xs ++ v) got ∙ rw t)))
+
+-- a line that is refused has no spots to tell
+pub none-wrong : (s : Bytes) (a l : List ℕ) (n : ℕ) (p : List (List ℕ)) (k : ℕ) (a′ l′ : List ℕ) (p′ : List (List ℕ)) (c : Cursor) (sort mark : ℕ) → LineNotes s a l n p k a′ l′ p′ c sort mark Malformed
+unfolding LineNotes
+none-wrong s a l n p k a′ l′ p′ c sort mark = tt
+
+pub none-over : (s : Bytes) (a l : List ℕ) (n : ℕ) (p : List (List ℕ)) (k : ℕ) (a′ l′ : List ℕ) (p′ : List (List ℕ)) (c : Cursor) (sort mark : ℕ) → LineNotes s a l n p k a′ l′ p′ c sort mark OverBound
+unfolding LineNotes
+none-over s a l n p k a′ l′ p′ c sort mark = tt

@@ -1,0 +1,155 @@
+-- Laws of the walk over a tree's lines, whatever is made of each line. Assumes nothing.
+use Prim.Native.Nat.{ℕ, zero, suc, _+_, _-_, _≤_, _<_}
+use mathlib.Core.Path.{_≡_, refl, sym, ap, ap₂, subst, _∙_}
+use mathlib.Core.List.{List, [], _∷_, _++_, append-nil}
+use mathlib.Core.Bool.{Bool, true, false, cond, _&&_}
+use mathlib.Core.Option.{Option, none, some}
+use native.Mathlib.Omega.{arith}
+use lib.ListN.{getD}
+use lib.Dec.{eqb}
+use Rattle.text.specs.Text.{Bytes, Line, same}
+use Rattle.text.specs.Word.{bytes}
+use Rattle.algebra.specs.bridge.Table.{Sort, triples, columns, patterns, expressions, rows, orders, aggregates, Below, Row, Entry, rowsOf, rowIn, rowFor, opens}
+use Rattle.words.specs.declared.Row.{Row as Code}
+use Rattle.words.specs.bridge.Code.{sortAt, groupOf, rowOf}
+use Rattle.scoping.specs.bridge.Places.{Mark, silent, under}
+use Rattle.scoping.specs.bridge.Walk.{State, state, rowOr, numberIn, hides, times, headAmount, part, child, beneath, whole, tree}
+use Rattle.lines.specs.bridge.Below.{amountIn, Alone}
+use Rattle.lines.specs.bridge.Says.{below}
+use Rattle.lines.specs.bridge.Walks.{markUnder}
+
+module _ {O : Type 0} (put : Mark → Row → Bytes → List Bytes → O → O) where
+  -- ---- groups of lines
+
+  module _ (trees : Sort → Mark → State O → State O) (hide : Bool) (m : Mark) where
+    module _ (a b : ℕ) where
+      -- a group of the code's row is as many children
+      group-is : (n k : ℕ) (s : Sort) (bs : List Below) (st : State O) → beneath put trees hide m (groupOf n k s ++ bs) (a ∷ b ∷ []) st ≡ beneath put trees hide m bs (a ∷ b ∷ []) (times (child put trees hide m s) (amountIn n k a b) st)
+      unfolding beneath times
+      group-is zero zero s bs st = refl
+      group-is (suc n) zero s bs st = refl
+      group-is n (suc zero) s bs st = refl
+      group-is n (suc (suc zero)) s bs st = refl
+      group-is n (suc (suc (suc zero))) s bs st = refl
+      group-is n (suc (suc (suc (suc zero)))) s bs st = refl
+      group-is n (suc (suc (suc (suc (suc k))))) s bs st = refl
+
+      nothing-more : (st : State O) → beneath put trees hide m [] (a ∷ b ∷ []) st ≡ st
+      unfolding beneath
+      nothing-more st = refl
+
+      pub groups-are : (c : Code) (st : State O) → beneath put trees hide m (rowOf c .below) (a ∷ b ∷ []) st
+          ≡ times (child put trees hide m (sortAt (c .15))) (amountIn (c .13) (c .14) a b) (times (child put trees hide m (sortAt (c .12))) (amountIn (c .10) (c .11) a b) (times (child put trees hide m (sortAt (c .9))) (amountIn (c .7) (c .8) a b) st))
+      groups-are c st =
+          let fst = times (child put trees hide m (sortAt (c .9))) (amountIn (c .7) (c .8) a b) st in
+          let snd = times (child put trees hide m (sortAt (c .12))) (amountIn (c .10) (c .11) a b) fst in
+          group-is (c .7) (c .8) (sortAt (c .9)) (groupOf (c .10) (c .11) (sortAt (c .12)) ++ groupOf (c .13) (c .14) (sortAt (c .15))) st
+          ∙ group-is (c .10) (c .11) (sortAt (c .12)) (groupOf (c .13) (c .14) (sortAt (c .15))) fst
+          ∙ ap (λ (bs : List Below). beneath put trees hide m bs (a ∷ b ∷ []) snd) (sym (append-nil (groupOf (c .13) (c .14) (sortAt (c .15)))))
+          ∙ group-is (c .13) (c .14) (sortAt (c .15)) [] snd
+          ∙ nothing-more (times (child put trees hide m (sortAt (c .15))) (amountIn (c .13) (c .14) a b) snd)
+
+    -- the same amounts
+    pub beneath-same : (c : Code) (a b a′ b′ : ℕ) (st : State O) → amountIn (c .7) (c .8) a b ≡ amountIn (c .7) (c .8) a′ b′ → amountIn (c .10) (c .11) a b ≡ amountIn (c .10) (c .11) a′ b′ → amountIn (c .13) (c .14) a b ≡ amountIn (c .13) (c .14) a′ b′
+        → beneath put trees hide m (rowOf c .below) (a ∷ b ∷ []) st ≡ beneath put trees hide m (rowOf c .below) (a′ ∷ b′ ∷ []) st
+    beneath-same c a b a′ b′ st p q r =
+        groups-are a b c st
+        ∙ (λ i. times (child put trees hide m (sortAt (c .15))) (r i) (times (child put trees hide m (sortAt (c .12))) (q i) (times (child put trees hide m (sortAt (c .9))) (p i) st)))
+        ∙ sym (groups-are a′ b′ c st)
+
+    pub beneath-alone : (c : Code) (a b : ℕ) (st : State O) → Alone c → beneath put trees hide m (rowOf c .below) (a ∷ b ∷ []) st ≡ st
+    unfolding times
+    beneath-alone c a b st q = groups-are a b c st ∙ rw (q .first .0, q .first .1, q .second .0, q .second .1, q .third .0, q .third .1)
+
+    whole-row : (w : Bytes) (fs : List Bytes) (ls : List Line) (o : O) (s : Sort) → whole put trees s m ((w ∷ fs) ∷ ls) o ≡ beneath put trees (hides w) m (rowOr (rowFor s w) .below) (numberIn (getD fs 0 []) ∷ numberIn (getD fs 1 []) ∷ []) (state ls (put m (rowOr (rowFor s w)) w fs o))
+    unfolding whole
+    whole-row w fs ls o s = refl
+
+    -- a line by its row
+    pub whole-line : (w : Bytes) (fs : List Bytes) (ls : List Line) (o : O) (s : Sort) (r : Row) → rowFor s w ≡ some r
+        → beneath put trees (hides w) m (r .below) (numberIn (getD fs 0 []) ∷ numberIn (getD fs 1 []) ∷ []) (state ls (put m r w fs o)) ≡ whole put trees s m ((w ∷ fs) ∷ ls) o
+    whole-line w fs ls o s r e = sym (whole-row w fs ls o s ∙ ap (λ (q : Option Row). beneath put trees (hides w) m (rowOr q .below) (numberIn (getD fs 0 []) ∷ numberIn (getD fs 1 []) ∷ []) (state ls (put m (rowOr q) w fs o))) e)
+
+  -- ---- lines that are no trees
+
+  module _ (trees : Sort → Mark → State O → State O) (m : Mark) where
+    -- a row of them asks for nothing or for one expression
+    abbrev Lone : Option Row → Type 0
+    Lone q = (h : Bool) (a b : ℕ) (st : State O) → cond (eqb (headAmount (rowOr q .below) (a ∷ b ∷ [])) 0) st (trees expressions silent st) ≡ beneath put trees h m (rowOr q .below) (a ∷ b ∷ []) st
+
+    none-lone : Lone none
+    unfolding beneath
+    none-lone h a b st = refl
+
+    AllLone : List Entry → Type 0
+    AllLone [] = Unit {0}
+    AllLone (e ∷ es) = Lone (some (e .row)) × AllLone es
+
+    lone-in : (es : List Entry) (w : Bytes) → AllLone es → Lone (rowIn es w)
+    unfolding AllLone rowIn
+    lone-in [] w h = none-lone
+    lone-in (e ∷ es) w h = go (same w (e .word)) (lone-in es w (h .1))
+      where
+        go : (x : Bool) → Lone (rowIn es w) → Lone (cond x (some (e .row)) (rowIn es w))
+        go true q = h .0
+        go false q = q
+
+    triples-lone : AllLone (rowsOf triples)
+    unfolding AllLone beneath
+    triples-lone = (λ h a b st. refl, tt)
+
+    columns-lone : AllLone (rowsOf columns)
+    unfolding AllLone beneath
+    columns-lone = (λ h a b st. refl, tt)
+
+    rows-lone : AllLone (rowsOf rows)
+    unfolding AllLone beneath
+    rows-lone = (λ h a b st. refl, tt)
+
+    orders-lone : AllLone (rowsOf orders)
+    unfolding AllLone beneath times child
+    orders-lone = (λ h a b st. refl, (λ h a b st. refl, tt))
+
+    aggregates-lone : AllLone (rowsOf aggregates)
+    unfolding AllLone beneath times child
+    aggregates-lone = (λ h a b st. refl, (λ h a b st. refl, tt))
+
+    part-whole : (s : Sort) → AllLone (rowsOf s) → (ls : List Line) (o : O) → part put trees s m ls o ≡ whole put trees s m ls o
+    unfolding part whole
+    part-whole s lone [] o = refl
+    part-whole s lone ([] ∷ ls) o = refl
+    part-whole s lone ((w ∷ fs) ∷ ls) o = lone-in (rowsOf s) w lone (hides w) (numberIn (getD fs 0 [])) (numberIn (getD fs 1 [])) (state ls (put m (rowOr (rowFor s w)) w fs o))
+
+  -- a line below another: by its sort, with its mark, where a level is left if it opens one
+  module _ (level : ℕ) (hide : Bool) (m : Mark) (last : Bool) (st : State O) where
+    pub child-is : (s : ℕ) → s ≤ 6 → (opens (sortAt s) ≡ true → level ≡ 0 → ⊥)
+        → child put (tree put level) hide m (sortAt s) last st ≡ whole put (tree put (below s level)) (sortAt s) (markUnder s hide last m) (st .lines) (st .output)
+    unfolding child tree
+    child-is zero h o = part-whole (tree put level) m triples (triples-lone (tree put level) m) (st .lines) (st .output)
+    child-is (suc zero) h o = part-whole (tree put level) m columns (columns-lone (tree put level) m) (st .lines) (st .output)
+    child-is (suc (suc zero)) h o = go level (o refl)
+      where
+        go : (d : ℕ) → (d ≡ 0 → ⊥) → tree put d patterns (cond (hide && last) (under m) m) st ≡ whole put (tree put (below 2 d)) patterns (cond (hide && last) (under m) m) (st .lines) (st .output)
+        go zero n = absurd (n refl)
+        go (suc d) n = refl
+    child-is (suc (suc (suc zero))) h o = go level (o refl)
+      where
+        go : (d : ℕ) → (d ≡ 0 → ⊥) → tree put d expressions silent st ≡ whole put (tree put (below 3 d)) expressions silent (st .lines) (st .output)
+        go zero n = absurd (n refl)
+        go (suc d) n = refl
+    child-is (suc (suc (suc (suc zero)))) h o = part-whole (tree put level) m rows (rows-lone (tree put level) m) (st .lines) (st .output)
+    child-is (suc (suc (suc (suc (suc zero))))) h o = part-whole (tree put level) m orders (orders-lone (tree put level) m) (st .lines) (st .output)
+    child-is (suc (suc (suc (suc (suc (suc zero)))))) h o = part-whole (tree put level) m aggregates (aggregates-lone (tree put level) m) (st .lines) (st .output)
+    child-is (suc (suc (suc (suc (suc (suc (suc s))))))) h o = absurd (omega arith)
+
+  -- ---- many children
+
+  module _ (f : Bool → State O → State O) where
+    pub times-next : (n : ℕ) (st : State O) → 0 < n → times f (n - 1) (f (eqb (n - 1) 0) st) ≡ times f n st
+    unfolding times
+    times-next zero st h = absurd (omega arith)
+    times-next (suc n) st h = let q : suc n - 1 ≡ n = omega arith in ap (λ (k : ℕ). times f k (f (eqb k 0) st)) q
+
+    pub times-done : (n : ℕ) (st : State O) → n ≤ 0 → times f n st ≡ st
+    unfolding times
+    times-done n st h = let e : n ≡ 0 = omega arith in rw e
