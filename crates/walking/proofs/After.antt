@@ -9,12 +9,13 @@ use Rattle.algebra.specs.Valid.{mem}
 use Rattle.algebra.specs.bridge.Table.{Entry}
 use Rattle.emit.specs.bridge.Emit.{puts}
 use Rattle.scoping.specs.bridge.Places.{Mark, silent, Place, marked}
-use Rattle.walking.specs.bridge.Walk.{Output, State, state, writes, putLine}
+use Rattle.scoping.specs.bridge.Walk.{State, state}
+use Rattle.walking.specs.bridge.Walk.{Output, writes, putLine}
 use Rattle.walking.specs.bridge.Flags.{flagAll}
 use Rattle.walking.proofs.Written.{Fields, puts-ended}
 
 -- from o on, the lines that front puts before others are written, the places xs are noted, and rest is left
-pub record After (ns : List Bytes) (o : Output) (front : List Line → List Line) (xs : List Place) (rest : List Line) (st : State) : Type 0 where
+pub record After (ns : List Bytes) (o : Output) (front : List Line → List Line) (xs : List Place) (rest : List Line) (st : State Output) : Type 0 where
   pub left : st .lines ≡ rest
   pub written : (t : List Line) → puts (textOf t) (st .output .em) ≡ puts (textOf (front t)) (o .em)
   pub noted : st .output .flags ≡ flagAll ns xs (o .flags)
@@ -49,17 +50,17 @@ module _ {ns : List Bytes} where
   unfolding flagAll
   none-after = record { left = refl; written = λ t. refl; noted = refl }
 
-  module _ {o : Output} {a : List Line → List Line} {xs : List Place} {ls : List Line} {st : State} where
+  module _ {o : Output} {a : List Line → List Line} {xs : List Place} {ls : List Line} {st : State Output} where
     -- one after the other
-    pub then : {b : List Line → List Line} {ys : List Place} {rest : List Line} (g : State → State)
+    pub then : {b : List Line → List Line} {ys : List Place} {rest : List Line} (g : State Output → State Output)
         → After ns o a xs ls st → ((o : Output) → After ns o b ys rest (g (state ls o))) → After ns o (λ t. a (b t)) (xs ++ ys) rest (g st)
     then {b} {ys} g f h =
         let e : g (state ls (st .output)) ≡ g st = ap (λ (l : List Line). g (state l (st .output))) (sym (f .left)) in
         let n = h (st .output) in
         record {
-          left = sym (ap (λ (z : State). z .lines) e) ∙ n .left;
-          written = λ t. sym (ap (λ (z : State). puts (textOf t) (z .output .em)) e) ∙ n .written t ∙ f .written (b t);
-          noted = sym (ap (λ (z : State). z .output .flags) e) ∙ n .noted ∙ ap (flagAll ns ys) (f .noted) ∙ sym (flag-append ns xs ys (o .flags));
+          left = sym (ap (λ (z : State Output). z .lines) e) ∙ n .left;
+          written = λ t. sym (ap (λ (z : State Output). puts (textOf t) (z .output .em)) e) ∙ n .written t ∙ f .written (b t);
+          noted = sym (ap (λ (z : State Output). z .output .flags) e) ∙ n .noted ∙ ap (flagAll ns ys) (f .noted) ∙ sym (flag-append ns xs ys (o .flags));
         }
 
     -- the same places, told otherwise
@@ -67,8 +68,8 @@ module _ {ns : List Bytes} where
     told e f = subst (λ (zs : List Place). After ns o a zs ls st) e f
 
     -- the same state, told otherwise
-    pub reached : {st′ : State} → st′ ≡ st → After ns o a xs ls st → After ns o a xs ls st′
-    reached e f = subst (λ (z : State). After ns o a xs ls z) (sym e) f
+    pub reached : {st′ : State Output} → st′ ≡ st → After ns o a xs ls st → After ns o a xs ls st′
+    reached e f = subst (λ (z : State Output). After ns o a xs ls z) (sym e) f
 
     -- a silent place is not noted
     pub muted : (vs : List Bytes) → After ns o a xs ls st → After ns o a (marked silent vs ++ xs) ls st

@@ -4,5 +4,9 @@ pub mod Written
 pub mod After
 pub mod Parts
 pub mod Trees
-pub mod Cycle
+pub mod Together
+pub mod Stretches
+pub mod Rewriting
+pub mod Noted
+pub mod Spotted
 pub mod Chosen

@@ -1,7 +1,7 @@
 -- What the walk makes of one line: its fields are written under new names, and its variables are noted. Assumes nothing.
 use Prim.Native.Nat.{ℕ, suc, _≤_}
 use mathlib.Core.Path.{_≡_, refl, sym, ap, _∙_}
-use mathlib.Core.List.{List, [], _∷_, _++_, map}
+use mathlib.Core.List.{List, [], _∷_, map}
 use mathlib.Core.Bool.{Bool, true, false, cond, true≢false}
 use mathlib.Core.Option.{some}
 use native.Mathlib.Omega.{arith}
@@ -20,7 +20,8 @@ use Rattle.scoping.specs.Sets.{indexOf}
 use Rattle.scoping.proofs.Sets.{and-none}
 use Rattle.scoping.specs.bridge.Places.{Mark, Place, marked}
 use Rattle.scoping.specs.Rename.{renameInTerm}
-use Rattle.walking.specs.bridge.Walk.{tabbed, Output, writes, flagged, opened, putField, putFields}
+use Rattle.scoping.specs.bridge.Walk.{opened}
+use Rattle.walking.specs.bridge.Walk.{tabbed, Output, writes, flagged, putField, putFields}
 use Rattle.walking.specs.bridge.Flags.{flagAll}
 
 -- ---- a line's bytes

@@ -1,3 +1,4 @@
 pub mod Walk
 pub mod Code
 pub mod Flags
+pub mod Rewritten

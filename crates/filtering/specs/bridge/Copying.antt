@@ -7,7 +7,7 @@ use Rattle.text.specs.Text.{Line}
 use Rattle.text.specs.Field.{numberOf}
 use Rattle.algebra.specs.bridge.Table.{Below, Row, table, rowIn}
 use Rattle.algebra.specs.bridge.Machine.{amountOf}
-use Rattle.walking.specs.bridge.Walk.{numberIn}
+use Rattle.scoping.specs.bridge.Walk.{numberIn}
 use Rattle.negating.specs.bridge.Lines.{word}
 
 -- n and k

@@ -8,7 +8,7 @@ use lib.Dec.{ltb}
 use Rattle.text.specs.Text.{Bytes, Line, same}
 use Rattle.text.specs.Word.{bytes}
 use Rattle.text.specs.Field.{numberOf}
-use Rattle.walking.specs.bridge.Walk.{numberIn}
+use Rattle.scoping.specs.bridge.Walk.{numberIn}
 use Rattle.merging.specs.Sides.{columnAt}
 use Rattle.merging.specs.Request.{position}
 use Rattle.negating.specs.bridge.Lines.{word}

@@ -1,12 +1,11 @@
--- What is known of a text that was checked: the tree or the query that it says, and the table of its names. Assumes nothing.
+-- What is known of a text that was checked: the tree that it says, and the table of its names. Assumes nothing.
 use Prim.Native.Nat.{ℕ}
 use mathlib.Core.Path.{_≡_}
 use mathlib.Core.List.{List}
 use Rattle.text.specs.Text.{Bytes}
 use Rattle.algebra.specs.Tree.{Pattern}
-use Rattle.algebra.specs.Query.{Query}
 use Rattle.algebra.specs.Reader.{reads}
-use Rattle.algebra.specs.Texts.{readTree, readQuery}
+use Rattle.algebra.specs.Texts.{readTree}
 use Rattle.names.specs.bridge.Names.{Holds}
 use Rattle.scoping.specs.Numbering.{byPlace}
 
@@ -15,9 +14,3 @@ pub record Known (tree : Bytes) (starts sizes hints : List ℕ) (n : ℕ) : Type
   pub pattern : Pattern
   pub read : readTree tree ≡ reads pattern
   pub table : Holds tree starts sizes hints n (byPlace pattern)
-
--- it is a query's
-pub record KnownQuery (text : Bytes) (starts sizes hints : List ℕ) (n : ℕ) : Type 0 where
-  pub query : Query
-  pub read : readQuery text ≡ reads query
-  pub table : Holds text starts sizes hints n (byPlace (query .tree))

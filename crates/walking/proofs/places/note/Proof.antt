@@ -1,8 +1,8 @@
--- `walking::line/note` meets its contract. Assumes nothing.
+-- `walking::places/note` meets its contract. Assumes nothing.
 use borrow.Author.Needs.{needs}
 use Rattle.walking.proofs.Laws as L
-use Rattle.walking.proofs.line.note.Statement.{statement}
-use Rattle.walking.proofs.line.note.Tie as tie
+use Rattle.walking.proofs.places.note.Statement.{statement}
+use Rattle.walking.proofs.places.note.Tie as tie
 
 pub note-spec : {M : Type 1} → statement M
 note-spec =

@@ -1,0 +1,20 @@
+-- `walking::places/put_new` meets its contract. Assumes nothing.
+use borrow.Author.Needs.{needs}
+use Rattle.walking.proofs.Spotted as L
+use Rattle.walking.proofs.places.put_new.Statement.{statement}
+use Rattle.walking.proofs.places.put_new.Tie as tie
+
+pub put-new-spec : {M : Type 1} → statement M
+put-new-spec =
+    tie.close
+    (tie.spec
+    (λ c. search needs)
+    (λ c. search needs)
+    (λ c κs. search needs)
+    (λ c. search needs)
+    (λ c. search needs)
+    (λ c κs. search needs)
+    (λ c κs. search needs)
+    (λ c κs. search needs)
+    (λ c. search needs)
+    (λ c. L.piece-put _ _ _ _ _ _ _ _ (c .before .before .before .before .before .before .wide .ensures) (c .before .before .before .before .wide2 .ensures) (c .before .before .before .piece .ensures) (c .before .before .put-all .ensures)))

@@ -1,0 +1,49 @@
+-- `walking::places/put_renamed` meets its contract. Assumes nothing.
+use Prim.Native.Nat.{_-_}
+use mathlib.Core.Path.{_≡_, refl, _∙_}
+use native.Mathlib.Omega.{arith}
+use borrow.Author.Needs.{needs}
+use lib.ListN.{length}
+use Rattle.emit.specs.bridge.Emit.{em}
+use Rattle.walking.proofs.Spotted as L
+use Rattle.walking.proofs.places.put_renamed.Statement.{statement}
+use Rattle.walking.proofs.places.put_renamed.Tie as tie
+
+abbrev Inv-loop : tie.InvT-loop
+Inv-loop text from to spots i k starts sizes n pool targets spans out₀ at done₀ put₀ j₀ out done put j =
+    (length out ≡ length out₀) × L.Going text starts sizes n pool targets spans spots k from to i (em at out₀) j done (em put out)
+
+abbrev μ-loop : tie.MeasureT-loop
+μ-loop text from to spots i k starts sizes n pool targets spans out₀ at done₀ put₀ j₀ out done put j = k - j
+
+pub put-renamed-spec : {M : Type 1} → statement M
+put-renamed-spec =
+    tie.close
+    (tie.spec
+    Inv-loop
+    μ-loop
+    (λ c κs. (L.inside-more _ _ _ (c .before .before .before .pre .2) (c .before .before .before .pre .0), c .before .before .before .pre .3))
+    (λ c. (refl, L.going-on _ _ _ _ _ _ _ _ _ (c .before .before .before .before .pre .1) (c .before .before .before .before .pre .2) _ _ _ _ _ _ _ _ (c .before .before .before .before .pre .4) refl (c .next-renamed .ensures)))
+    (λ c. search needs)
+    (λ c. let m = c .before .before .before .before .before .before .pre .2 .many in omega arith)
+    (λ c. search needs)
+    (λ c κs. search needs)
+    (λ c. search needs)
+    (λ c κs. search needs)
+    (λ c. let w = L.going-places _ _ _ _ _ _ _ _ _ (c .before .before .before .before .before .before .before .before .before .before .pre .1) (c .before .before .before .before .before .before .before .before .before .before .pre .2) _ _ _ _ _ _ _ (c .before .before .before .before .before .loop .inv .1) (c .before .before .before .before .loop-test .taken) _ _ _ (c .before .before .wide .ensures) (c .before .wide2 .ensures) (refl) in let x = w .0 in let y = w .1 in let z = w .2 in omega arith)
+    (λ c. let w = L.going-places _ _ _ _ _ _ _ _ _ (c .before .before .before .before .before .before .before .before .before .before .pre .1) (c .before .before .before .before .before .before .before .before .before .before .pre .2) _ _ _ _ _ _ _ (c .before .before .before .before .before .loop .inv .1) (c .before .before .before .before .loop-test .taken) _ _ _ (c .before .before .wide .ensures) (c .before .wide2 .ensures) (refl) in let x = w .0 in let y = w .1 in let z = w .2 in omega arith)
+    (λ c. let w = L.going-places _ _ _ _ _ _ _ _ _ (c .before .before .before .before .before .before .before .before .before .before .pre .1) (c .before .before .before .before .before .before .before .before .before .before .pre .2) _ _ _ _ _ _ _ (c .before .before .before .before .before .loop .inv .1) (c .before .before .before .before .loop-test .taken) _ _ _ (c .before .before .wide .ensures) (c .before .wide2 .ensures) (refl) in let x = w .0 in let y = w .1 in let z = w .2 in omega arith)
+    (λ c κs. search needs)
+    (λ c κs. let l = L.inside-at _ _ _ _ (c .before .before .before .before .before .before .before .before .before .before .before .before .before .before .before .pre .2) (c .before .before .before .before .before .before .before .before .before .loop-test .taken) in let e = c .before .before .before .before .before .before .wide2 .ensures in let h = c .before .before .before .before .before .before .before .before .before .before .before .before .before .before .before .pre .0 in omega arith)
+    (λ c κs. let l = L.inside-at _ _ _ _ (c .before .before .before .before .before .before .before .before .before .before .before .before .before .before .before .before .before .before .pre .2) (c .before .before .before .before .before .before .before .before .before .before .before .before .loop-test .taken) in let e = c .before .before .before .before .before .before .before .before .before .wide2 .ensures in let h = c .before .before .before .before .before .before .before .before .before .before .before .before .before .before .before .before .before .before .pre .0 in omega arith)
+    (λ c. let w = L.going-places _ _ _ _ _ _ _ _ _ (c .before .before .before .before .before .before .before .before .before .before .before .before .before .before .before .before .before .before .before .pre .1) (c .before .before .before .before .before .before .before .before .before .before .before .before .before .before .before .before .before .before .before .pre .2) _ _ _ _ _ _ _ (c .before .before .before .before .before .before .before .before .before .before .before .before .before .before .loop .inv .1) (c .before .before .before .before .before .before .before .before .before .before .before .before .before .loop-test .taken) _ _ _ (c .before .before .before .before .before .before .before .before .before .before .before .wide .ensures) (c .before .before .before .before .before .before .before .before .before .before .wide2 .ensures) (c .name-size .ensures) in let y = w .1 in let f = c .before .before .before .before .before .before .before .before .before .before .before .before .before .before .before .before .before .before .before .fits .to in omega arith)
+    (λ c. search needs)
+    (λ c κs. (L.inside-more _ _ _ (c .before .before .before .before .before .before .before .before .before .before .before .before .before .before .before .before .before .before .before .pre .2) (c .before .before .before .before .before .before .before .before .before .before .before .before .before .before .before .before .before .before .before .pre .0), omega arith))
+    (λ c. let x = c .next-renamed2 .ensures in let a = x .low in let b = x .high in omega arith)
+    (λ c. (c .before .before .before .before .put-new .kept .1 .1 .1 .1 .0 ∙ c .before .before .before .before .before .before .before .before .put-all .kept .0 ∙ c .before .before .before .before .before .before .before .before .before .before .before .before .before .before .before .loop .inv .0, L.going-next _ _ _ _ _ _ _ _ _ (c .before .before .before .before .before .before .before .before .before .before .before .before .before .before .before .before .before .before .before .before .pre .1) (c .before .before .before .before .before .before .before .before .before .before .before .before .before .before .before .before .before .before .before .before .pre .2) _ _ _ _ _ _ _ (c .before .before .before .before .before .before .before .before .before .before .before .before .before .before .before .loop .inv .1) (c .before .before .before .before .before .before .before .before .before .before .before .before .before .before .loop-test .taken) _ _ _ _ _ _ (c .before .before .before .before .before .before .before .before .before .before .before .before .wide .ensures) (c .before .before .before .before .before .before .before .before .before .before .before .wide2 .ensures) (c .before .name-size .ensures) (c .before .before .before .before .before .before .before .before .put-all .ensures) (c .before .before .before .before .put-new .ensures) (c .next-renamed2 .ensures)))
+    (λ c. let w = L.going-high _ _ _ _ _ _ _ _ _ (c .before .before .before .before .before .before .before .pre .1) (c .before .before .before .before .before .before .before .pre .2) _ _ _ _ _ _ _ (c .before .before .loop .inv .1) in let x = w .0 in let y = w .1 in omega arith)
+    (λ c. let w = L.going-high _ _ _ _ _ _ _ _ _ (c .before .before .before .before .before .before .before .pre .1) (c .before .before .before .before .before .before .before .pre .2) _ _ _ _ _ _ _ (c .before .before .loop .inv .1) in let x = w .0 in let y = w .1 in omega arith)
+    (λ c. let w = L.going-high _ _ _ _ _ _ _ _ _ (c .before .before .before .before .before .before .before .pre .1) (c .before .before .before .before .before .before .before .pre .2) _ _ _ _ _ _ _ (c .before .before .loop .inv .1) in let x = w .0 in let y = w .1 in omega arith)
+    (λ c κs. search needs)
+    (λ c. c .before .before .put-all2 .kept .0 ∙ c .before .before .before .before .before .before .loop .inv .0)
+    (λ c. L.going-end _ _ _ _ _ _ _ _ _ (c .before .before .before .before .before .before .before .before .before .before .before .pre .1) (c .before .before .before .before .before .before .before .before .before .before .before .pre .2) _ _ _ _ _ _ _ (c .before .before .before .before .before .before .loop .inv .1) _ (c .before .before .before .before .before .loop-test .left) (c .before .before .put-all2 .ensures)))
