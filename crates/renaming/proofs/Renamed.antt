@@ -1,54 +1,50 @@
--- The call rename, from the walk's bytes to the renamed tree's layout. Assumes nothing.
+-- The call rename, from the bytes that are put to the renamed tree's layout. Assumes nothing.
 use Prim.Native.Nat.{ℕ, _≤_, _<_}
 use mathlib.Core.Path.{_≡_, refl, sym, ap, _∙_}
-use mathlib.Core.List.{List, [], _∷_}
+use mathlib.Core.List.{List, []}
 use mathlib.Core.Bool.{true, false}
 use native.Mathlib.Nat.{le-refl}
-use native.Mathlib.Omega.{arith}
-use lib.ListN.{length, getD}
-use Rattle.text.specs.Text.{Bytes, Line, piece, linesOf}
+use lib.ListN.{length, drop}
+use Rattle.text.specs.Text.{Bytes, Line, textOf, linesOf}
 use Rattle.text.proofs.Texts.{lines-back}
 use Rattle.algebra.specs.Tree.{Pattern}
-use Rattle.algebra.specs.Query.{Pair, mapping}
-use Rattle.algebra.specs.Valid.{mem, ValidPairs}
+use Rattle.algebra.specs.Query.{mapping}
+use Rattle.algebra.specs.Valid.{mem}
 use Rattle.algebra.specs.Layout.{putPairs, layout}
 use Rattle.algebra.specs.Bounded.{IsPairs, layoutPairs}
 use Rattle.algebra.specs.Tally.{bounds}
-use Rattle.algebra.specs.bridge.Table.{patterns}
-use Rattle.algebra.specs.Reader.{reads, refuses, malformed, overBound}
+use Rattle.algebra.specs.Reader.{refuses, malformed, overBound}
 use Rattle.algebra.specs.Texts.{readTree, readPairs}
 use Rattle.algebra.specs.declared.Answer.{Answer as Check}
 use Rattle.algebra.specs.declared.Answer.the-variants.{Good}
 use Rattle.algebra.proofs.Neat.{pairs-neat}
 use Rattle.algebra.proofs.Theorem.{pairs-exactly}
 use Rattle.lists.specs.bridge.Pairs.{keysOf}
-use Rattle.emit.specs.bridge.Emit.{Em, em, last, puts}
+use Rattle.emit.specs.bridge.Emit.{em, last, puts}
+use Rattle.emit.proofs.Laws.{puts-nil}
 use Rattle.names.specs.bridge.Names.{listing}
 use Rattle.names.specs.bridge.Checked.{Checked}
 use Rattle.names.proofs.Laws.{listing-long}
-use Rattle.scoping.specs.bridge.Places.{visible, silent, places, namesOf}
+use Rattle.scoping.specs.bridge.Places.{visible, places, namesOf}
 use Rattle.scoping.specs.Rename.{renameInGraphPattern}
-use Rattle.scoping.specs.Numbering.{byPlace}
 use Rattle.scoping.proofs.Index.{index-none}
 use Rattle.scoping.proofs.Named.{named}
 use Rattle.scoping.proofs.FirstPlaces.{by-place-mem}
-use Rattle.walking.specs.bridge.Walk.{State, state, output, tree}
-use Rattle.walking.specs.bridge.Code.{here, replacement, renames}
-use Rattle.walking.proofs.Trees.{walk-tree}
-use Rattle.answers.specs.declared.Answer.{Answer}
+use Rattle.scoping.specs.bridge.Spots.{Spot}
+use Rattle.lines.specs.bridge.Spotted.{spotsOf}
+use Rattle.walking.specs.bridge.Code.{replacement, renames}
+use Rattle.walking.specs.bridge.Rewritten.{rewritten}
+use Rattle.walking.proofs.Noted.{rewritten-tree}
 use Rattle.answers.specs.declared.Answer.the-variants.{Written, Malformed, OverBound, TooShort}
-use Rattle.answers.specs.Outcome.{Outcome, refused, written, Reported, Answered}
+use Rattle.answers.specs.Outcome.{written, Reported, Answered}
 use Rattle.renaming.specs.Rename.{becomes, renameOutcome}
 use Rattle.heads.specs.bridge.Known.{Known}
-use Rattle.renaming.specs.bridge.Code.{KnownPairs, Targets, lookLast}
+use Rattle.renaming.specs.bridge.Code.{Surveyed, KnownPairs, Targets, lookLast}
 use Rattle.renaming.proofs.Tables.{known-valid, known-depth, known-names, known-lines}
 use Rattle.reading.proofs.Said.{said-good}
 use Rattle.scoping.proofs.Alike.{rename-alike}
 use Rattle.renaming.proofs.Mapping.{look-becomes}
-use Rattle.answers.proofs.Answers.{too-short, all-written, spared, answered}
-
-pub put-piece : (b c : Bytes) (e e′ : Em) → e′ ≡ puts b e → b ≡ c → e′ ≡ puts c e
-put-piece b c e e′ p q = p ∙ ap (λ (x : Bytes). puts x e) q
+use Rattle.answers.proofs.Answers.{too-short, all-written, answered}
 
 -- ---- the mapping
 
@@ -74,48 +70,42 @@ good-pairs s a l h r n c q = let g = said-good (keysOf mapping) s a l h r (readP
 
 -- ---- the names
 
-module _ (s : Bytes) (a l h : List ℕ) (n : ℕ) (k : Known s a l h n) (pairs : Bytes) (m : KnownPairs pairs) (targets spans : List ℕ) (t : Targets (listing s a l n) n pairs targets spans) where
+module _ (s : Bytes) (a l : List ℕ) (n : ℕ) (spots : List (List ℕ)) (k : ℕ) (x : Surveyed s a l n spots k) (pairs : Bytes) (m : KnownPairs pairs) (targets spans : List ℕ) (t : Targets (listing s a l n) n pairs targets spans) where
   abbrev new : Bytes → Bytes
   new = renames s a l n pairs targets spans
+
+  abbrev pattern : Pattern
+  pattern = x .known .pattern
 
   keeps : (f : Bytes) → mem f (listing s a l n) ≡ false → new f ≡ f
   unfolding replacement
   keeps f e = rw (index-none f (listing s a l n) e, listing-long s a l n, t .behind n (le-refl n))
 
-  agrees : (v : Bytes) → mem v (namesOf (places (k .pattern) visible)) ≡ true → new v ≡ becomes (m .list) v
+  agrees : (v : Bytes) → mem v (namesOf (places pattern visible)) ≡ true → new v ≡ becomes (m .list) v
   agrees v i =
-      let is-var = named (k .pattern) visible (known-valid s a l h n k) .at v i in
-      t .found v (ap (mem v) (known-names s a l h n k) ∙ by-place-mem (k .pattern) v is-var ∙ i) ∙ pairs-become pairs m v
+      let is-var = named pattern visible (known-valid s a l (x .hints) n (x .known)) .at v i in
+      t .found v (ap (mem v) (known-names s a l (x .hints) n (x .known)) ∙ by-place-mem pattern v is-var ∙ i) ∙ pairs-become pairs m v
 
-  outcome-is : renameOutcome s pairs ≡ written (layout (renameInGraphPattern new (k .pattern)))
+  outcome-is : renameOutcome s pairs ≡ written (layout (renameInGraphPattern new pattern))
   unfolding renameOutcome
-  outcome-is = rw (k .read, m .read) (ap (λ (q : Pattern). written (layout q)) (sym (rename-alike new (becomes (m .list)) (k .pattern) visible agrees)))
+  outcome-is = rw (x .known .read, m .read) (ap (λ (q : Pattern). written (layout q)) (sym (rename-alike new (becomes (m .list)) pattern visible agrees)))
 
-  -- what a walk from the start puts
-  walk-puts : (from at : ℕ) (out out′ : Bytes) (flags flags′ : List ℕ) → here s from at out′ flags′ ≡ tree (listing s a l n) new 64 patterns silent (here s 0 0 out flags)
-      → em at out′ ≡ puts (layout (renameInGraphPattern new (k .pattern))) (em 0 out)
-  walk-puts from at out out′ flags flags′ walked =
-      ap (λ (st : State). st .output .em)
-      (walked
-      ∙ ap (λ (ls : List Line). tree (listing s a l n) new 64 patterns silent (state ls (output 0 out flags))) (known-lines s a l h n k)
-      ∙ walk-tree (listing s a l n) new keeps (k .pattern) silent 64 (output 0 out flags) (known-valid s a l h n k) (known-depth s a l h n k))
+  -- what is put, the tree's variables under their new names
+  renamed-puts : (at : ℕ) (out out′ : Bytes) → em at out′ ≡ rewritten new s (drop 0 (spotsOf (listing s a l n) spots k)) 0 (length s) (em 0 out) → em at out′ ≡ puts (layout (renameInGraphPattern new pattern)) (em 0 out)
+  unfolding layout textOf
+  renamed-puts at out out′ e =
+      e
+      ∙ ap (λ (zs : List Spot). rewritten new s zs 0 (length s) (em 0 out)) (x .noted .kept .are)
+      ∙ sym (puts-nil _)
+      ∙ rewritten-tree s 0 (listing s a l n) spots k (x .noted) pattern (known-lines s a l (x .hints) n (x .known)) (known-valid s a l (x .hints) n (x .known)) (known-depth s a l (x .hints) n (x .known)) new keeps [] (em 0 out)
 
-  module _ (out : Bytes) (from need : ℕ) (tiny tiny′ : Bytes) (flags flags′ : List ℕ)
-      (measure : here s from need tiny′ flags′ ≡ tree (listing s a l n) new 64 patterns silent (here s 0 0 tiny flags)) where
+  module _ (out : Bytes) (need : ℕ) (tiny tiny′ : Bytes) (measure : em need tiny′ ≡ rewritten new s (drop 0 (spotsOf (listing s a l n) spots k)) 0 (length s) (em 0 tiny)) where
     pub rename-short : length out < need → Answered (renameOutcome s pairs) out out TooShort
-    rename-short i = answered _ _ out out TooShort outcome-is (too-short _ out need tiny tiny′ (walk-puts from need tiny tiny′ flags flags′ measure) i)
+    rename-short i = answered _ _ out out TooShort outcome-is (too-short _ out need tiny tiny′ (renamed-puts need tiny tiny′ measure) i)
 
-    pub rename-written : (next size : ℕ) (out′ : Bytes) (flags″ : List ℕ) → need ≤ length out → length out < last
-        → here s next size out′ flags″ ≡ tree (listing s a l n) new 64 patterns silent (here s 0 0 out flags′) → Answered (renameOutcome s pairs) out out′ (Written size)
-    rename-written next size out′ flags″ i j w =
-        answered _ _ out out′ (Written size) outcome-is (all-written _ out need tiny tiny′ (walk-puts from need tiny tiny′ flags flags′ measure) size out′ i j (walk-puts next size out out′ flags′ flags″ w))
-
-    -- an answer that the spare buffer holds is copied from it
-    pub rename-copied : (size : ℕ) (out′ : Bytes) → need ≤ length out → length out < last → length tiny < last → need ≤ length tiny
-        → em size out′ ≡ puts (piece 0 need tiny′) (em 0 out) → Answered (renameOutcome s pairs) out out′ (Written size)
-    rename-copied size out′ i j x y e =
-        let w = walk-puts from need tiny tiny′ flags flags′ measure in
-        answered _ _ out out′ (Written size) outcome-is (all-written _ out need tiny tiny′ w size out′ i j (e ∙ ap (λ (b : Bytes). puts b (em 0 out)) (spared _ tiny tiny′ need w y x)))
+    pub rename-written : (size : ℕ) (out′ : Bytes) → need ≤ length out → length out < last
+        → em size out′ ≡ rewritten new s (drop 0 (spotsOf (listing s a l n) spots k)) 0 (length s) (em 0 out) → Answered (renameOutcome s pairs) out out′ (Written size)
+    rename-written size out′ i j w = answered _ _ out out′ (Written size) outcome-is (all-written _ out need tiny tiny′ (renamed-puts need tiny tiny′ measure) size out′ i j (renamed-puts size out out′ w))
 
 -- ---- a text that is refused
 

@@ -1,10 +1,10 @@
 -- What the check of a tree leaves: a table whose names are told apart, and a text that is the tree's lines. Assumes nothing.
-use Prim.Native.Nat.{ℕ, _≤_, _<_}
-use mathlib.Core.Path.{_≡_, sym, ap, subst, _∙_}
+use Prim.Native.Nat.{ℕ, _*_, _≤_, _<_, zero-le}
+use mathlib.Core.Path.{_≡_, refl, sym, ap, subst, _∙_}
 use mathlib.Core.List.{List, []}
 use native.Mathlib.Omega.{arith}
 use native.Mathlib.Decide.{decLt}
-use lib.ListN.{length}
+use lib.ListN.{length, drop}
 use Rattle.text.specs.Text.{Bytes, linesOf, linesFrom}
 use Rattle.text.proofs.Texts.{lines-back}
 use Rattle.text.proofs.Places.{lines-start}
@@ -13,20 +13,32 @@ use Rattle.algebra.specs.Depth.{depth}
 use Rattle.algebra.specs.Layout.{put, layout}
 use Rattle.algebra.specs.Bounded.{IsTree}
 use Rattle.algebra.specs.Tally.{bounds}
+use Rattle.algebra.specs.Reader.{refuses, malformed, overBound}
 use Rattle.algebra.specs.Texts.{readTree}
 use Rattle.algebra.specs.declared.Answer.{Answer}
 use Rattle.algebra.specs.declared.Answer.the-variants.{Good}
 use Rattle.algebra.proofs.Neat.{neat}
 use Rattle.algebra.proofs.Theorem.{tree-exactly}
 use Rattle.reading.specs.bridge.Variables.{treeNames}
-use Rattle.reading.proofs.Said.{said-good}
+use Rattle.reading.specs.bridge.Charted.{treeStart, Charted}
+use Rattle.reading.proofs.Said.{said-good, said-malformed, said-over, said-noted}
+use Rattle.reading.proofs.ChartLaw.{charted-checked}
 use Rattle.names.specs.bridge.Names.{listing, Hinted}
 use Rattle.names.specs.bridge.Checked.{Checked}
 use Rattle.scoping.specs.Sets.{Once}
 use Rattle.scoping.specs.Numbering.{byPlace}
 use Rattle.scoping.proofs.FirstPlaces.{by-place-once}
-use Rattle.walking.specs.bridge.Code.{Named}
+use Rattle.walking.specs.bridge.Code.{Named, Inside}
 use Rattle.heads.specs.bridge.Known.{Known}
+use Rattle.lines.specs.bridge.Spotted.{spotsOf, Noted}
+use Rattle.walking.specs.bridge.Rewritten.{Stands}
+use Rattle.walking.proofs.Noted.{spotted-inside, stands-tree}
+use Rattle.walking.proofs.Spotted.{inside-more}
+use Rattle.names.proofs.Laws.{listing-long}
+use Rattle.renaming.specs.bridge.Code.{Surveyed}
+use Rattle.lines.specs.bridge.Walks.{answerOf}
+use Rattle.lines.specs.declared.check.Noting.{Noting}
+use Rattle.lines.specs.declared.check.Noting.the-variants as Noting
 
 module _ (s : Bytes) (a l h : List ℕ) (n : ℕ) (k : Known s a l h n) where
   is-tree : IsTree bounds s (k .pattern)
@@ -69,3 +81,49 @@ module _ (s : Bytes) (a l h : List ℕ) (n : ℕ) (k : Known s a l h n) where
 pub good-known : (s : Bytes) (a l h : List ℕ) (r : Answer) (n : ℕ) → Checked treeNames s a l h (readTree s) r → r ≡ Good n → Known s a l h n
 unfolding byPlace
 good-known s a l h r n c q = let g = said-good treeNames s a l h r (readTree s) n c q in record { pattern = g .value; read = g .read; table = g .table }
+
+-- ---- a tree whose variables were noted
+
+pub surveyed : (s : Bytes) (a l h : List ℕ) (n : ℕ) (spots : List (List ℕ)) (k : ℕ) → Known s a l h n → Noted s 0 (listing s a l n) spots k → Surveyed s a l n spots k
+surveyed s a l h n spots k x y = record { hints = h; known = x; noted = y }
+
+module _ (s : Bytes) (a l : List ℕ) (n : ℕ) (spots : List (List ℕ)) (k : ℕ) (x : Surveyed s a l n spots k) where
+  pub surveyed-high : n ≤ 1024
+  surveyed-high = known-high s a l (x .hints) n (x .known)
+
+  inside : Inside n spots k
+  inside = subst (λ (i : ℕ). Inside i spots k) (listing-long s a l n) (spotted-inside (x .noted .kept))
+
+  pub surveyed-inside : Inside 1024 spots k
+  surveyed-inside = inside-more n spots k inside surveyed-high
+
+  -- what put_renamed asks for
+  pub surveyed-ready : (n ≤ 1024) × Once (listing s a l n) × Inside n spots k × (0 ≤ k) × Stands s 0 (length s) (drop 0 (spotsOf (listing s a l n) spots k))
+  surveyed-ready = (
+    surveyed-high,
+    known-named s a l (x .hints) n (x .known) .once,
+    inside,
+    zero-le,
+    subst (Stands s 0 (length s)) (sym (x .noted .kept .are))
+        (stands-tree s 0 (listing s a l n) spots k (x .noted) (x .known .pattern) (known-lines s a l (x .hints) n (x .known)) (known-valid s a l (x .hints) n (x .known)) (known-depth s a l (x .hints) n (x .known))),
+  )
+
+pub known-short : (s : Bytes) (a l h : List ℕ) (n : ℕ) → Known s a l h n → length s ≤ 16384
+known-short s a l h n k = let t = is-tree s a l h n k in subst (λ (b : Bytes). length b ≤ 16384) (t .0) (t .2 .bytes)
+
+-- a good answer of the check that notes variables, where there was room for all
+module _ (s : Bytes) (a l h : List ℕ) (before after : List (List ℕ)) (r : Noting) (c : Charted treeNames treeStart s a l h before after (readTree s) r) where
+  is-checked : Checked treeNames s a l h (readTree s) (answerOf r)
+  is-checked = charted-checked treeNames treeStart s a l h before after (readTree s) r c
+
+  pub good-noted : (n k : ℕ) → (length s ≤ 16384 → length s ≤ 3 * length before) → r ≡ Noting.Good n k → Known s a l h n × Noted s 0 (listing s a l n) after k
+  unfolding byPlace
+  good-noted n k room q =
+      let known = good-known s a l h (answerOf r) n is-checked (ap answerOf q) in
+      (known, subst (λ (ns : List Bytes). Noted s 0 ns after k) (sym (known-names s a l h n known)) (said-noted treeNames treeStart s a l h before after (readTree s) r n k (known .pattern) c (known .read) q (room (known-short s a l h n known)) 0 refl))
+
+  pub noted-malformed : r ≡ Noting.Malformed → readTree s ≡ refuses malformed
+  noted-malformed q = said-malformed treeNames s a l h (answerOf r) (readTree s) is-checked (ap answerOf q)
+
+  pub noted-over : r ≡ Noting.OverBound → readTree s ≡ refuses overBound
+  noted-over q = said-over treeNames s a l h (answerOf r) (readTree s) is-checked (ap answerOf q)

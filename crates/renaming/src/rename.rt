@@ -1,26 +1,27 @@
 // The call rename: a tree under the names that a mapping gives.
 use algebra::Answer as Check;
 use answers::Answer;
-use emit::put_all;
+use lines::check::Noting;
+use lines::fields::Spot;
 use lists::check_mapping;
 use names::find_name;
-use reading::check_tree;
+use reading::note_tree;
 use text::find;
-use text::piece;
 use walking::line::line_end;
-use walking::tree::rename_in_graph_pattern;
+use walking::places::put_renamed;
 ghost use mathlib.Core.Path.{_≡_};
-ghost use Prim.Native.Nat.{ℕ, _+_, _≤_};
+ghost use Prim.Native.Nat.{ℕ, _+_, _*_, _≤_};
 ghost use mathlib.Core.Bool.{cond, true};
 ghost use lib.ListN.{length, getD};
 ghost use Rattle.text.specs.Text.{Bytes, same, part};
 ghost use Rattle.names.specs.bridge.Names.{listing};
 ghost use Rattle.algebra.specs.Valid.{mem};
+ghost use Rattle.lines.specs.bridge.Spotted.{Noted};
 ghost use Rattle.walking.specs.bridge.Code.{Named};
 ghost use Rattle.answers.specs.Outcome.{Answered};
 ghost use Rattle.renaming.specs.Rename.{renameOutcome};
 ghost use Rattle.heads.specs.bridge.Known.{Known};
-ghost use Rattle.renaming.specs.bridge.Code.{KnownPairs, Targets, Settled};
+ghost use Rattle.renaming.specs.bridge.Code.{Surveyed, KnownPairs, Targets, Settled};
 
 // A line of the mapping, whose fields end at `to` and `end`: the entry of its first name, if it is in the table, gets the second.
 fn set_target(
@@ -88,78 +89,75 @@ fn find_targets(
     }
 }
 
-// The answer for a tree, a mapping and what it makes of each name: measured on a spare buffer, and written if it fits. An answer that the spare
-// buffer holds already is copied.
+// The answer for a tree, a mapping and what it makes of each name: measured on a buffer without room, and written if it fits.
 fn rename_over(
     tree: &[u8],
     starts: &[u16; 1024],
     sizes: &[u16; 1024],
-    hints: &[u16; 4096],
     n: usize,
+    spots: &[Spot],
+    k: usize,
     mapping: &[u8],
     targets: &[u16; 1024],
     spans: &[u16; 1024],
-    spare: &mut [u8],
     out: &mut [u8],
 ) -> Answer
-    requires { ⌜ Known (now tree) (now starts) (now sizes) (now hints) n × KnownPairs (now mapping) × Targets (listing (now tree) (now starts) (now sizes) n) n (now mapping) (now targets) (now spans) ⌝ }
+    requires { ⌜ Surveyed (now tree) (now starts) (now sizes) n (now spots) k × KnownPairs (now mapping) × Targets (listing (now tree) (now starts) (now sizes) n) n (now mapping) (now targets) (now spans) ⌝ }
     ensures { λ r. ⌜ Answered (renameOutcome (now (tree .entry)) (now (mapping .entry))) (now (out .entry)) (now (out .exit)) r ⌝ }
 {
-    let mut flags = [0u8; 2048];
-    let need = rename_in_graph_pattern(
+    let end = tree.len();
+    let mut none = [0u8; 0];
+    let need = put_renamed(
         tree,
+        0,
+        end,
+        spots,
+        0,
+        k,
         starts,
         sizes,
-        hints,
         n,
         mapping,
         targets,
         spans,
-        &mut flags,
-        spare,
+        &mut none,
         0,
-        0,
-        2,
-        64,
     );
-    let size = need.at;
-    if out.len() < size {
+    if out.len() < need {
         return Answer::TooShort;
     }
-    if size <= spare.len() {
-        let copied = put_all(out, 0, piece(spare, 0, size));
-        return Answer::Written(copied);
-    }
-    let put = rename_in_graph_pattern(
+    let size = put_renamed(
         tree,
+        0,
+        end,
+        spots,
+        0,
+        k,
         starts,
         sizes,
-        hints,
         n,
         mapping,
         targets,
         spans,
-        &mut flags,
         out,
         0,
-        0,
-        2,
-        64,
     );
-    Answer::Written(put.at)
+    Answer::Written(size)
 }
 
-// The same for a tree and a mapping that were checked, over a spare buffer as large as pays: it is cleared first.
+// The same for a tree and a mapping that were checked.
 fn rename_of(
     tree: &[u8],
     starts: &[u16; 1024],
     sizes: &[u16; 1024],
     hints: &[u16; 4096],
     n: usize,
+    spots: &[Spot],
+    k: usize,
     mapping: &[u8],
     out: &mut [u8],
 ) -> Answer
-    requires { ⌜ Known (now tree) (now starts) (now sizes) (now hints) n × KnownPairs (now mapping) ⌝ }
+    requires { ⌜ Known (now tree) (now starts) (now sizes) (now hints) n × Noted (now tree) 0 (listing (now tree) (now starts) (now sizes) n) (now spots) k × KnownPairs (now mapping) ⌝ }
     ensures { λ r. ⌜ Answered (renameOutcome (now (tree .entry)) (now (mapping .entry))) (now (out .entry)) (now (out .exit)) r ⌝ }
 {
     let mut targets = [0u16; 1024];
@@ -174,47 +172,16 @@ fn rename_of(
         &mut targets,
         &mut spans,
     );
-    if tree.len() <= 1536 {
-        let mut spare = [0u8; 2048];
-        return rename_over(
-            tree,
-            starts,
-            sizes,
-            hints,
-            n,
-            mapping,
-            &targets,
-            &spans,
-            &mut spare,
-            out,
-        );
-    }
-    if tree.len() <= 6144 {
-        let mut spare = [0u8; 8192];
-        return rename_over(
-            tree,
-            starts,
-            sizes,
-            hints,
-            n,
-            mapping,
-            &targets,
-            &spans,
-            &mut spare,
-            out,
-        );
-    }
-    let mut none = [0u8; 0];
     rename_over(
         tree,
         starts,
         sizes,
-        hints,
         n,
+        spots,
+        k,
         mapping,
         &targets,
         &spans,
-        &mut none,
         out,
     )
 }
@@ -226,32 +193,83 @@ fn rename_by(
     sizes: &[u16; 1024],
     hints: &[u16; 4096],
     n: usize,
+    spots: &[Spot],
+    k: usize,
     mapping: &[u8],
     out: &mut [u8],
 ) -> Answer
-    requires { ⌜ Known (now tree) (now starts) (now sizes) (now hints) n ⌝ }
+    requires { ⌜ Known (now tree) (now starts) (now sizes) (now hints) n × Noted (now tree) 0 (listing (now tree) (now starts) (now sizes) n) (now spots) k ⌝ }
     ensures { λ r. ⌜ Answered (renameOutcome (now (tree .entry)) (now (mapping .entry))) (now (out .entry)) (now (out .exit)) r ⌝ }
 {
     let mut key_starts = [0u16; 1024];
     let mut key_sizes = [0u16; 1024];
     let mut key_hints = [0u16; 4096];
     match check_mapping(mapping, &mut key_starts, &mut key_sizes, &mut key_hints) {
-        Check::Good(_) => rename_of(tree, starts, sizes, hints, n, mapping, out),
+        Check::Good(_) => rename_of(tree, starts, sizes, hints, n, spots, k, mapping, out),
         Check::Malformed => Answer::Malformed,
         Check::OverBound => Answer::OverBound,
     }
 }
 
-// rename: tree and mapping to tree.
+// The same for any tree, where the spots have room for all that a text within the bounds can have.
+fn rename_with(
+    tree: &[u8],
+    starts: &mut [u16; 1024],
+    sizes: &mut [u16; 1024],
+    hints: &mut [u16; 4096],
+    spots: &mut [Spot],
+    mapping: &[u8],
+    out: &mut [u8],
+) -> Answer
+    requires { ⌜ (length (now tree) ≤ 16384 → length (now tree) ≤ 3 * length (now spots)) ⌝ }
+    ensures { λ r. ⌜ Answered (renameOutcome (now (tree .entry)) (now (mapping .entry))) (now (out .entry)) (now (out .exit)) r ⌝ }
+{
+    match note_tree(tree, starts, sizes, hints, spots) {
+        Noting::Good(n, k) => { rename_by(tree, starts, sizes, hints, n, spots, k, mapping, out) }
+        Noting::Malformed => Answer::Malformed,
+        Noting::OverBound => Answer::OverBound,
+    }
+}
+
+// rename: tree and mapping to tree. The spots are as many as pays: they are cleared first.
 pub fn rename(tree: &[u8], mapping: &[u8], out: &mut [u8]) -> Answer
     ensures { λ r. ⌜ Answered (renameOutcome (now (tree .entry)) (now (mapping .entry))) (now (out .entry)) (now (out .exit)) r ⌝ }
 {
     let mut starts = [0u16; 1024];
     let mut sizes = [0u16; 1024];
     let mut hints = [0u16; 4096];
-    match check_tree(tree, &mut starts, &mut sizes, &mut hints) {
-        Check::Good(n) => rename_by(tree, &starts, &sizes, &hints, n, mapping, out),
-        Check::Malformed => Answer::Malformed,
-        Check::OverBound => Answer::OverBound,
+    if tree.len() <= 1536 {
+        let mut spots = [[0u16; 3]; 512];
+        return rename_with(
+            tree,
+            &mut starts,
+            &mut sizes,
+            &mut hints,
+            &mut spots,
+            mapping,
+            out,
+        );
     }
+    if tree.len() <= 6144 {
+        let mut spots = [[0u16; 3]; 2048];
+        return rename_with(
+            tree,
+            &mut starts,
+            &mut sizes,
+            &mut hints,
+            &mut spots,
+            mapping,
+            out,
+        );
+    }
+    let mut spots = [[0u16; 3]; 5462];
+    rename_with(
+        tree,
+        &mut starts,
+        &mut sizes,
+        &mut hints,
+        &mut spots,
+        mapping,
+        out,
+    )
 }

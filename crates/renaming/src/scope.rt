@@ -1,24 +1,25 @@
 // The call scope: the variables of a tree that are in scope, and those that are hidden.
-use algebra::Answer as Check;
 use answers::Answer;
 use emit::put;
 use emit::put_all;
+use lines::check::Noting;
+use lines::fields::Spot;
 use names::wide;
-use reading::check_tree;
+use reading::note_tree;
 use text::piece;
-use walking::tree::rename_in_graph_pattern;
+use walking::places::note_places;
 ghost use mathlib.Core.Path.{_≡_};
-ghost use Prim.Native.Nat.{_≤_, _<_};
+ghost use Prim.Native.Nat.{_*_, _≤_, _<_};
 ghost use mathlib.Core.List.{[], _∷_};
 ghost use mathlib.Core.Bool.{cond};
 ghost use lib.Dec.{eqb};
+ghost use lib.ListN.{length};
 ghost use Rattle.names.specs.bridge.Names.{listing, nameAt};
 ghost use Rattle.emit.specs.bridge.Emit.{em, puts};
 ghost use Rattle.answers.specs.Outcome.{Answered};
 ghost use Rattle.renaming.specs.Scope.{scopeOutcome};
 ghost use Rattle.walking.specs.bridge.Flags.{chosen};
-ghost use Rattle.heads.specs.bridge.Known.{Known};
-ghost use Rattle.renaming.specs.bridge.Code.{chosenText, tabbed};
+ghost use Rattle.renaming.specs.bridge.Code.{Surveyed, chosenText, tabbed};
 
 // The names whose flags from `base` on are set, each after a tab.
 fn put_names(
@@ -88,38 +89,23 @@ fn put_scope(
     put(out, e, 10)
 }
 
-// The answer for a tree that was checked: noted, measured on a buffer without room, and written if it fits.
+// The answer for a tree whose variables were noted: measured on a buffer without room, and written if it fits.
 fn scope_of(
     tree: &[u8],
     starts: &[u16; 1024],
     sizes: &[u16; 1024],
-    hints: &[u16; 4096],
     n: usize,
+    spots: &[Spot],
+    k: usize,
     out: &mut [u8],
 ) -> Answer
-    requires { ⌜ Known (now tree) (now starts) (now sizes) (now hints) n ⌝ }
+    requires { ⌜ Surveyed (now tree) (now starts) (now sizes) n (now spots) k ⌝ }
     ensures { λ r. ⌜ Answered (scopeOutcome (now (tree .entry))) (now (out .entry)) (now (out .exit)) r ⌝ }
 {
-    let none = [0u16; 1024];
     let mut flags = [0u8; 2048];
-    let mut spare = [0u8; 0];
-    rename_in_graph_pattern(
-        tree,
-        starts,
-        sizes,
-        hints,
-        n,
-        &tree[..0],
-        &none,
-        &none,
-        &mut flags,
-        &mut spare,
-        0,
-        0,
-        0,
-        64,
-    );
-    let need = put_scope(tree, starts, sizes, n, &flags, &mut spare, 0);
+    note_places(spots, k, &mut flags);
+    let mut none = [0u8; 0];
+    let need = put_scope(tree, starts, sizes, n, &flags, &mut none, 0);
     if out.len() < need {
         return Answer::TooShort;
     }
@@ -127,16 +113,40 @@ fn scope_of(
     Answer::Written(size)
 }
 
-// scope: tree to the lines `in` and `hid`.
+// The same for any text, where the spots have room for all that a text within the bounds can have.
+fn scope_over(
+    tree: &[u8],
+    starts: &mut [u16; 1024],
+    sizes: &mut [u16; 1024],
+    hints: &mut [u16; 4096],
+    spots: &mut [Spot],
+    out: &mut [u8],
+) -> Answer
+    requires { ⌜ (length (now tree) ≤ 16384 → length (now tree) ≤ 3 * length (now spots)) ⌝ }
+    ensures { λ r. ⌜ Answered (scopeOutcome (now (tree .entry))) (now (out .entry)) (now (out .exit)) r ⌝ }
+{
+    match note_tree(tree, starts, sizes, hints, spots) {
+        Noting::Good(n, k) => scope_of(tree, starts, sizes, n, spots, k, out),
+        Noting::Malformed => Answer::Malformed,
+        Noting::OverBound => Answer::OverBound,
+    }
+}
+
+// scope: tree to the lines `in` and `hid`. The spots are as many as pays: they are cleared first.
 pub fn scope(tree: &[u8], out: &mut [u8]) -> Answer
     ensures { λ r. ⌜ Answered (scopeOutcome (now (tree .entry))) (now (out .entry)) (now (out .exit)) r ⌝ }
 {
     let mut starts = [0u16; 1024];
     let mut sizes = [0u16; 1024];
     let mut hints = [0u16; 4096];
-    match check_tree(tree, &mut starts, &mut sizes, &mut hints) {
-        Check::Good(n) => scope_of(tree, &starts, &sizes, &hints, n, out),
-        Check::Malformed => Answer::Malformed,
-        Check::OverBound => Answer::OverBound,
+    if tree.len() <= 1536 {
+        let mut spots = [[0u16; 3]; 512];
+        return scope_over(tree, &mut starts, &mut sizes, &mut hints, &mut spots, out);
     }
+    if tree.len() <= 6144 {
+        let mut spots = [[0u16; 3]; 2048];
+        return scope_over(tree, &mut starts, &mut sizes, &mut hints, &mut spots, out);
+    }
+    let mut spots = [[0u16; 3]; 5462];
+    scope_over(tree, &mut starts, &mut sizes, &mut hints, &mut spots, out)
 }

@@ -1,22 +1,28 @@
 -- What the steps of the two calls keep and find. Assumes nothing.
-use Prim.Native.Nat.{ℕ, suc, _≤_}
+use Prim.Native.Nat.{ℕ, _≤_}
 use mathlib.Core.Path.{_≡_}
 use mathlib.Core.List.{List, [], _∷_}
-use mathlib.Core.Bool.{Bool, true, cond}
+use mathlib.Core.Bool.{true, cond}
 use lib.ListN.{length, getD, drop}
 use Rattle.text.specs.Text.{Bytes, Line, same, textOf, linesOf}
 use Rattle.text.specs.Word.{bytes}
 use Rattle.text.proofs.Texts.{glue}
-use Rattle.algebra.specs.Tree.{Pattern}
 use Rattle.algebra.specs.Valid.{mem}
 use Rattle.algebra.specs.Reader.{reads}
 use Rattle.algebra.specs.Query.{Pair, mapping}
-use Rattle.algebra.specs.Texts.{readTree, readPairs}
-use Rattle.names.specs.bridge.Names.{Holds}
-use Rattle.scoping.specs.Numbering.{byPlace}
+use Rattle.algebra.specs.Texts.{readPairs}
+use Rattle.names.specs.bridge.Names.{listing}
+use Rattle.lines.specs.bridge.Spotted.{Noted}
 use Rattle.emit.specs.bridge.Emit.{Em, puts}
 use Rattle.walking.specs.bridge.Code.{replacement}
 use Rattle.walking.specs.bridge.Flags.{chosen}
+use Rattle.heads.specs.bridge.Known.{Known}
+
+-- a text that is a tree's was checked, and its variables were noted
+pub record Surveyed (tree : Bytes) (starts sizes : List ℕ) (n : ℕ) (spots : List (List ℕ)) (k : ℕ) : Type 0 where
+  pub hints : List ℕ
+  pub known : Known tree starts sizes hints n
+  pub noted : Noted tree 0 (listing tree starts sizes n) spots k
 
 -- a text that is a mapping's
 pub record KnownPairs (pairs : Bytes) : Type 0 where

@@ -10,15 +10,9 @@ pub rename-over-spec : {M : Type 1} → statement M
 rename-over-spec =
     tie.close
     (tie.spec
-    (λ c κs. T.known-named _ _ _ _ _ (c .before .before .before .before .before .before .pre .0))
     (λ c. search needs)
-    (λ c. let k = c .before .before .before .before .before .before .before .before .before .before .pre in R.rename-short _ _ _ _ _ (k .0) _ (k .1) _ _ (k .2) _ _ _ _ _ _ _ (c .before .before .before .rename-in-graph-pattern .ensures) (c .if1 .taken))
-    (λ c κs. search needs)
-    (λ c κs. search needs)
+    (λ c κs. T.surveyed-ready _ _ _ _ _ _ (c .before .before .before .before .pre .0))
+    (λ c. let k = c .before .before .before .before .before .before .before .pre in R.rename-short _ _ _ _ _ _ (k .0) _ (k .1) _ _ (k .2) _ _ _ _ (c .before .before .put-renamed .ensures) (c .if1 .taken))
+    (λ c κs. T.surveyed-ready _ _ _ _ _ _ (c .before .before .before .before .before .before .before .before .pre .0))
     (λ c. search needs)
-    (λ c. search needs)
-    (λ c. let k = c .before .before .before .before .before .before .before .before .before .before .before .before .before .before .before .before .before .pre in let g = c .before .before .before .before .before .before .before .before .before .before .before .before .before .before .before .before .before .good in R.rename-copied _ _ _ _ _ (k .0) _ (k .1) _ _ (k .2) _ _ _ _ _ _ _ (c .before .before .before .before .before .before .before .before .before .before .rename-in-graph-pattern .ensures) _ _ (c .before .before .before .before .before .before .before .if1 .left) (omega (arith, g)) (omega (arith, g)) (omega (arith, c .before .before .before .before .before .before .if2 .taken)) (R.put-piece _ _ _ _ (c .before .before .put-all .ensures) (c .before .before .before .piece .ensures)))
-    (λ c κs. T.known-named _ _ _ _ _ (c .before .before .before .before .before .before .before .before .before .before .before .before .before .pre .0))
-    (λ c. search needs)
-    (λ c. search needs)
-    (λ c. let k = c .before .before .before .before .before .before .before .before .before .before .before .before .before .before .before .before .pre in let g = c .before .before .before .before .before .before .before .before .before .before .before .before .before .before .before .before .good in R.rename-written _ _ _ _ _ (k .0) _ (k .1) _ _ (k .2) _ _ _ _ _ _ _ (c .before .before .before .before .before .before .before .before .before .rename-in-graph-pattern .ensures) _ _ _ _ (c .before .before .before .before .before .before .if1 .left) (omega (arith, g)) (c .before .before .rename-in-graph-pattern2 .ensures)))
+    (λ c. let k = c .before .before .before .before .before .before .before .before .before .before .before .pre in let g = c .before .before .before .before .before .before .before .before .before .before .before .good in R.rename-written _ _ _ _ _ _ (k .0) _ (k .1) _ _ (k .2) _ _ _ _ (c .before .before .before .before .before .before .put-renamed .ensures) _ _ (c .before .before .before .before .if1 .left) (omega (arith, g)) (c .before .before .put-renamed2 .ensures)))
