@@ -3,20 +3,22 @@ use algebra::Answer as Check;
 use answers::Answer;
 use heads::is_mergeable;
 use heads::tree_start;
+use lines::check::Noting;
+use lines::fields::Spot;
 use lists::check_constants;
 use lists::check_joins;
 use projects::merge::merge_projects;
-use reading::check_query;
-use reading::check_tree;
+use reading::note_query;
+use reading::note_tree;
 use sides::side::is_project;
 ghost use mathlib.Core.List.{List};
+ghost use Prim.Native.Nat.{_≤_};
 ghost use lib.ListN.{take};
 ghost use Rattle.algebra.specs.Query.{Pair};
 ghost use Rattle.answers.specs.Outcome.{Answered};
 ghost use Rattle.algebra.specs.Tree.{Pattern};
 ghost use Rattle.merging.specs.Merge.{mergePatternsOutcome, mergeQueriesOutcome};
-ghost use Rattle.heads.specs.bridge.Known.{Known, KnownQuery};
-ghost use Rattle.projects.specs.bridge.Joining.{Stands, Lists, mergedBehind, ListsRead, TermsChecked, ListsChecked};
+ghost use Rattle.projects.specs.bridge.Joining.{Stands, HasRoom, KnownTree, KnownText, Lists, mergedBehind, ListsRead, TermsChecked, ListsChecked};
 
 // merge_project_patterns: two trees that were checked, behind the left text's head.
 fn merge_trees(
@@ -24,21 +26,21 @@ fn merge_trees(
     left_from: usize,
     left_starts: &[u16; 1024],
     left_sizes: &[u16; 1024],
-    left_hints: &[u16; 4096],
     left_n: usize,
+    left_spots: &[Spot],
     right: &[u8],
     right_from: usize,
     right_starts: &[u16; 1024],
     right_sizes: &[u16; 1024],
-    right_hints: &[u16; 4096],
     right_n: usize,
+    right_spots: &[Spot],
     pairs: &[u8],
     left_constants: &[u8],
     right_constants: &[u8],
     out: &mut [u8],
 ) -> Answer
-    requires { ⌜ ((p : Pattern) × Stands (now left) «left_from» (now «left_starts») (now «left_sizes») (now «left_hints») «left_n» p) × ((q : Pattern) × Stands (now right) «right_from» (now «right_starts») (now «right_sizes») (now «right_hints») «right_n» q) × ListsRead (now pairs) (now «left_constants») (now «right_constants») ⌝ }
-    ensures { λ r. ⌜ ((p q : Pattern) (js ks ls : List Pair) → Stands (now (left .entry)) «left_from» (now («left_starts» .entry)) (now («left_sizes» .entry)) (now («left_hints» .entry)) «left_n» p → Stands (now (right .entry)) «right_from» (now («right_starts» .entry)) (now («right_sizes» .entry)) (now («right_hints» .entry)) «right_n» q → Lists (now (pairs .entry)) (now («left_constants» .entry)) (now («right_constants» .entry)) js ks ls → Answered (mergedBehind (take «left_from» (now (left .entry))) p q js ks ls) (now (out .entry)) (now (out .exit)) r) ⌝ }
+    requires { ⌜ ((p : Pattern) × Stands (now left) «left_from» (now «left_starts») (now «left_sizes») «left_n» (now «left_spots») p) × ((q : Pattern) × Stands (now right) «right_from» (now «right_starts») (now «right_sizes») «right_n» (now «right_spots») q) × ListsRead (now pairs) (now «left_constants») (now «right_constants») ⌝ }
+    ensures { λ r. ⌜ ((p q : Pattern) (js ks ls : List Pair) → Stands (now (left .entry)) «left_from» (now («left_starts» .entry)) (now («left_sizes» .entry)) «left_n» (now («left_spots» .entry)) p → Stands (now (right .entry)) «right_from» (now («right_starts» .entry)) (now («right_sizes» .entry)) «right_n» (now («right_spots» .entry)) q → Lists (now (pairs .entry)) (now («left_constants» .entry)) (now («right_constants» .entry)) js ks ls → Answered (mergedBehind (take «left_from» (now (left .entry))) p q js ks ls) (now (out .entry)) (now (out .exit)) r) ⌝ }
 {
     if !is_project(left, left_from) {
         return Answer::NotProject;
@@ -51,14 +53,14 @@ fn merge_trees(
         left_from,
         left_starts,
         left_sizes,
-        left_hints,
         left_n,
+        left_spots,
         right,
         right_from,
         right_starts,
         right_sizes,
-        right_hints,
         right_n,
+        right_spots,
         pairs,
         left_constants,
         right_constants,
@@ -94,24 +96,34 @@ fn check_lists(pairs: &[u8], left_constants: &[u8], right_constants: &[u8]) -> C
     }
 }
 
+// The longer of two lengths.
+fn longer(a: usize, b: usize) -> usize
+    ensures { λ r. ⌜ (a ≤ r) × (b ≤ r) ⌝ }
+{
+    if a < b {
+        return b;
+    }
+    a
+}
+
 // The same for two trees that were checked and any lists.
 fn merge_listed(
     left: &[u8],
     left_starts: &[u16; 1024],
     left_sizes: &[u16; 1024],
-    left_hints: &[u16; 4096],
     left_n: usize,
+    left_spots: &[Spot],
     right: &[u8],
     right_starts: &[u16; 1024],
     right_sizes: &[u16; 1024],
-    right_hints: &[u16; 4096],
     right_n: usize,
+    right_spots: &[Spot],
     pairs: &[u8],
     left_constants: &[u8],
     right_constants: &[u8],
     out: &mut [u8],
 ) -> Answer
-    requires { ⌜ Known (now left) (now «left_starts») (now «left_sizes») (now «left_hints») «left_n» × Known (now right) (now «right_starts») (now «right_sizes») (now «right_hints») «right_n» ⌝ }
+    requires { ⌜ KnownTree (now left) (now «left_starts») (now «left_sizes») «left_n» (now «left_spots») × KnownTree (now right) (now «right_starts») (now «right_sizes») «right_n» (now «right_spots») ⌝ }
     ensures { λ r. ⌜ Answered (mergePatternsOutcome (now (left .entry)) (now (right .entry)) (now (pairs .entry)) (now («left_constants» .entry)) (now («right_constants» .entry))) (now (out .entry)) (now (out .exit)) r ⌝ }
 {
     match check_lists(pairs, left_constants, right_constants) {
@@ -120,14 +132,14 @@ fn merge_listed(
             0,
             left_starts,
             left_sizes,
-            left_hints,
             left_n,
+            left_spots,
             right,
             0,
             right_starts,
             right_sizes,
-            right_hints,
             right_n,
+            right_spots,
             pairs,
             left_constants,
             right_constants,
@@ -143,43 +155,92 @@ fn merge_right(
     left: &[u8],
     left_starts: &[u16; 1024],
     left_sizes: &[u16; 1024],
-    left_hints: &[u16; 4096],
     left_n: usize,
+    left_spots: &[Spot],
     right: &[u8],
+    right_spots: &mut [Spot],
     pairs: &[u8],
     left_constants: &[u8],
     right_constants: &[u8],
     out: &mut [u8],
 ) -> Answer
-    requires { ⌜ Known (now left) (now «left_starts») (now «left_sizes») (now «left_hints») «left_n» ⌝ }
+    requires { ⌜ KnownTree (now left) (now «left_starts») (now «left_sizes») «left_n» (now «left_spots») × HasRoom (now right) (now «right_spots») ⌝ }
     ensures { λ r. ⌜ Answered (mergePatternsOutcome (now (left .entry)) (now (right .entry)) (now (pairs .entry)) (now («left_constants» .entry)) (now («right_constants» .entry))) (now (out .entry)) (now (out .exit)) r ⌝ }
 {
     let mut right_starts = [0u16; 1024];
     let mut right_sizes = [0u16; 1024];
-    let mut right_hints = [0u16; 4096];
-    match check_tree(right, &mut right_starts, &mut right_sizes, &mut right_hints) {
-        Check::Good(right_n) => merge_listed(
+    let mut hints = [0u16; 4096];
+    match note_tree(
+        right,
+        &mut right_starts,
+        &mut right_sizes,
+        &mut hints,
+        right_spots,
+    ) {
+        Noting::Good(right_n, k) => merge_listed(
             left,
             left_starts,
             left_sizes,
-            left_hints,
             left_n,
+            left_spots,
             right,
             &right_starts,
             &right_sizes,
-            &right_hints,
             right_n,
+            &right_spots[..k],
             pairs,
             left_constants,
             right_constants,
             out,
         ),
-        Check::Malformed => Answer::Malformed,
-        Check::OverBound => Answer::OverBound,
+        Noting::Malformed => Answer::Malformed,
+        Noting::OverBound => Answer::OverBound,
     }
 }
 
-// merge patterns: two trees, join list, left and right constants to tree.
+// The same for any two texts, with room for their variables.
+fn merge_left(
+    left: &[u8],
+    left_spots: &mut [Spot],
+    right: &[u8],
+    right_spots: &mut [Spot],
+    pairs: &[u8],
+    left_constants: &[u8],
+    right_constants: &[u8],
+    out: &mut [u8],
+) -> Answer
+    requires { ⌜ HasRoom (now left) (now «left_spots») × HasRoom (now right) (now «right_spots») ⌝ }
+    ensures { λ r. ⌜ Answered (mergePatternsOutcome (now (left .entry)) (now (right .entry)) (now (pairs .entry)) (now («left_constants» .entry)) (now («right_constants» .entry))) (now (out .entry)) (now (out .exit)) r ⌝ }
+{
+    let mut left_starts = [0u16; 1024];
+    let mut left_sizes = [0u16; 1024];
+    let mut hints = [0u16; 4096];
+    match note_tree(
+        left,
+        &mut left_starts,
+        &mut left_sizes,
+        &mut hints,
+        left_spots,
+    ) {
+        Noting::Good(left_n, k) => merge_right(
+            left,
+            &left_starts,
+            &left_sizes,
+            left_n,
+            &left_spots[..k],
+            right,
+            right_spots,
+            pairs,
+            left_constants,
+            right_constants,
+            out,
+        ),
+        Noting::Malformed => Answer::Malformed,
+        Noting::OverBound => Answer::OverBound,
+    }
+}
+
+// merge patterns: two trees, join list, left and right constants to tree. There are as many spots as pays: they are cleared first.
 pub fn merge_patterns(
     left: &[u8],
     right: &[u8],
@@ -190,25 +251,47 @@ pub fn merge_patterns(
 ) -> Answer
     ensures { λ r. ⌜ Answered (mergePatternsOutcome (now (left .entry)) (now (right .entry)) (now (pairs .entry)) (now («left_constants» .entry)) (now («right_constants» .entry))) (now (out .entry)) (now (out .exit)) r ⌝ }
 {
-    let mut left_starts = [0u16; 1024];
-    let mut left_sizes = [0u16; 1024];
-    let mut left_hints = [0u16; 4096];
-    match check_tree(left, &mut left_starts, &mut left_sizes, &mut left_hints) {
-        Check::Good(left_n) => merge_right(
+    let most = longer(left.len(), right.len());
+    if most <= 1536 {
+        let mut left_spots = [[0u16; 3]; 512];
+        let mut right_spots = [[0u16; 3]; 512];
+        return merge_left(
             left,
-            &left_starts,
-            &left_sizes,
-            &left_hints,
-            left_n,
+            &mut left_spots,
             right,
+            &mut right_spots,
             pairs,
             left_constants,
             right_constants,
             out,
-        ),
-        Check::Malformed => Answer::Malformed,
-        Check::OverBound => Answer::OverBound,
+        );
     }
+    if most <= 6144 {
+        let mut left_spots = [[0u16; 3]; 2048];
+        let mut right_spots = [[0u16; 3]; 2048];
+        return merge_left(
+            left,
+            &mut left_spots,
+            right,
+            &mut right_spots,
+            pairs,
+            left_constants,
+            right_constants,
+            out,
+        );
+    }
+    let mut left_spots = [[0u16; 3]; 5462];
+    let mut right_spots = [[0u16; 3]; 5462];
+    merge_left(
+        left,
+        &mut left_spots,
+        right,
+        &mut right_spots,
+        pairs,
+        left_constants,
+        right_constants,
+        out,
+    )
 }
 
 // The same for two queries and lists that were checked: 5 unless their heads are one, then their trees.
@@ -216,19 +299,19 @@ fn merge_heads(
     left: &[u8],
     left_starts: &[u16; 1024],
     left_sizes: &[u16; 1024],
-    left_hints: &[u16; 4096],
     left_n: usize,
+    left_spots: &[Spot],
     right: &[u8],
     right_starts: &[u16; 1024],
     right_sizes: &[u16; 1024],
-    right_hints: &[u16; 4096],
     right_n: usize,
+    right_spots: &[Spot],
     pairs: &[u8],
     left_constants: &[u8],
     right_constants: &[u8],
     out: &mut [u8],
 ) -> Answer
-    requires { ⌜ KnownQuery (now left) (now «left_starts») (now «left_sizes») (now «left_hints») «left_n» × KnownQuery (now right) (now «right_starts») (now «right_sizes») (now «right_hints») «right_n» × ListsRead (now pairs) (now «left_constants») (now «right_constants») ⌝ }
+    requires { ⌜ KnownText (now left) (now «left_starts») (now «left_sizes») «left_n» (now «left_spots») × KnownText (now right) (now «right_starts») (now «right_sizes») «right_n» (now «right_spots») × ListsRead (now pairs) (now «left_constants») (now «right_constants») ⌝ }
     ensures { λ r. ⌜ Answered (mergeQueriesOutcome (now (left .entry)) (now (right .entry)) (now (pairs .entry)) (now («left_constants» .entry)) (now («right_constants» .entry))) (now (out .entry)) (now (out .exit)) r ⌝ }
 {
     let left_from = tree_start(left);
@@ -241,14 +324,14 @@ fn merge_heads(
         left_from,
         left_starts,
         left_sizes,
-        left_hints,
         left_n,
+        left_spots,
         right,
         right_from,
         right_starts,
         right_sizes,
-        right_hints,
         right_n,
+        right_spots,
         pairs,
         left_constants,
         right_constants,
@@ -261,19 +344,19 @@ fn merge_listed_queries(
     left: &[u8],
     left_starts: &[u16; 1024],
     left_sizes: &[u16; 1024],
-    left_hints: &[u16; 4096],
     left_n: usize,
+    left_spots: &[Spot],
     right: &[u8],
     right_starts: &[u16; 1024],
     right_sizes: &[u16; 1024],
-    right_hints: &[u16; 4096],
     right_n: usize,
+    right_spots: &[Spot],
     pairs: &[u8],
     left_constants: &[u8],
     right_constants: &[u8],
     out: &mut [u8],
 ) -> Answer
-    requires { ⌜ KnownQuery (now left) (now «left_starts») (now «left_sizes») (now «left_hints») «left_n» × KnownQuery (now right) (now «right_starts») (now «right_sizes») (now «right_hints») «right_n» ⌝ }
+    requires { ⌜ KnownText (now left) (now «left_starts») (now «left_sizes») «left_n» (now «left_spots») × KnownText (now right) (now «right_starts») (now «right_sizes») «right_n» (now «right_spots») ⌝ }
     ensures { λ r. ⌜ Answered (mergeQueriesOutcome (now (left .entry)) (now (right .entry)) (now (pairs .entry)) (now («left_constants» .entry)) (now («right_constants» .entry))) (now (out .entry)) (now (out .exit)) r ⌝ }
 {
     match check_lists(pairs, left_constants, right_constants) {
@@ -281,13 +364,13 @@ fn merge_listed_queries(
             left,
             left_starts,
             left_sizes,
-            left_hints,
             left_n,
+            left_spots,
             right,
             right_starts,
             right_sizes,
-            right_hints,
             right_n,
+            right_spots,
             pairs,
             left_constants,
             right_constants,
@@ -303,39 +386,88 @@ fn merge_right_query(
     left: &[u8],
     left_starts: &[u16; 1024],
     left_sizes: &[u16; 1024],
-    left_hints: &[u16; 4096],
     left_n: usize,
+    left_spots: &[Spot],
     right: &[u8],
+    right_spots: &mut [Spot],
     pairs: &[u8],
     left_constants: &[u8],
     right_constants: &[u8],
     out: &mut [u8],
 ) -> Answer
-    requires { ⌜ KnownQuery (now left) (now «left_starts») (now «left_sizes») (now «left_hints») «left_n» ⌝ }
+    requires { ⌜ KnownText (now left) (now «left_starts») (now «left_sizes») «left_n» (now «left_spots») × HasRoom (now right) (now «right_spots») ⌝ }
     ensures { λ r. ⌜ Answered (mergeQueriesOutcome (now (left .entry)) (now (right .entry)) (now (pairs .entry)) (now («left_constants» .entry)) (now («right_constants» .entry))) (now (out .entry)) (now (out .exit)) r ⌝ }
 {
     let mut right_starts = [0u16; 1024];
     let mut right_sizes = [0u16; 1024];
-    let mut right_hints = [0u16; 4096];
-    match check_query(right, &mut right_starts, &mut right_sizes, &mut right_hints) {
-        Check::Good(right_n) => merge_listed_queries(
+    let mut hints = [0u16; 4096];
+    match note_query(
+        right,
+        &mut right_starts,
+        &mut right_sizes,
+        &mut hints,
+        right_spots,
+    ) {
+        Noting::Good(right_n, k) => merge_listed_queries(
             left,
             left_starts,
             left_sizes,
-            left_hints,
             left_n,
+            left_spots,
             right,
             &right_starts,
             &right_sizes,
-            &right_hints,
             right_n,
+            &right_spots[..k],
             pairs,
             left_constants,
             right_constants,
             out,
         ),
-        Check::Malformed => Answer::Malformed,
-        Check::OverBound => Answer::OverBound,
+        Noting::Malformed => Answer::Malformed,
+        Noting::OverBound => Answer::OverBound,
+    }
+}
+
+// The same for any two texts, with room for their variables.
+fn merge_left_query(
+    left: &[u8],
+    left_spots: &mut [Spot],
+    right: &[u8],
+    right_spots: &mut [Spot],
+    pairs: &[u8],
+    left_constants: &[u8],
+    right_constants: &[u8],
+    out: &mut [u8],
+) -> Answer
+    requires { ⌜ HasRoom (now left) (now «left_spots») × HasRoom (now right) (now «right_spots») ⌝ }
+    ensures { λ r. ⌜ Answered (mergeQueriesOutcome (now (left .entry)) (now (right .entry)) (now (pairs .entry)) (now («left_constants» .entry)) (now («right_constants» .entry))) (now (out .entry)) (now (out .exit)) r ⌝ }
+{
+    let mut left_starts = [0u16; 1024];
+    let mut left_sizes = [0u16; 1024];
+    let mut hints = [0u16; 4096];
+    match note_query(
+        left,
+        &mut left_starts,
+        &mut left_sizes,
+        &mut hints,
+        left_spots,
+    ) {
+        Noting::Good(left_n, k) => merge_right_query(
+            left,
+            &left_starts,
+            &left_sizes,
+            left_n,
+            &left_spots[..k],
+            right,
+            right_spots,
+            pairs,
+            left_constants,
+            right_constants,
+            out,
+        ),
+        Noting::Malformed => Answer::Malformed,
+        Noting::OverBound => Answer::OverBound,
     }
 }
 
@@ -350,23 +482,45 @@ pub fn merge_queries(
 ) -> Answer
     ensures { λ r. ⌜ Answered (mergeQueriesOutcome (now (left .entry)) (now (right .entry)) (now (pairs .entry)) (now («left_constants» .entry)) (now («right_constants» .entry))) (now (out .entry)) (now (out .exit)) r ⌝ }
 {
-    let mut left_starts = [0u16; 1024];
-    let mut left_sizes = [0u16; 1024];
-    let mut left_hints = [0u16; 4096];
-    match check_query(left, &mut left_starts, &mut left_sizes, &mut left_hints) {
-        Check::Good(left_n) => merge_right_query(
+    let most = longer(left.len(), right.len());
+    if most <= 1536 {
+        let mut left_spots = [[0u16; 3]; 512];
+        let mut right_spots = [[0u16; 3]; 512];
+        return merge_left_query(
             left,
-            &left_starts,
-            &left_sizes,
-            &left_hints,
-            left_n,
+            &mut left_spots,
             right,
+            &mut right_spots,
             pairs,
             left_constants,
             right_constants,
             out,
-        ),
-        Check::Malformed => Answer::Malformed,
-        Check::OverBound => Answer::OverBound,
+        );
     }
+    if most <= 6144 {
+        let mut left_spots = [[0u16; 3]; 2048];
+        let mut right_spots = [[0u16; 3]; 2048];
+        return merge_left_query(
+            left,
+            &mut left_spots,
+            right,
+            &mut right_spots,
+            pairs,
+            left_constants,
+            right_constants,
+            out,
+        );
+    }
+    let mut left_spots = [[0u16; 3]; 5462];
+    let mut right_spots = [[0u16; 3]; 5462];
+    merge_left_query(
+        left,
+        &mut left_spots,
+        right,
+        &mut right_spots,
+        pairs,
+        left_constants,
+        right_constants,
+        out,
+    )
 }

@@ -4,26 +4,27 @@ use answers::Answer;
 use heads::copy;
 use heads::is_select_or_ask;
 use heads::tree_start;
+use lines::check::Noting;
+use lines::fields::Spot;
 use lists::check_constants;
 use projects::push::push_in_project;
-use reading::check_query;
+use reading::note_query;
 use sides::side::is_project;
 ghost use Rattle.answers.specs.Outcome.{Answered};
 ghost use Rattle.merging.specs.Push.{pushConstantsOutcome};
-ghost use Rattle.heads.specs.bridge.Known.{KnownQuery};
-ghost use Rattle.projects.specs.bridge.Joining.{KnownTerms};
+ghost use Rattle.projects.specs.bridge.Joining.{HasRoom, KnownText, KnownTerms};
 
 // push_constants, for a query and constants that were checked.
 fn push_of(
     query: &[u8],
     starts: &[u16; 1024],
     sizes: &[u16; 1024],
-    hints: &[u16; 4096],
     n: usize,
+    spots: &[Spot],
     constants: &[u8],
     out: &mut [u8],
 ) -> Answer
-    requires { ⌜ KnownQuery (now query) (now starts) (now sizes) (now hints) n × KnownTerms (now constants) ⌝ }
+    requires { ⌜ KnownText (now query) (now starts) (now sizes) n (now spots) × KnownTerms (now constants) ⌝ }
     ensures { λ r. ⌜ Answered (pushConstantsOutcome (now (query .entry)) (now (constants .entry))) (now (out .entry)) (now (out .exit)) r ⌝ }
 {
     if !is_select_or_ask(query) {
@@ -33,7 +34,7 @@ fn push_of(
     if !is_project(query, from) {
         return copy(query, out);
     }
-    push_in_project(query, from, starts, sizes, hints, n, constants, out)
+    push_in_project(query, from, starts, sizes, n, spots, constants, out)
 }
 
 // The same for a query that was checked and any constants.
@@ -41,34 +42,51 @@ fn push_by(
     query: &[u8],
     starts: &[u16; 1024],
     sizes: &[u16; 1024],
-    hints: &[u16; 4096],
     n: usize,
+    spots: &[Spot],
     constants: &[u8],
     out: &mut [u8],
 ) -> Answer
-    requires { ⌜ KnownQuery (now query) (now starts) (now sizes) (now hints) n ⌝ }
+    requires { ⌜ KnownText (now query) (now starts) (now sizes) n (now spots) ⌝ }
     ensures { λ r. ⌜ Answered (pushConstantsOutcome (now (query .entry)) (now (constants .entry))) (now (out .entry)) (now (out .exit)) r ⌝ }
 {
     let mut key_starts = [0u16; 1024];
     let mut key_sizes = [0u16; 1024];
     let mut key_hints = [0u16; 4096];
     match check_constants(constants, &mut key_starts, &mut key_sizes, &mut key_hints) {
-        Check::Good(_) => push_of(query, starts, sizes, hints, n, constants, out),
+        Check::Good(_) => push_of(query, starts, sizes, n, spots, constants, out),
         Check::Malformed => Answer::Malformed,
         Check::OverBound => Answer::OverBound,
     }
 }
 
-// push constants: query and constants to query.
-pub fn push_constants(query: &[u8], constants: &[u8], out: &mut [u8]) -> Answer
+// The same for any query, with room for its variables.
+fn push_with(query: &[u8], spots: &mut [Spot], constants: &[u8], out: &mut [u8]) -> Answer
+    requires { ⌜ HasRoom (now query) (now spots) ⌝ }
     ensures { λ r. ⌜ Answered (pushConstantsOutcome (now (query .entry)) (now (constants .entry))) (now (out .entry)) (now (out .exit)) r ⌝ }
 {
     let mut starts = [0u16; 1024];
     let mut sizes = [0u16; 1024];
     let mut hints = [0u16; 4096];
-    match check_query(query, &mut starts, &mut sizes, &mut hints) {
-        Check::Good(n) => push_by(query, &starts, &sizes, &hints, n, constants, out),
-        Check::Malformed => Answer::Malformed,
-        Check::OverBound => Answer::OverBound,
+    match note_query(query, &mut starts, &mut sizes, &mut hints, spots) {
+        Noting::Good(n, k) => push_by(query, &starts, &sizes, n, &spots[..k], constants, out),
+        Noting::Malformed => Answer::Malformed,
+        Noting::OverBound => Answer::OverBound,
     }
+}
+
+// push constants: query and constants to query. There are as many spots as pays: they are cleared first.
+pub fn push_constants(query: &[u8], constants: &[u8], out: &mut [u8]) -> Answer
+    ensures { λ r. ⌜ Answered (pushConstantsOutcome (now (query .entry)) (now (constants .entry))) (now (out .entry)) (now (out .exit)) r ⌝ }
+{
+    if query.len() <= 1536 {
+        let mut spots = [[0u16; 3]; 512];
+        return push_with(query, &mut spots, constants, out);
+    }
+    if query.len() <= 6144 {
+        let mut spots = [[0u16; 3]; 2048];
+        return push_with(query, &mut spots, constants, out);
+    }
+    let mut spots = [[0u16; 3]; 5462];
+    push_with(query, &mut spots, constants, out)
 }

@@ -1,11 +1,12 @@
 -- Texts that were checked: their trees stand in them, and their lists are those that the code reads. Assumes nothing.
-use Prim.Native.Nat.{ℕ, _≤_}
-use mathlib.Core.Path.{_≡_, refl, sym, ap, subst, _∙_}
-use mathlib.Core.List.{List, [], _∷_}
-use mathlib.Core.Bool.{true, false}
+use Prim.Native.Nat.{ℕ, zero, suc, _+_, _-_, _≤_, _<_}
+use mathlib.Core.Path.{_≡_, refl, sym, ap, ap₂, subst, _∙_}
+use mathlib.Core.List.{List, [], _∷_, _++_}
+use native.Mathlib.Nat.{le-refl}
 use native.Mathlib.Omega.{arith}
-use lib.ListN.{length}
-use Rattle.text.specs.Text.{Bytes, Line, linesOf, linesFrom}
+use lib.ListN.{length, getD, take, drop, length-take, length-drop, length-append}
+use lib.Seq.{getD-take, take-all, drop-at}
+use Rattle.text.specs.Text.{Bytes, ended, part, split, linesIn, linesOf, linesFrom}
 use Rattle.text.proofs.Texts.{lines-back}
 use Rattle.text.proofs.Places.{lines-start}
 use Rattle.algebra.specs.Tree.{Pattern, project}
@@ -13,28 +14,33 @@ use Rattle.algebra.specs.Query.{Query, Pair, PairList, joins, constants}
 use Rattle.algebra.specs.Layout.{put, putPairs, layout}
 use Rattle.algebra.specs.Bounded.{IsPairs, layoutPairs}
 use Rattle.algebra.specs.Tally.{Tally, bounds, start, headed, tally, tallyQuery, noted}
-use Rattle.algebra.specs.Reader.{Outcome as Reading, reads, refuses}
+use Rattle.algebra.specs.Reader.{reads}
 use Rattle.algebra.specs.Texts.{readTree, readQuery, readPairs}
 use Rattle.algebra.specs.declared.Answer.{Answer as Check}
-use Rattle.algebra.specs.declared.Answer.the-variants.{Good}
+use Rattle.algebra.specs.declared.Answer.the-variants as C
 use Rattle.algebra.proofs.Neat.{neat, pairs-neat}
 use Rattle.algebra.proofs.Theorem.{tree-exactly, query-exactly, pairs-exactly}
-use Rattle.algebra.proofs.Grow.{In, Counts, counts, in-bounds, grow}
+use Rattle.algebra.proofs.Grow.{In, counts, in-bounds, grow}
 use Rattle.reading.specs.bridge.Variables.{treeNames, queryNames}
+use Rattle.reading.specs.bridge.Charted.{Charted, treeStart, queryStart}
 use Rattle.reading.proofs.Said.{said-good}
-use Rattle.names.specs.bridge.Names.{Holds}
+use Rattle.reading.proofs.ChartSaid.{Good-chart, chart-good}
+use Rattle.names.specs.bridge.Names.{listing}
 use Rattle.names.specs.bridge.Checked.{Checked}
 use Rattle.lists.specs.bridge.Pairs.{keysOf}
 use Rattle.scoping.specs.Premises.{differentPositions}
 use Rattle.scoping.specs.Numbering.{byPlace}
+use Rattle.scoping.specs.bridge.Spots.{Spot}
 use Rattle.scoping.proofs.FirstPlaces.{by-place-query}
+use Rattle.lines.specs.bridge.Spotted.{spotAt, spotsOf, Noted}
+use Rattle.lines.specs.declared.check.Noting.{Noting}
+use Rattle.lines.specs.declared.check.Noting.the-variants.{Good}
 use Rattle.merging.specs.Request.{Projection, tree, made, readJoins, readConstants, joinPositions, byPosition, constantsIn}
 use Rattle.merging.proofs.Lists.{positions-different}
-use Rattle.heads.specs.bridge.Known.{Known, KnownQuery}
-use Rattle.heads.specs.bridge.TreeAt.{TreeAt}
-use Rattle.heads.proofs.Queries.{query-valid, query-depth, query-names}
-use Rattle.sides.specs.bridge.Listed.{Listed, positionsIn}
-use Rattle.projects.specs.bridge.Joining.{Stands, Terms, KnownTerms}
+use Rattle.heads.specs.bridge.TreeAt.{headLine, TreeAt}
+use Rattle.heads.proofs.Queries.{query-valid, query-depth, query-names, query-text}
+use Rattle.sides.specs.bridge.Listed.{Listed}
+use Rattle.projects.specs.bridge.Joining.{Stands, KnownTree, KnownText, HasRoom, Terms, KnownTerms}
 use Rattle.projects.proofs.Picks.{positions-are}
 
 -- ---- trees
@@ -44,8 +50,8 @@ narrow-in : (m : Tally) (x : Projection) → In bounds (tally (tree x) m) → le
 unfolding tally headed
 narrow-in m x h = let c = counts bounds (headed (x .columns) m) (grow bounds (x .inner) (headed (x .columns) m) h) .wide in omega arith
 
-module _ (s : Bytes) (a l h : List ℕ) (n : ℕ) (k : Known s a l h n) where
-  pub tree-stands : Stands s 0 a l h n (k .pattern)
+module _ (s : Bytes) (a l : List ℕ) (n : ℕ) (v : List (List ℕ)) (k : KnownTree s a l n v) where
+  pub tree-stands : Stands s 0 a l n v (k .pattern)
   unfolding layout byPlace
   tree-stands =
       let t = tree-exactly s (k .pattern) .0 (k .read) in
@@ -56,28 +62,101 @@ module _ (s : Bytes) (a l h : List ℕ) (n : ℕ) (k : Known s a l h n) where
           valid = t .1;
           deep = t .2 .depth;
           few = t .2 .names;
-          table = k .table;
+          names = k .names;
+          noted = k .noted;
         };
         narrow = λ x e. narrow-in start x (subst (λ (p : Pattern). In bounds (tally p start)) e b);
       }
 
-module _ (s : Bytes) (a l h : List ℕ) (n : ℕ) (k : KnownQuery s a l h n) (from : ℕ) (t : TreeAt s (k .query) from) where
-  pub query-stands : Stands s from a l h n (k .query .tree)
+module _ (s : Bytes) (a l : List ℕ) (n : ℕ) (v : List (List ℕ)) (k : KnownText s a l n v) (from : ℕ) (high : from ≤ length s) (t : TreeAt s (k .query) from) where
+  pub query-stands : Stands s from a l n v (k .query .tree)
   unfolding tallyQuery
   query-stands =
       let q = query-exactly s (k .query) .0 (k .read) in
       let b : In bounds (tally (k .query .tree) (noted [] start)) = in-bounds bounds (tallyQuery (k .query) start) (record { lines = q .2 .lines; wide = q .2 .columns; names = q .2 .names }) in
       record {
-        tree-in = record { lines = t .lines; valid = query-valid s (k .query) (k .read); deep = query-depth s (k .query) (k .read); few = query-names s (k .query) (k .read); table = k .table };
+        tree-in = record { lines = t .lines; valid = query-valid s (k .query) (k .read); deep = query-depth s (k .query) (k .read); few = query-names s (k .query) (k .read); names = k .names; noted = k .noted from high t };
         narrow = λ x e. narrow-in (noted [] start) x (subst (λ (p : Pattern). In bounds (tally p (noted [] start))) e b);
       }
 
-pub good-tree : (s : Bytes) (a l h : List ℕ) (r : Check) (n : ℕ) → Checked treeNames s a l h (readTree s) r → r ≡ Good n → Known s a l h n
-unfolding byPlace
-good-tree s a l h r n c q = let g = said-good treeNames s a l h r (readTree s) n c q in record { pattern = g .value; read = g .read; table = g .table }
+-- the variables that were noted, and no more of the array
+spots-taken : (ns : List Bytes) (a : List (List ℕ)) (k j : ℕ) → j ≤ k → spotsOf ns (take k a) j ≡ spotsOf ns a j
+unfolding spotsOf
+spots-taken ns a k zero h = refl
+spots-taken ns a k (suc j) h = ap₂ (λ (xs : List Spot) (e : List ℕ). xs ++ (spotAt ns e ∷ [])) (spots-taken ns a k j (omega arith)) (getD-take k a j [] (omega arith))
 
-pub good-query : (s : Bytes) (a l h : List ℕ) (r : Check) (n : ℕ) → Checked queryNames s a l h (readQuery s) r → r ≡ Good n → KnownQuery s a l h n
-good-query s a l h r n c q = let g = said-good queryNames s a l h r (readQuery s) n c q in record { query = g .value; read = g .read; table = subst (Holds s a l h n) (by-place-query (g .value)) (g .table) }
+pub taken-long : (a : List (List ℕ)) (k : ℕ) → k ≤ length a → length (take k a) ≡ k
+taken-long a k h = simp length-take (omega arith)
+
+pub noted-taken : (s : Bytes) (from : ℕ) (ns : List Bytes) (a : List (List ℕ)) (k : ℕ) → Noted s from ns a k → Noted s from ns (take k a) (length (take k a))
+noted-taken s from ns a k x =
+    let e : length (take k a) ≡ k = taken-long a k (x .kept .many) in
+    subst (Noted s from ns (take k a)) (sym e) (record {
+      spots = x .spots;
+      walked = x .walked;
+      kept = record {
+        many = omega arith;
+        are = spots-taken ns a k k (le-refl k) ∙ x .kept .are;
+        inside = λ i h. subst (λ (w : List ℕ). getD w 1 0 < length ns) (sym (getD-take k a i [] h)) (x .kept .inside i h);
+      };
+    })
+
+-- a query's tree stands behind its head
+tree-somewhere : (s : Bytes) (q : Query) → readQuery s ≡ reads q → (i : ℕ) × queryStart s q i
+unfolding linesFrom linesOf layout
+tree-somewhere s q e =
+    let h : Bytes = ended (headLine q) [] in
+    let d : drop (length h) s ≡ layout (q .tree) = ap (drop (length h)) (query-text s q e) ∙ drop-at h (layout (q .tree)) (length h) refl in
+    let p : part (length h) (length s) s ≡ layout (q .tree) = take-all (length s - length h) (drop (length h) s) (simp length-drop (omega arith)) ∙ d in
+    let n : length s ≡ length h + length (layout (q .tree)) = ap length (query-text s q e) ∙ length-append h (layout (q .tree)) in
+    (length h, (omega arith, ap (λ (b : Bytes). linesIn (split 10 b)) p ∙ lines-back (put (q .tree) []) (neat (q .tree) [] (query-valid s q e) tt)))
+
+-- a text that was checked, with room for its variables
+module _ (s : Bytes) (a l h : List ℕ) (before after : List (List ℕ)) (r : Noting) (n k : ℕ) (good : r ≡ Good n k) (room : HasRoom s before) where
+  module _ (said : Charted treeNames treeStart s a l h before after (readTree s) r) where
+    abbrev of-tree : Good-chart treeNames treeStart s a l h before after r (readTree s) n k
+    of-tree = chart-good treeNames treeStart s a l h before after r (readTree s) n k said good
+
+    tree-noted : (n ≤ 1024) × ((i : ℕ) → i ≡ 0 → Noted s i (treeNames (of-tree .value)) after k)
+    tree-noted =
+        let t = tree-exactly s (of-tree .value) .0 (of-tree .read) in
+        of-tree .noted (room (subst (λ (b : Bytes). length b ≤ 16384) (t .0) (t .2 .bytes)))
+
+    pub tree-count : k ≤ length after
+    tree-count = tree-noted .1 0 refl .kept .many
+
+    pub good-tree : KnownTree s a l n (take k after)
+    unfolding byPlace
+    good-tree =
+        let e : listing s a l n ≡ treeNames (of-tree .value) = of-tree .table .fits (tree-noted .0) in
+        record {
+          pattern = of-tree .value;
+          read = of-tree .read;
+          names = e;
+          noted = noted-taken s 0 (listing s a l n) after k (subst (λ (ns : List Bytes). Noted s 0 ns after k) (sym e) (tree-noted .1 0 refl));
+        }
+
+  module _ (said : Charted queryNames queryStart s a l h before after (readQuery s) r) where
+    abbrev of-query : Good-chart queryNames queryStart s a l h before after r (readQuery s) n k
+    of-query = chart-good queryNames queryStart s a l h before after r (readQuery s) n k said good
+
+    query-noted : (n ≤ 1024) × ((i : ℕ) → queryStart s (of-query .value) i → Noted s i (queryNames (of-query .value)) after k)
+    query-noted =
+        let t = query-exactly s (of-query .value) .0 (of-query .read) in
+        of-query .noted (room (subst (λ (b : Bytes). length b ≤ 16384) (t .0) (t .2 .bytes)))
+
+    pub query-count : k ≤ length after
+    query-count = let t = tree-somewhere s (of-query .value) (of-query .read) in query-noted .1 (t .0) (t .1) .kept .many
+
+    pub good-query : KnownText s a l n (take k after)
+    good-query =
+        let e : listing s a l n ≡ queryNames (of-query .value) = of-query .table .fits (query-noted .0) in
+        record {
+          query = of-query .value;
+          read = of-query .read;
+          names = e ∙ by-place-query (of-query .value);
+          noted = λ from high t. noted-taken s from (listing s a l n) after k (subst (λ (ns : List Bytes). Noted s from ns after k) (sym e) (query-noted .1 from (high, t .lines)));
+        }
 
 -- ---- lists
 
@@ -93,7 +172,7 @@ module _ (κ : PairList) (s : Bytes) (xs : List Pair) (e : readPairs κ s ≡ re
     short = subst (λ (b : Bytes). length b ≤ 16384) (is-pairs .0) (is-pairs .2 .bytes);
   }
 
-pub good-terms : (s : Bytes) (a l h : List ℕ) (r : Check) (n : ℕ) → Checked (keysOf constants) s a l h (readPairs constants s) r → r ≡ Good n → KnownTerms s
+pub good-terms : (s : Bytes) (a l h : List ℕ) (r : Check) (n : ℕ) → Checked (keysOf constants) s a l h (readPairs constants s) r → r ≡ C.Good n → KnownTerms s
 unfolding readConstants
 good-terms s a l h r n c q =
     let g = said-good (keysOf constants) s a l h r (readPairs constants s) n c q in
@@ -109,10 +188,10 @@ pub record KnownJoins (s : Bytes) : Type 0 where
   pub listed : Listed s list
   pub read : readJoins s ≡ reads (joinPositions list)
 
-pub good-joins : (s : Bytes) (a l h : List ℕ) (r : Check) (n : ℕ) → Checked (keysOf joins) s a l h (readPairs joins s) r → r ≡ Good n → KnownJoins s
+pub good-joins : (s : Bytes) (a l h : List ℕ) (r : Check) (n : ℕ) → Checked (keysOf joins) s a l h (readPairs joins s) r → r ≡ C.Good n → KnownJoins s
 unfolding readJoins
 good-joins s a l h r n c q = let g = said-good (keysOf joins) s a l h r (readPairs joins s) n c q in record { list = g .value; listed = pairs-listed joins s (g .value) (g .read); read = ap (made joinPositions) (g .read) }
 
 -- a tree that is a project stands as one
-pub stands-as : (s : Bytes) (at : ℕ) (a l h : List ℕ) (n : ℕ) (p q : Pattern) → p ≡ q → Stands s at a l h n p → Stands s at a l h n q
-stands-as s at a l h n p q e t = subst (Stands s at a l h n) e t
+pub stands-as : (s : Bytes) (at : ℕ) (a l : List ℕ) (n : ℕ) (v : List (List ℕ)) (p q : Pattern) → p ≡ q → Stands s at a l n v p → Stands s at a l n v q
+stands-as s at a l n v p q e t = subst (Stands s at a l n v) e t

@@ -5,4 +5,5 @@ pub mod Merged
 pub mod Known
 pub mod Outcomes
 pub mod Whole
+pub mod OneSide
 pub mod Pass

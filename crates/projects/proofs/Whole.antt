@@ -1,6 +1,6 @@
 -- What a pass of the code writes: a head, the line of columns, the lines of each side. Assumes nothing.
 use Prim.Native.Nat.{ℕ, _≤_}
-use mathlib.Core.Path.{_≡_, refl, sym, ap, ap₂, subst, _∙_}
+use mathlib.Core.Path.{_≡_, refl, sym, ap, _∙_}
 use mathlib.Core.List.{List, [], _∷_, _++_, append-assoc}
 use mathlib.Core.Bool.{Bool, true, false, _&&_}
 use lib.ListN.{length}
@@ -9,17 +9,15 @@ use Rattle.text.specs.Word.{bytes}
 use Rattle.algebra.specs.Tree.{Pattern}
 use Rattle.algebra.specs.Query.{Pair}
 use Rattle.algebra.specs.Layout.{put, layout}
-use Rattle.emit.specs.bridge.Emit.{Em, em, puts}
+use Rattle.emit.specs.bridge.Emit.{Em, puts}
 use Rattle.emit.proofs.Laws.{puts-append, puts-nil}
 use Rattle.walking.specs.bridge.Walk.{tabbed}
 use Rattle.walking.proofs.Written.{puts-ended}
 use Rattle.merging.specs.Request.{Projection, tree}
 use Rattle.sides.specs.declared.side.Side.{Side}
-use Rattle.sides.specs.declared.side.Prepared.{Prepared}
-use Rattle.sides.specs.declared.side.Prepared.the-variants.{Outside, Ready}
 use Rattle.scoping.specs.Premises.{inside}
 use Rattle.sides.specs.bridge.Listed.{Listed, positionsIn}
-use Rattle.sides.specs.bridge.Side.{Asked, newNames, SideIs, PreparedIs}
+use Rattle.sides.specs.bridge.Side.{newNames, SideIs}
 use Rattle.text.specs.Text.{split, linesIn, linesOf}
 use native.Mathlib.Omega.{arith}
 use Rattle.algebra.specs.Layout.{putPairs}
@@ -36,7 +34,7 @@ use Rattle.merging.proofs.Lists.{map-length}
 use Rattle.merging.specs.Push.{onlySide, pushConstantsInProjectPattern}
 use Rattle.merging.proofs.Lines.{push-lines}
 use Rattle.sides.specs.bridge.Columns.{columnsIn, picked}
-use Rattle.projects.specs.bridge.Joining.{Stands, KnownTerms, pushedBehind}
+use Rattle.projects.specs.bridge.Joining.{Lists, ListsRead, pushedBehind}
 use Rattle.projects.proofs.SideLines.{side, side-free}
 use Rattle.projects.proofs.Outcomes.{inside-sorted}
 
@@ -89,21 +87,6 @@ module _ (head : Bytes) (e e₁ e₂ : Em) where
       ∙ ap (λ (ls : List Line). puts (head ++ textOf (first ls)) e) (ap raw (r′ []) ∙ r (side′ []))
       ∙ ap (λ (ls : List Line). puts (head ++ textOf ls) e) f
 
--- ---- sides that are prepared
-
-pub asked-of : (s : Bytes) (at : ℕ) (a l h : List ℕ) (n : ℕ) (pairs constants : Bytes) (x : Projection) (js : List Pair) → Stands s at a l h n (tree x) → Listed pairs js → KnownTerms constants → Asked s at a l h n pairs constants
-asked-of s at a l h n pairs constants x js t j k = record { projection = x; stands = t .tree-in; narrow = t .narrow x refl; joins = js; joins-listed = j; terms = k .list; terms-listed = k .terms .listed }
-
-module _ (text : Bytes) (starts sizes : List ℕ) (n prefix : ℕ) (second : Bool) (constants : Bytes) (x : Projection) (js ks : List Pair) (pool targets spans line at lines : List ℕ) (r : Prepared)
-    (p : PreparedIs text starts sizes n prefix second constants x js ks pool targets spans line at lines r) where
-  pub prepared-outside : r ≡ Outside → (inside (x .columns) (positionsIn second js) && inside (x .columns) (positionsIn false ks)) ≡ false
-  unfolding PreparedIs
-  prepared-outside e = subst (PreparedIs text starts sizes n prefix second constants x js ks pool targets spans line at lines) e p
-
-  pub prepared-ready : (s : Side) → r ≡ Ready s → (inside (x .columns) (positionsIn second js) ≡ true) × (inside (x .columns) (positionsIn false ks) ≡ true) × SideIs text starts sizes n prefix second constants x js ks pool targets spans line at lines s
-  unfolding PreparedIs
-  prepared-ready s e = subst (PreparedIs text starts sizes n prefix second constants x js ks pool targets spans line at lines) e p
-
 -- ---- one side: a push
 
 -- no join list
@@ -133,6 +116,9 @@ unfolding clean
 letters = (refl, refl, refl)
 
 -- ---- two sides: a merge
+
+pub lists-are : (pairs a b : Bytes) (r : ListsRead pairs a b) → Lists pairs a b (r .js) (r .left .list) (r .right .list)
+lists-are pairs a b r = record { joins = r .joins; left-terms = r .left .terms; right-terms = r .right .terms }
 
 abbrev pub merged : Projection → Projection → List Pair → List Pair → List Pair → Pattern
 merged x y js ks ls = mergeProjectPatterns (request x y (joinPositions js) (byPosition (constantsIn ks)) (byPosition (constantsIn ls)))

@@ -1,6 +1,7 @@
 // merge_project_patterns for two projects.
 use answers::Answer;
 use emit::put_all;
+use lines::fields::Spot;
 use sides::columns::joined_mask;
 use sides::columns::put_columns;
 use sides::columns::width;
@@ -56,27 +57,28 @@ fn put_head(
     put_all(out, d, &JOIN)
 }
 
-// merge_project_patterns for two projects, behind the left text's head: names, masks, then measured and written.
+// merge_project_patterns for two projects, behind the left text's head: names, masks, then measured on a buffer without room
+// and written.
 pub fn merge_projects(
     left: &[u8],
     left_from: usize,
     left_starts: &[u16; 1024],
     left_sizes: &[u16; 1024],
-    left_hints: &[u16; 4096],
     left_n: usize,
+    left_spots: &[Spot],
     right: &[u8],
     right_from: usize,
     right_starts: &[u16; 1024],
     right_sizes: &[u16; 1024],
-    right_hints: &[u16; 4096],
     right_n: usize,
+    right_spots: &[Spot],
     pairs: &[u8],
     left_constants: &[u8],
     right_constants: &[u8],
     out: &mut [u8],
 ) -> Answer
-    requires { ⌜ ((x : Projection) × Stands (now left) «left_from» (now «left_starts») (now «left_sizes») (now «left_hints») «left_n» (tree x)) × ((y : Projection) × Stands (now right) «right_from» (now «right_starts») (now «right_sizes») (now «right_hints») «right_n» (tree y)) × ListsRead (now pairs) (now «left_constants») (now «right_constants») ⌝ }
-    ensures { λ r. ⌜ ((x y : Projection) (js ks ls : List Pair) → Stands (now (left .entry)) «left_from» (now («left_starts» .entry)) (now («left_sizes» .entry)) (now («left_hints» .entry)) «left_n» (tree x) → Stands (now (right .entry)) «right_from» (now («right_starts» .entry)) (now («right_sizes» .entry)) (now («right_hints» .entry)) «right_n» (tree y) → Lists (now (pairs .entry)) (now («left_constants» .entry)) (now («right_constants» .entry)) js ks ls → Answered (joinedBehind (take «left_from» (now (left .entry))) x y js ks ls) (now (out .entry)) (now (out .exit)) r) ⌝ }
+    requires { ⌜ ((x : Projection) × Stands (now left) «left_from» (now «left_starts») (now «left_sizes») «left_n» (now «left_spots») (tree x)) × ((y : Projection) × Stands (now right) «right_from» (now «right_starts») (now «right_sizes») «right_n» (now «right_spots») (tree y)) × ListsRead (now pairs) (now «left_constants») (now «right_constants») ⌝ }
+    ensures { λ r. ⌜ ((x y : Projection) (js ks ls : List Pair) → Stands (now (left .entry)) «left_from» (now («left_starts» .entry)) (now («left_sizes» .entry)) «left_n» (now («left_spots» .entry)) (tree x) → Stands (now (right .entry)) «right_from» (now («right_starts» .entry)) (now («right_sizes» .entry)) «right_n» (now («right_spots» .entry)) (tree y) → Lists (now (pairs .entry)) (now («left_constants» .entry)) (now («right_constants» .entry)) js ks ls → Answered (joinedBehind (take «left_from» (now (left .entry))) x y js ks ls) (now (out .entry)) (now (out .exit)) r) ⌝ }
 {
     let mut left_pool = [0u8; 16384];
     let mut left_targets = [0u16; 1024];
@@ -89,8 +91,8 @@ pub fn merge_projects(
         left_from,
         left_starts,
         left_sizes,
-        left_hints,
         left_n,
+        left_spots,
         b'l',
         pairs,
         false,
@@ -115,8 +117,8 @@ pub fn merge_projects(
         right_from,
         right_starts,
         right_sizes,
-        right_hints,
         right_n,
+        right_spots,
         b'r',
         pairs,
         true,
@@ -131,7 +133,7 @@ pub fn merge_projects(
         return Answer::Outside;
     };
     let gone = joined_mask(&right_line, r.end, r.constant, &left_line, l.end, l.joined);
-    let mut spare = [0u8; 16384];
+    let mut none = [0u8; 0];
     let a = put_head(
         left,
         left_from,
@@ -140,14 +142,14 @@ pub fn merge_projects(
         &right_line,
         r,
         gone,
-        &mut spare,
+        &mut none,
     );
     let b = put_side(
         left,
         left_starts,
         left_sizes,
-        left_hints,
         left_n,
+        left_spots,
         &left_pool,
         &left_targets,
         &left_spans,
@@ -156,15 +158,15 @@ pub fn merge_projects(
         left_constants,
         &left_at,
         &left_lines,
-        &mut spare,
+        &mut none,
         a,
     );
     let size = put_side(
         right,
         right_starts,
         right_sizes,
-        right_hints,
         right_n,
+        right_spots,
         &right_pool,
         &right_targets,
         &right_spans,
@@ -173,23 +175,19 @@ pub fn merge_projects(
         right_constants,
         &right_at,
         &right_lines,
-        &mut spare,
+        &mut none,
         b,
     );
     if out.len() < size {
         return Answer::TooShort;
-    }
-    if size <= 16384 {
-        let copied = put_all(out, 0, piece(&spare, 0, size));
-        return Answer::Written(copied);
     }
     let c = put_head(left, left_from, &left_line, l, &right_line, r, gone, out);
     let d = put_side(
         left,
         left_starts,
         left_sizes,
-        left_hints,
         left_n,
+        left_spots,
         &left_pool,
         &left_targets,
         &left_spans,
@@ -205,8 +203,8 @@ pub fn merge_projects(
         right,
         right_starts,
         right_sizes,
-        right_hints,
         right_n,
+        right_spots,
         &right_pool,
         &right_targets,
         &right_spans,

@@ -2,6 +2,7 @@
 use answers::Answer;
 use emit::put;
 use emit::put_all;
+use lines::fields::Spot;
 use sides::columns::put_columns;
 use sides::columns::width;
 use sides::side::Prepared;
@@ -44,19 +45,19 @@ fn put_head(query: &[u8], from: usize, line: &[u8], side: Side, out: &mut [u8]) 
     put(out, c, 10)
 }
 
-// push_constants_in_project_pattern, behind the query's head.
+// push_constants_in_project_pattern, behind the query's head: names, then measured on a buffer without room and written.
 pub fn push_in_project(
     query: &[u8],
     from: usize,
     starts: &[u16; 1024],
     sizes: &[u16; 1024],
-    hints: &[u16; 4096],
     n: usize,
+    spots: &[Spot],
     constants: &[u8],
     out: &mut [u8],
 ) -> Answer
-    requires { ⌜ ((x : Projection) × Stands (now query) from (now starts) (now sizes) (now hints) n (tree x)) × KnownTerms (now constants) ⌝ }
-    ensures { λ r. ⌜ ((x : Projection) (ks : List Pair) → Stands (now (query .entry)) from (now (starts .entry)) (now (sizes .entry)) (now (hints .entry)) n (tree x) → Terms (now (constants .entry)) ks → Answered (pushedBehind (take from (now (query .entry))) x ks) (now (out .entry)) (now (out .exit)) r) ⌝ }
+    requires { ⌜ ((x : Projection) × Stands (now query) from (now starts) (now sizes) n (now spots) (tree x)) × KnownTerms (now constants) ⌝ }
+    ensures { λ r. ⌜ ((x : Projection) (ks : List Pair) → Stands (now (query .entry)) from (now (starts .entry)) (now (sizes .entry)) n (now (spots .entry)) (tree x) → Terms (now (constants .entry)) ks → Answered (pushedBehind (take from (now (query .entry))) x ks) (now (out .entry)) (now (out .exit)) r) ⌝ }
 {
     let mut pool = [0u8; 16384];
     let mut targets = [0u16; 1024];
@@ -69,8 +70,8 @@ pub fn push_in_project(
         from,
         starts,
         sizes,
-        hints,
         n,
+        spots,
         b'v',
         &constants[..0],
         false,
@@ -84,14 +85,14 @@ pub fn push_in_project(
     ) else {
         return Answer::Outside;
     };
-    let mut spare = [0u8; 8192];
-    let a = put_head(query, from, &line, side, &mut spare);
+    let mut none = [0u8; 0];
+    let a = put_head(query, from, &line, side, &mut none);
     let size = put_side(
         query,
         starts,
         sizes,
-        hints,
         n,
+        spots,
         &pool,
         &targets,
         &spans,
@@ -100,23 +101,19 @@ pub fn push_in_project(
         constants,
         &at,
         &lines,
-        &mut spare,
+        &mut none,
         a,
     );
     if out.len() < size {
         return Answer::TooShort;
-    }
-    if size <= 8192 {
-        let copied = put_all(out, 0, piece(&spare, 0, size));
-        return Answer::Written(copied);
     }
     let b = put_head(query, from, &line, side, out);
     let put = put_side(
         query,
         starts,
         sizes,
-        hints,
         n,
+        spots,
         &pool,
         &targets,
         &spans,

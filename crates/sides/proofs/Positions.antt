@@ -24,7 +24,8 @@ use Rattle.algebra.specs.Layout.{putPairs}
 use Rattle.scoping.specs.Sets.{all}
 use Rattle.merging.specs.Request.{position}
 use Rattle.merging.specs.Names.{placeIn}
-use Rattle.walking.specs.bridge.Walk.{tabbed, numberIn}
+use Rattle.scoping.specs.bridge.Walk.{numberIn}
+use Rattle.walking.specs.bridge.Walk.{tabbed}
 use Rattle.walking.specs.bridge.Code.{LineEnd}
 use Rattle.sides.specs.declared.list.Positions.{Positions}
 use Rattle.sides.specs.declared.list.Positions.the-variants.{Outside, Are}

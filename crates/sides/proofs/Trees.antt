@@ -1,160 +1,144 @@
--- A tree that stands in a text from a place on: its table, the walk over it, and its new names. Assumes nothing.
-use Prim.Native.Nat.{ℕ, _+_, _≤_, _<_}
-use mathlib.Core.Path.{_≡_, refl, sym, ap, ap₂, subst, _∙_}
+-- A tree that stands in a text from a place on: its table, its noted variables, and its new names. Assumes nothing.
+use Prim.Native.Nat.{ℕ, _+_, _≤_}
+use mathlib.Core.Path.{_≡_, sym, ap, ap₂, subst, _∙_}
 use mathlib.Core.List.{List, [], _∷_, _++_, map}
-use mathlib.Core.Bool.{Bool, true, false}
-use mathlib.Core.Logic.{⊎-elim}
+use mathlib.Core.Bool.{true, false}
 use native.Mathlib.Nat.{le-refl}
 use native.Mathlib.Omega.{arith}
-use native.Mathlib.Decide.{decLt}
-use lib.ListN.{length, getD, replicate}
-use Rattle.text.specs.Text.{Bytes, Line, same, textOf, linesFrom}
+use lib.ListN.{length, getD, take, drop, replicate}
+use Rattle.text.specs.Text.{Bytes, Line, textOf}
 use Rattle.text.specs.Word.{bytes}
 use Rattle.algebra.specs.Tree.{Pattern, project}
-use Rattle.algebra.specs.Valid.{Valid, mem}
-use Rattle.algebra.specs.Word.{PROJECT}
-use Rattle.algebra.specs.bridge.Table.{patterns, rowIn, rowFor}
-use Rattle.words.specs.bridge.Code.{rowOf}
-use Rattle.algebra.specs.Depth as Depth
+use Rattle.algebra.specs.Valid.{mem}
 use Rattle.algebra.specs.Layout.{put}
-use Rattle.names.specs.bridge.Names.{listing, Hinted}
+use Rattle.names.specs.bridge.Names.{listing}
 use Rattle.names.proofs.Laws.{listing-long}
-use Rattle.emit.specs.bridge.Emit.{Em, em, puts}
+use Rattle.emit.specs.bridge.Emit.{Em, puts}
 use Rattle.scoping.specs.Sets.{Once}
-use Rattle.scoping.specs.bridge.Places.{visible, silent, places, namesOf}
+use Rattle.scoping.specs.bridge.Places.{visible, places, namesOf}
+use Rattle.scoping.specs.bridge.Spots.{Spot}
 use Rattle.scoping.specs.Numbering.{byPlace, numbered}
-use Rattle.scoping.specs.bridge.Pushes.{Push, allPushes, newName}
+use Rattle.scoping.specs.bridge.Pushes.{allPushes, newName}
 use Rattle.scoping.specs.Rename.{renameInGraphPattern}
 use Rattle.scoping.proofs.Index.{index-none}
 use Rattle.scoping.proofs.Named.{named}
 use Rattle.scoping.proofs.FirstPlaces.{by-place-mem, by-place-once}
 use Rattle.scoping.proofs.Alike.{rename-alike}
-use Rattle.walking.specs.bridge.Walk.{Output, output, State, state, tree as walkTree, rowOr, putLine}
-use Rattle.walking.specs.bridge.Code.{Named, replacement, here, renames, OneLine, WalkedLine}
-use Rattle.walking.specs.declared.line.Walked.{Walked}
+use Rattle.lines.specs.bridge.Spotted.{spotsOf}
+use Rattle.walking.specs.bridge.Code.{replacement, renames, Inside}
 use Rattle.walking.specs.bridge.Flags.{flagAll, chosen}
-use Rattle.walking.proofs.After.{After, line}
-use Rattle.walking.proofs.Parts.{heading}
-use Rattle.walking.proofs.Written.{columns as columnFields}
-use Rattle.walking.proofs.Trees.{walk-tree, walk-before}
+use Rattle.walking.specs.bridge.Rewritten.{rewritten, flagSpots, Stands}
+use Rattle.walking.proofs.Noted.{spots-take, flagged-tree, column-count, rewritten-inner, stands-inner, rewritten-columns, stands-columns}
 use Rattle.walking.proofs.Chosen.{chosen-in-scope, chosen-hidden}
 use Rattle.naming.specs.bridge.Code.{numberedBy, Standard}
 use Rattle.merging.specs.Request.{Projection, tree}
-use Rattle.sides.specs.bridge.Side.{TreeIn, Renames}
+use Rattle.sides.specs.bridge.Side.{TreeIn, Placed, Renames}
 
-module _ (s : Bytes) (at : ℕ) (a l h : List ℕ) (n : ℕ) (p : Pattern) (t : TreeIn s at a l h n p) where
+module _ (s : Bytes) (at : ℕ) (a l : List ℕ) (n : ℕ) (v : List (List ℕ)) (p : Pattern) (t : TreeIn s at a l n v p) where
+  abbrev names : List Bytes
+  names = listing s a l n
+
   pub tree-high : n ≤ 1024
-  tree-high = go (decLt 1024 n)
-    where
-      go : Dec (1024 < n) → n ≤ 1024
-      go (yes more) = absurd (let x = t .table .over more in let y = t .few in omega arith)
-      go (no less) = omega arith
+  tree-high = let e = ap length (t .names) in let f = t .few in let z = listing-long s a l n in omega arith
 
-  pub tree-names : listing s a l n ≡ byPlace p
-  tree-names = t .table .fits tree-high
+  pub tree-once : Once names
+  tree-once = subst Once (sym (t .names)) (by-place-once p)
 
-  pub tree-named : Named s a l h n
-  tree-named = record {
-    high = tree-high;
-    hinted = subst (Hinted h) (sym tree-names) (t .table .hinted tree-high);
-    once = subst Once (sym tree-names) (by-place-once p);
+  pub tree-inside : (k : ℕ) → k ≤ length v → Inside n v k
+  tree-inside k h = record { many = h; each = λ i j. let e = t .noted .kept .inside i (omega arith) in let z = listing-long s a l n in omega arith }
+
+  pub tree-low : Inside 1024 v (length v)
+  tree-low = record { many = le-refl (length v); each = λ i j. let e = tree-inside (length v) (le-refl (length v)) .each i j in let h = tree-high in omega arith }
+
+  -- the variables that were noted give nemo's names
+  pub names-found : (prefix : ℕ) (flags : List ℕ) (js : List Bytes) (pool targets spans spans₀ : List ℕ) → ((k : ℕ) → getD spans₀ k 0 ≡ 0)
+      → ((ns : List Bytes) → Once ns → Inside (length ns) v (length v) → flags ≡ flagSpots ns (spotsOf ns v (length v)) (replicate 2048 0))
+      → Standard (allPushes prefix (numberedBy flags names) js) names n pool targets spans spans₀ → Renames names n pool targets spans (newName (allPushes prefix (numbered p) js))
+  unfolding numberedBy numbered
+  names-found prefix flags js pool targets spans spans₀ zeros noted d = record {
+    found = λ f m. d .found f m ∙ ap (λ (vs : List Bytes). newName (allPushes prefix vs js) f) numbers;
+    behind = λ k i. d .behind k i ∙ zeros k;
   }
+    where
+      flags-are : flags ≡ flagAll (byPlace p) (places p visible) (replicate 2048 0)
+      flags-are =
+          noted names tree-once (subst (λ (k : ℕ). Inside k v (length v)) (sym (listing-long s a l n)) (tree-inside (length v) (le-refl (length v))))
+          ∙ ap (λ (xs : List Spot). flagSpots names xs (replicate 2048 0)) (t .noted .kept .are)
+          ∙ flagged-tree s at names v (length v) (t .noted) p (t .lines) (t .valid) (t .deep) (replicate 2048 0)
+          ∙ ap (λ (ns : List Bytes). flagAll ns (places p visible) (replicate 2048 0)) (t .names)
 
-  -- the flags after a walk that changes no name
-  module _ (pool targets spans : List ℕ) (zeros : (k : ℕ) → getD spans k 0 ≡ 0) where
-    stays : (f : Bytes) → replacement (listing s a l n) pool targets spans f ≡ f
-    unfolding replacement
-    stays f = rw (zeros _)
-
-    pub walk-numbers : (from to : ℕ) (none none′ : Bytes) (flags : List ℕ)
-        → here s from to none′ flags ≡ walkTree (listing s a l n) (renames s a l n pool targets spans) 64 patterns visible (here s at 0 none (replicate 2048 0))
-        → numberedBy flags (listing s a l n) ≡ numbered p
-    unfolding numberedBy numbered
-    walk-numbers from to none none′ flags walked =
-        ap₂ (λ (f : List ℕ) (ns : List Bytes). chosen 0 f ns ++ chosen 1024 f ns) flags-are tree-names
-        ∙ ap₂ _++_ (chosen-in-scope p (t .valid) (t .few)) (chosen-hidden p (t .valid) (t .few))
-      where
-        flags-are : flags ≡ flagAll (byPlace p) (places p visible) (replicate 2048 0)
-        flags-are =
-            ap (λ (st : State). st .output .flags)
-            (walked
-            ∙ ap (λ (ls : List Line). walkTree (listing s a l n) (renames s a l n pool targets spans) 64 patterns visible (state ls (output 0 none (replicate 2048 0)))) (t .lines)
-            ∙ walk-tree (listing s a l n) (renames s a l n pool targets spans) (λ f e. stays f) p visible 64 (output 0 none (replicate 2048 0)) (t .valid) (t .deep))
-            ∙ ap (λ (ns : List Bytes). flagAll ns (places p visible) (replicate 2048 0)) tree-names
-
-    -- so standardize_variables finds nemo's names
-    pub names-found : (prefix : ℕ) (flags : List ℕ) (js : List Bytes) (pool′ targets′ spans′ : List ℕ) → numberedBy flags (listing s a l n) ≡ numbered p
-        → Standard (allPushes prefix (numberedBy flags (listing s a l n)) js) (listing s a l n) n pool′ targets′ spans′ spans → Renames (listing s a l n) n pool′ targets′ spans′ (newName (allPushes prefix (numbered p) js))
-    names-found prefix flags js pool′ targets′ spans′ e d = record {
-      found = λ f m. d .found f m ∙ ap (λ (vs : List Bytes). newName (allPushes prefix vs js) f) e;
-      behind = λ k i. d .behind k i ∙ zeros k;
-    }
+      numbers : numberedBy flags names ≡ numbered p
+      numbers =
+          ap₂ (λ (f : List ℕ) (ns : List Bytes). chosen 0 f ns ++ chosen 1024 f ns) flags-are (t .names)
+          ∙ ap₂ _++_ (chosen-in-scope p (t .valid) (t .few)) (chosen-hidden p (t .valid) (t .few))
 
   -- ---- a tree under new names
 
-  module _ (pool targets spans : List ℕ) (new : Bytes → Bytes) (r : Renames (listing s a l n) n pool targets spans new) where
+  module _ (pool targets spans : List ℕ) (new : Bytes → Bytes) (r : Renames names n pool targets spans new) where
     abbrev old : Bytes → Bytes
-    old = replacement (listing s a l n) pool targets spans
+    old = renames s a l n pool targets spans
 
-    keeps : (f : Bytes) → mem f (listing s a l n) ≡ false → old f ≡ f
+    keeps : (f : Bytes) → mem f names ≡ false → old f ≡ f
     unfolding replacement
-    keeps f e = rw (index-none f (listing s a l n) e, listing-long s a l n, r .behind n (le-refl n))
+    keeps f e = rw (index-none f names e, listing-long s a l n, r .behind n (le-refl n))
 
-    agrees : (v : Bytes) → mem v (namesOf (places p visible)) ≡ true → old v ≡ new v
-    agrees v i =
-        let is-var = named p visible (t .valid) .at v i in
-        r .found v (ap (mem v) tree-names ∙ by-place-mem p v is-var ∙ i)
+    agrees : (f : Bytes) → mem f (namesOf (places p visible)) ≡ true → old f ≡ new f
+    agrees f i =
+        let is-var = named p visible (t .valid) .at f i in
+        r .found f (ap (mem f) (t .names) ∙ by-place-mem p f is-var ∙ i)
 
-    pub tree-alike : renameInGraphPattern old p ≡ renameInGraphPattern new p
+    tree-alike : renameInGraphPattern old p ≡ renameInGraphPattern new p
     tree-alike = rename-alike old new p visible agrees
 
 -- ---- a project: its line, and its inner pattern
 
-module _ (s : Bytes) (at : ℕ) (a l h : List ℕ) (n : ℕ) (x : Projection) (t : TreeIn s at a l h n (tree x)) (pool targets spans : List ℕ) (new : Bytes → Bytes) (r : Renames (listing s a l n) n pool targets spans new) where
-  abbrev written-names : Bytes → Bytes
-  written-names = replacement (listing s a l n) pool targets spans
+module _ (s : Bytes) (at : ℕ) (a l : List ℕ) (n : ℕ) (v : List (List ℕ)) (inner columns : ℕ) (x : Projection) (t : Placed s at a l n v inner columns x) where
+  abbrev all-names : List Bytes
+  all-names = listing s a l n
 
-  columns-alike : map written-names (x .columns) ≡ map new (x .columns)
-  unfolding renameInGraphPattern
-  columns-alike = let e = tree-alike s at a l h n (tree x) t pool targets spans new r in cc
+  abbrev kept : TreeIn s at a l n v (tree x)
+  kept = t .stands
 
-  inner-alike : renameInGraphPattern written-names (x .inner) ≡ renameInGraphPattern new (x .inner)
-  unfolding renameInGraphPattern
-  inner-alike = let e = tree-alike s at a l h n (tree x) t pool targets spans new r in cc
+  pub columns-few : columns ≤ length v
+  columns-few = let h = column-count s at all-names v (length v) (kept .noted) (x .columns) (x .inner) (kept .lines) (kept .valid) (kept .deep) in let w = t .width in omega arith
 
-  first-line : linesFrom s at ≡ (bytes "project" ∷ x .columns) ∷ put (x .inner) []
-  unfolding put
-  first-line = t .lines
+  line-spots : spotsOf all-names v columns ≡ take (length (x .columns)) (kept .noted .spots)
+  line-spots = spots-take all-names v (length v) columns columns-few ∙ ap₂ take (t .width) (kept .noted .kept .are)
 
-  -- the walk over the inner pattern writes it under its new names, before whatever lines are written next
-  pub inner-written : (from inner to₀ to : ℕ) (out out′ : Bytes) (flags flags′ : List ℕ) → linesFrom s inner ≡ put (x .inner) []
-      → here s from to out′ flags′ ≡ walkTree (listing s a l n) (renames s a l n pool targets spans) 64 patterns silent (here s inner to₀ out flags)
-      → (u : List Line) → puts (textOf u) (em to out′) ≡ puts (textOf (put (renameInGraphPattern new (x .inner)) u)) (em to₀ out)
-  unfolding Valid Depth.depth
-  inner-written from inner to₀ to out out′ flags flags′ e walked u =
-      let k : Em = em to out′ in
-      ap (λ (st : State). puts (textOf u) (st .output .em)) (walked ∙ ap (λ (ls : List Line). walkTree (listing s a l n) written-names 64 patterns silent (state ls (output to₀ out flags))) e)
-      ∙ walk-before (listing s a l n) written-names (keeps s at a l h n (tree x) t pool targets spans new r) (x .inner) silent 64 (output to₀ out flags) (t .valid .1) (let d = t .deep in omega arith) .written u
-      ∙ ap (λ (p : Pattern). puts (textOf (put p u)) (em to₀ out)) inner-alike
+  inner-spots : drop columns (spotsOf all-names v (length v)) ≡ drop (length (x .columns)) (kept .noted .spots)
+  inner-spots = ap₂ drop (t .width) (kept .noted .kept .are)
 
-  -- its line is written under its new names
-  pub line-written : (w : Walked) (to : ℕ) (line₀ line₁ : Bytes) (flags flags′ : List ℕ) → WalkedLine s at 2 (listing s a l n) (renames s a l n pool targets spans) silent (output to line₀ flags) (output (w .at) line₁ flags′) w
-      → (u : List Line) → puts (textOf u) (em (w .at) line₁) ≡ puts (textOf ((bytes "project" ∷ map new (x .columns)) ∷ u)) (em to line₀)
-  unfolding WalkedLine rowIn same Valid
-  line-written w to line₀ line₁ flags flags′ walked u = go (w .found) refl
-    where
-      told : OneLine s at (w .from) 2 (listing s a l n) (renames s a l n pool targets spans) silent (w .head) (output to line₀ flags) (output (w .at) line₁ flags′)
-          → puts (textOf u) (em (w .at) line₁) ≡ puts (textOf ((bytes "project" ∷ map new (x .columns)) ∷ u)) (em to line₀)
-      told o =
-          let e : (o .word ∷ o .fields) ∷ linesFrom s (w .from) ≡ (bytes "project" ∷ x .columns) ∷ put (x .inner) [] = sym (o .lines) ∙ first-line in
-          let word : o .word ≡ bytes "project" = cc in
-          let fields : o .fields ≡ x .columns = cc in
-          let row : rowOf (w .head .row) ≡ heading PROJECT .row = o .row ∙ ap (λ (f : Bytes). rowOr (rowFor patterns f)) word in
-          ap (λ (z : Output). puts (textOf u) (z .em))
-          (o .written ∙ λ i. putLine (listing s a l n) written-names silent (row i) (word i) (fields i) (output to line₀ flags))
-          ∙ line written-names silent (heading PROJECT) [] (output to line₀ flags) (columnFields (keeps s at a l h n (tree x) t pool targets spans new r) (x .columns) (t .valid .0)) .written u
-          ∙ ap (λ (cs : List Bytes). puts (textOf ((bytes "project" ∷ cs) ∷ u)) (em to line₀)) columns-alike
+  pub line-stands : Stands s at inner (spotsOf all-names v columns)
+  line-stands = subst (Stands s at inner) (sym line-spots) (stands-columns s at all-names v (length v) (kept .noted) (x .columns) (x .inner) (kept .lines) (kept .valid) (kept .deep) inner (t .high) (t .behind))
 
-      go : (b : Bool) → w .found ≡ b → puts (textOf u) (em (w .at) line₁) ≡ puts (textOf ((bytes "project" ∷ map new (x .columns)) ∷ u)) (em to line₀)
-      go true e = told (walked .1 e)
-      go false e = absurd (⊎-elim (λ (q : linesFrom s at ≡ []). let k = first-line in let z : _≡_ {A = ℕ} 0 1 = cc in omega arith) (λ (q : linesFrom s at ≡ [] ∷ []). let k = first-line in let z : _≡_ {A = ℕ} 0 1 = cc in omega arith) (walked .0 e .nothing))
+  pub inner-stands : Stands s inner (length s) (drop columns (spotsOf all-names v (length v)))
+  inner-stands = subst (Stands s inner (length s)) (sym inner-spots) (stands-inner s at all-names v (length v) (kept .noted) (x .columns) (x .inner) (kept .lines) (kept .valid) (kept .deep) inner (t .high) (t .behind))
+
+  module _ (pool targets spans : List ℕ) (new : Bytes → Bytes) (r : Renames all-names n pool targets spans new) where
+    abbrev put-names : Bytes → Bytes
+    put-names = renames s a l n pool targets spans
+
+    abbrev stay : (f : Bytes) → mem f all-names ≡ false → put-names f ≡ f
+    stay = keeps s at a l n v (tree x) kept pool targets spans new r
+
+    -- its line is written under its new names
+    pub line-written : (e e′ : Em) → e′ ≡ rewritten put-names s (spotsOf all-names v columns) at inner e → e′ ≡ puts (textOf ((bytes "project" ∷ map new (x .columns)) ∷ [])) e
+    unfolding renameInGraphPattern
+    line-written e e′ q =
+        let alike = tree-alike s at a l n v (tree x) kept pool targets spans new r in
+        let columns-alike : map put-names (x .columns) ≡ map new (x .columns) = cc in
+        q
+        ∙ ap (λ (xs : List Spot). rewritten put-names s xs at inner e) line-spots
+        ∙ rewritten-columns s at all-names v (length v) (kept .noted) (x .columns) (x .inner) (kept .lines) (kept .valid) (kept .deep) inner (t .high) (t .behind) put-names stay e
+        ∙ ap (λ (cs : List Bytes). puts (textOf ((bytes "project" ∷ cs) ∷ [])) e) columns-alike
+
+    -- its inner pattern is written under its new names, before whatever lines are written next
+    pub inner-written : (e e′ : Em) → e′ ≡ rewritten put-names s (drop columns (spotsOf all-names v (length v))) inner (length s) e
+        → (u : List Line) → puts (textOf u) e′ ≡ puts (textOf (put (renameInGraphPattern new (x .inner)) u)) e
+    unfolding renameInGraphPattern
+    inner-written e e′ q u =
+        let alike = tree-alike s at a l n v (tree x) kept pool targets spans new r in
+        let inner-alike : renameInGraphPattern put-names (x .inner) ≡ renameInGraphPattern new (x .inner) = cc in
+        ap (puts (textOf u)) (q ∙ ap (λ (xs : List Spot). rewritten put-names s xs inner (length s) e) inner-spots)
+        ∙ rewritten-inner s at all-names v (length v) (kept .noted) (x .columns) (x .inner) (kept .lines) (kept .valid) (kept .deep) inner (t .high) (t .behind) put-names stay u e
+        ∙ ap (λ (p : Pattern). puts (textOf (put p u)) e) inner-alike

@@ -14,7 +14,8 @@ ghost use lib.ListN.{length, getD, drop};
 ghost use Rattle.text.specs.Text.{Bytes, Line, linesFrom};
 ghost use Rattle.cursor.specs.bridge.Cursor.{left};
 ghost use Rattle.emit.specs.bridge.Emit.{em, puts};
-ghost use Rattle.walking.specs.bridge.Walk.{tabbed, numberIn};
+ghost use Rattle.scoping.specs.bridge.Walk.{numberIn};
+ghost use Rattle.walking.specs.bridge.Walk.{tabbed};
 ghost use Rattle.algebra.specs.Query.{Pair};
 ghost use Rattle.sides.specs.bridge.Listed.{Listed, Kept, Found, secondOf, termsFrom};
 

@@ -6,19 +6,19 @@ use crate::list::put_terms;
 use crate::list::read_positions;
 use emit::put;
 use emit::put_all;
-use names::find_name;
+use lines::fields::Spot;
 use names::wide;
 use naming::put_decimal;
 use naming::standardize_variables;
 use text::equal;
 use text::find;
 use walking::line::line_end;
-use walking::line::walk_line;
-use walking::tree::rename_in_graph_pattern;
+use walking::places::note_places;
+use walking::places::put_renamed;
 ghost use mathlib.Core.Path.{_≡_};
 ghost use Prim.Native.Nat.{ℕ, _+_, _≤_, _<_};
-ghost use mathlib.Core.List.{List, [], _∷_, map};
-ghost use mathlib.Core.Bool.{Bool, true, false};
+ghost use mathlib.Core.List.{List, [], map};
+ghost use mathlib.Core.Bool.{true, false};
 ghost use lib.ListN.{length, getD, take};
 ghost use lib.Count.{ones};
 ghost use Rattle.text.specs.Text.{Bytes, Line, same, textOf, linesFrom};
@@ -28,11 +28,10 @@ ghost use Rattle.algebra.specs.Tree.{Pattern};
 ghost use Rattle.algebra.specs.Query.{Pair};
 ghost use Rattle.names.specs.bridge.Names.{listing};
 ghost use Rattle.emit.specs.bridge.Emit.{em, puts};
-ghost use Rattle.scoping.specs.Sets.{indexOf};
 ghost use Rattle.scoping.specs.Numbering.{numbered};
 ghost use Rattle.scoping.specs.bridge.Pushes.{allPushes, newName};
 ghost use Rattle.scoping.specs.Rename.{renameInGraphPattern};
-ghost use Rattle.walking.specs.bridge.Code.{Named};
+ghost use Rattle.walking.specs.bridge.Code.{Inside};
 ghost use Rattle.naming.specs.bridge.Code.{namesAt};
 ghost use Rattle.algebra.specs.Layout.{put};
 ghost use Rattle.merging.specs.Request.{Projection, tree};
@@ -40,7 +39,7 @@ ghost use Rattle.merging.proofs.Names.{Letter};
 ghost use Rattle.scoping.specs.Premises.{inside, sideName};
 ghost use Rattle.sides.specs.bridge.Columns.{columnsIn, picked};
 ghost use Rattle.sides.specs.bridge.Listed.{Listed, Kept, termsFrom};
-ghost use Rattle.sides.specs.bridge.Side.{entriesOf, TreeIn, Renames, Asked, PreparedIs, joinLine, valuesLines};
+ghost use Rattle.sides.specs.bridge.Side.{TreeIn, Renames, Placed, Asked, PreparedIs, joinLine, valuesLines};
 
 const PROJECT: [u8; 7] = *b"project";
 
@@ -56,52 +55,59 @@ pub fn is_project(text: &[u8], from: usize) -> bool
     equal(&text[from..word], &PROJECT)
 }
 
-// The entries in the variable table of the fields from here to the line's end, and how many there are.
-fn column_entries(
-    text: &[u8],
-    from: usize,
-    end: usize,
-    starts: &[u16; 1024],
-    sizes: &[u16; 1024],
-    hints: &[u16; 4096],
-    n: usize,
-    entries: &mut [u16; 64],
-) -> usize
-    requires { ⌜ (end ≤ length (now text)) × (length (left (now text) from end) ≤ 64) × (length (now entries) ≡ 64) × Named (now text) (now starts) (now sizes) (now hints) n ⌝ }
-    ensures { λ r. ⌜ (length (now (entries .exit)) ≡ 64) × (r ≡ length (left (now (text .entry)) from end)) × (take r (now (entries .exit)) ≡ map (λ f. indexOf f (listing (now (text .entry)) (now (starts .entry)) (now (sizes .entry)) n)) (left (now (text .entry)) from end)) ⌝ }
+// How many fields there are from here to the line's end.
+fn count_fields(text: &[u8], from: usize, end: usize) -> usize
+    requires { ⌜ end ≤ length (now text) ⌝ }
+    ensures { λ r. ⌜ r ≡ length (left (now (text .entry)) from end) ⌝ }
 {
     let mut c = 0;
     let mut next = from;
     while next <= end {
-        let e = find(text, next, end, 9);
-        let k = find_name(&text[next..e], text, starts, sizes, hints, n);
-        entries[c] = k as u16;
+        next = find(text, next, end, 9) + 1;
         c += 1;
-        next = e + 1;
     }
     c
 }
 
-// The entries of the columns at the first m positions.
-fn join_entries(entries: &[u16; 64], at: &[u16; 64], m: usize, joins: &mut [u16; 64])
-    requires { ⌜ (m ≤ 64) × (length (now joins) ≡ 64) × ((i : ℕ) → i < m → getD (now at) i 0 < 64) ⌝ }
-    ensures { λ _. ⌜ (length (now (joins .exit)) ≡ 64) × ((i : ℕ) → i < m → getD (now (joins .exit)) i 0 ≡ getD (now (entries .entry)) (getD (now (at .entry)) i 0) 0) ⌝ }
+// Where a project's inner pattern starts, and how many columns it has.
+struct Found {
+    inner: usize,
+    columns: usize,
+}
+
+// The columns of the project that starts here.
+fn find_columns(text: &[u8], from: usize) -> Found
+    requires { ⌜ ((x : Projection) × (linesFrom (now text) from ≡ put (tree x) [])) ⌝ }
+    ensures { λ r. ⌜ (r .inner ≤ length (now (text .entry))) × ((x : Projection) → linesFrom (now (text .entry)) from ≡ put (tree x) [] → (r .columns ≡ length (x .columns)) × (linesFrom (now (text .entry)) (r .inner) ≡ put (x .inner) [])) ⌝ }
+{
+    let end = line_end(text, from);
+    let word = find(text, from, end, 9);
+    Found {
+        inner: end + 1,
+        columns: count_fields(text, word + 1, end),
+    }
+}
+
+// The entries of the columns at the first m positions: the columns are the first of a project's variables.
+fn join_entries(spots: &[Spot], at: &[u16; 64], m: usize, joins: &mut [u16; 64])
+    requires { ⌜ (m ≤ 64) × (length (now joins) ≡ 64) × ((i : ℕ) → i < m → getD (now at) i 0 < length (now spots)) ⌝ }
+    ensures { λ _. ⌜ (length (now (joins .exit)) ≡ 64) × ((i : ℕ) → i < m → getD (now (joins .exit)) i 0 ≡ getD (getD (now (spots .entry)) (getD (now (at .entry)) i 0) []) 1 0) ⌝ }
 {
     let mut i = 0;
     while i < m {
-        joins[i] = entries[wide(at[i])];
+        let s = spots[wide(at[i])];
+        joins[i] = s[1];
         i += 1;
     }
 }
 
-// standardize_variables for the tree that starts here: its places are noted, and each name of the table gets its new name.
+// standardize_variables for a tree whose variables were noted: each name of the table gets its new name.
 fn name_side(
     text: &[u8],
-    from: usize,
     starts: &[u16; 1024],
     sizes: &[u16; 1024],
-    hints: &[u16; 4096],
     n: usize,
+    spots: &[Spot],
     prefix: u8,
     joins: &[u16; 64],
     m: usize,
@@ -109,27 +115,11 @@ fn name_side(
     targets: &mut [u16; 1024],
     spans: &mut [u16; 1024],
 )
-    requires { ⌜ Named (now text) (now starts) (now sizes) (now hints) n × (m ≤ 64) × ((i : ℕ) → i < m → getD (now joins) i 0 < n) × (16384 ≤ length (now pool)) × (length (now targets) ≡ 1024) × (length (now spans) ≡ 1024) × ((k : ℕ) → getD (now spans) k 0 ≡ 0) ⌝ }
-    ensures { λ _. ⌜ (length (now (targets .exit)) ≡ 1024) × (length (now (spans .exit)) ≡ 1024) × ((p : Pattern) → TreeIn (now (text .entry)) from (now (starts .entry)) (now (sizes .entry)) (now (hints .entry)) n p → Renames (listing (now (text .entry)) (now (starts .entry)) (now (sizes .entry)) n) n (now (pool .exit)) (now (targets .exit)) (now (spans .exit)) (newName (allPushes prefix (numbered p) (namesAt (now (text .entry)) (now (starts .entry)) (now (sizes .entry)) (now (joins .entry)) m 0)))) ⌝ }
+    requires { ⌜ (n ≤ 1024) × Inside 1024 (now spots) (length (now spots)) × (m ≤ 64) × ((i : ℕ) → i < m → getD (now joins) i 0 < n) × (16384 ≤ length (now pool)) × (length (now targets) ≡ 1024) × (length (now spans) ≡ 1024) × ((k : ℕ) → getD (now spans) k 0 ≡ 0) ⌝ }
+    ensures { λ _. ⌜ ((at : ℕ) (p : Pattern) → TreeIn (now (text .entry)) at (now (starts .entry)) (now (sizes .entry)) n (now (spots .entry)) p → Renames (listing (now (text .entry)) (now (starts .entry)) (now (sizes .entry)) n) n (now (pool .exit)) (now (targets .exit)) (now (spans .exit)) (newName (allPushes prefix (numbered p) (namesAt (now (text .entry)) (now (starts .entry)) (now (sizes .entry)) (now (joins .entry)) m 0)))) ⌝ }
 {
     let mut flags = [0u8; 2048];
-    let mut none = [0u8; 0];
-    rename_in_graph_pattern(
-        text,
-        starts,
-        sizes,
-        hints,
-        n,
-        &text[..0],
-        targets,
-        spans,
-        &mut flags,
-        &mut none,
-        from,
-        0,
-        0,
-        64,
-    );
+    note_places(spots, spots.len(), &mut flags);
     standardize_variables(
         text,
         starts,
@@ -162,123 +152,57 @@ pub enum Prepared {
     Ready(Side),
 }
 
-// The new names of a side, whose join positions were found, and its line of renamed columns.
-fn rename_side(
+// The new names of a side, by its m join positions; and where its line of renamed columns ends.
+fn name_columns(
     text: &[u8],
     from: usize,
+    inner: usize,
+    columns: usize,
     starts: &[u16; 1024],
     sizes: &[u16; 1024],
-    hints: &[u16; 4096],
     n: usize,
+    spots: &[Spot],
     prefix: u8,
-    joins: &[u16; 64],
+    at: &[u16; 64],
     m: usize,
     pool: &mut [u8],
     targets: &mut [u16; 1024],
     spans: &mut [u16; 1024],
     line: &mut [u8],
 ) -> usize
-    requires { ⌜ Named (now text) (now starts) (now sizes) (now hints) n × (m ≤ 64) × ((i : ℕ) → i < m → getD (now joins) i 0 < n) × (16384 ≤ length (now pool)) × (length (now targets) ≡ 1024) × (length (now spans) ≡ 1024) × ((k : ℕ) → getD (now spans) k 0 ≡ 0) ⌝ }
-    ensures { λ r. ⌜ ((x : Projection) → TreeIn (now (text .entry)) from (now (starts .entry)) (now (sizes .entry)) (now (hints .entry)) n (tree x) → Renames (listing (now (text .entry)) (now (starts .entry)) (now (sizes .entry)) n) n (now (pool .exit)) (now (targets .exit)) (now (spans .exit)) (newName (allPushes prefix (numbered (tree x)) (namesAt (now (text .entry)) (now (starts .entry)) (now (sizes .entry)) (now (joins .entry)) m 0))) × (em r (now (line .exit)) ≡ puts (textOf ((bytes "project" ∷ map (newName (allPushes prefix (numbered (tree x)) (namesAt (now (text .entry)) (now (starts .entry)) (now (sizes .entry)) (now (joins .entry)) m 0))) (x .columns)) ∷ [])) (em 0 (now (line .entry))))) ⌝ }
+    requires { ⌜ Letter prefix × (16384 ≤ length (now pool)) × (length (now targets) ≡ 1024) × (length (now spans) ≡ 1024) × ((i : ℕ) → getD (now spans) i 0 ≡ 0) × (length (now line) ≡ 8336) × (m ≤ 64) × (length (now at) ≡ 64) × ((x : Projection) × Placed (now text) from (now starts) (now sizes) n (now spots) inner columns x × (inside (x .columns) (take m (now at)) ≡ true)) ⌝ }
+    ensures { λ r. ⌜ (r ≤ 8336) × ((x : Projection) → Placed (now (text .entry)) from (now (starts .entry)) (now (sizes .entry)) n (now (spots .entry)) inner columns x → inside (x .columns) (take m (now (at .entry))) ≡ true → Renames (listing (now (text .entry)) (now (starts .entry)) (now (sizes .entry)) n) n (now (pool .exit)) (now (targets .exit)) (now (spans .exit)) (sideName prefix (x .columns) (x .inner) (take m (now (at .entry)))) × (columnsIn (now (line .exit)) r ≡ map (sideName prefix (x .columns) (x .inner) (take m (now (at .entry)))) (x .columns))) ⌝ }
 {
+    let mut joins = [0u16; 64];
+    join_entries(spots, at, m, &mut joins);
     name_side(
         text,
-        from,
         starts,
         sizes,
-        hints,
         n,
+        spots,
         prefix,
-        joins,
+        &joins,
         m,
         pool,
         targets,
         spans,
     );
-    let mut flags = [0u8; 2048];
-    let w = walk_line(
+    let size = put_renamed(
         text,
         from,
-        2,
+        inner,
+        spots,
+        0,
+        columns,
         starts,
         sizes,
-        hints,
         n,
         pool,
         targets,
         spans,
-        2,
-        &mut flags,
         line,
         0,
-    );
-    w.at
-}
-
-// Where a project's inner pattern starts, and how many columns it has.
-struct Found {
-    inner: usize,
-    columns: usize,
-}
-
-// The columns of the project that starts here, and their entries.
-fn find_columns(
-    text: &[u8],
-    from: usize,
-    starts: &[u16; 1024],
-    sizes: &[u16; 1024],
-    hints: &[u16; 4096],
-    n: usize,
-    entries: &mut [u16; 64],
-) -> Found
-    requires { ⌜ (length (now entries) ≡ 64) × ((x : Projection) × TreeIn (now text) from (now starts) (now sizes) (now hints) n (tree x) × (length (x .columns) ≤ 64)) ⌝ }
-    ensures { λ r. ⌜ (length (now (entries .exit)) ≡ 64) × (r .columns ≤ 64) × ((x : Projection) → TreeIn (now (text .entry)) from (now (starts .entry)) (now (sizes .entry)) (now (hints .entry)) n (tree x) → (r .columns ≡ length (x .columns)) × (linesFrom (now (text .entry)) (r .inner) ≡ put (x .inner) []) × (take (length (x .columns)) (now (entries .exit)) ≡ entriesOf (listing (now (text .entry)) (now (starts .entry)) (now (sizes .entry)) n) (x .columns))) ⌝ }
-{
-    let end = line_end(text, from);
-    let word = find(text, from, end, 9);
-    let columns = column_entries(text, word + 1, end, starts, sizes, hints, n, entries);
-    Found {
-        inner: end + 1,
-        columns,
-    }
-}
-
-// The new names of a side, by the entries of its columns and its k join positions; and where its line of renamed columns ends.
-fn name_columns(
-    text: &[u8],
-    from: usize,
-    starts: &[u16; 1024],
-    sizes: &[u16; 1024],
-    hints: &[u16; 4096],
-    n: usize,
-    prefix: u8,
-    entries: &[u16; 64],
-    at: &[u16; 64],
-    k: usize,
-    pool: &mut [u8],
-    targets: &mut [u16; 1024],
-    spans: &mut [u16; 1024],
-    line: &mut [u8],
-) -> usize
-    requires { ⌜ Letter prefix × (16384 ≤ length (now pool)) × (length (now targets) ≡ 1024) × (length (now spans) ≡ 1024) × ((i : ℕ) → getD (now spans) i 0 ≡ 0) × (length (now line) ≡ 8336) × (k ≤ 64) × (length (now at) ≡ 64) × ((x : Projection) × TreeIn (now text) from (now starts) (now sizes) (now hints) n (tree x) × (length (x .columns) ≤ 64) × (take (length (x .columns)) (now entries) ≡ entriesOf (listing (now text) (now starts) (now sizes) n) (x .columns)) × (inside (x .columns) (take k (now at)) ≡ true)) ⌝ }
-    ensures { λ r. ⌜ (r ≤ 8336) × ((x : Projection) → TreeIn (now (text .entry)) from (now (starts .entry)) (now (sizes .entry)) (now (hints .entry)) n (tree x) → length (x .columns) ≤ 64 → take (length (x .columns)) (now (entries .entry)) ≡ entriesOf (listing (now (text .entry)) (now (starts .entry)) (now (sizes .entry)) n) (x .columns) → inside (x .columns) (take k (now (at .entry))) ≡ true → Renames (listing (now (text .entry)) (now (starts .entry)) (now (sizes .entry)) n) n (now (pool .exit)) (now (targets .exit)) (now (spans .exit)) (sideName prefix (x .columns) (x .inner) (take k (now (at .entry)))) × (columnsIn (now (line .exit)) r ≡ map (sideName prefix (x .columns) (x .inner) (take k (now (at .entry)))) (x .columns))) ⌝ }
-{
-    let mut joins = [0u16; 64];
-    join_entries(entries, at, k, &mut joins);
-    let size = rename_side(
-        text,
-        from,
-        starts,
-        sizes,
-        hints,
-        n,
-        prefix,
-        &joins,
-        k,
-        pool,
-        targets,
-        spans,
-        line,
     );
     size - 1
 }
@@ -289,8 +213,8 @@ pub fn prepare(
     from: usize,
     starts: &[u16; 1024],
     sizes: &[u16; 1024],
-    hints: &[u16; 4096],
     n: usize,
+    spots: &[Spot],
     prefix: u8,
     pairs: &[u8],
     second: bool,
@@ -302,14 +226,13 @@ pub fn prepare(
     at: &mut [u16; 64],
     lines: &mut [u16; 64],
 ) -> Prepared
-    requires { ⌜ Asked (now text) from (now starts) (now sizes) (now hints) n (now pairs) (now constants) × Letter prefix × (16384 ≤ length (now pool)) × (length (now targets) ≡ 1024) × (length (now spans) ≡ 1024) × ((k : ℕ) → getD (now spans) k 0 ≡ 0) × (length (now line) ≡ 8336) × (length (now at) ≡ 64) × (length (now lines) ≡ 64) ⌝ }
-    ensures { λ r. ⌜ (length (now (at .exit)) ≡ 64) × ((x : Projection) (js ks : List Pair) → TreeIn (now (text .entry)) from (now (starts .entry)) (now (sizes .entry)) (now (hints .entry)) n (tree x) → length (x .columns) ≤ 64 → Listed (now (pairs .entry)) js → Listed (now (constants .entry)) ks → PreparedIs (now (text .entry)) (now (starts .entry)) (now (sizes .entry)) n prefix second (now (constants .entry)) x js ks (now (pool .exit)) (now (targets .exit)) (now (spans .exit)) (now (line .exit)) (now (at .exit)) (now (lines .exit)) r) ⌝ }
+    requires { ⌜ Asked (now text) from (now starts) (now sizes) n (now spots) (now pairs) (now constants) × Letter prefix × (16384 ≤ length (now pool)) × (length (now targets) ≡ 1024) × (length (now spans) ≡ 1024) × ((k : ℕ) → getD (now spans) k 0 ≡ 0) × (length (now line) ≡ 8336) × (length (now at) ≡ 64) × (length (now lines) ≡ 64) ⌝ }
+    ensures { λ r. ⌜ (length (now (at .exit)) ≡ 64) × ((x : Projection) (js ks : List Pair) → TreeIn (now (text .entry)) from (now (starts .entry)) (now (sizes .entry)) n (now (spots .entry)) (tree x) → length (x .columns) ≤ 64 → Listed (now (pairs .entry)) js → Listed (now (constants .entry)) ks → PreparedIs (now (text .entry)) (now (starts .entry)) (now (sizes .entry)) n prefix second (now (constants .entry)) x js ks (now (pool .exit)) (now (targets .exit)) (now (spans .exit)) (now (line .exit)) (now (at .exit)) (now (lines .exit)) r) ⌝ }
 {
-    let mut entries = [0u16; 64];
+    let found = find_columns(text, from);
+    let columns = found.columns;
     let mut join_at = [0u16; 64];
     let mut join_lines = [0u16; 64];
-    let found = find_columns(text, from, starts, sizes, hints, n, &mut entries);
-    let columns = found.columns;
     let Positions::Are(k) = read_positions(pairs, second, columns, &mut join_at, &mut join_lines)
     else {
         return Prepared::Outside;
@@ -320,12 +243,13 @@ pub fn prepare(
     let end = name_columns(
         text,
         from,
+        found.inner,
+        columns,
         starts,
         sizes,
-        hints,
         n,
+        spots,
         prefix,
-        &entries,
         &join_at,
         k,
         pool,
@@ -394,8 +318,8 @@ pub fn put_side(
     text: &[u8],
     starts: &[u16; 1024],
     sizes: &[u16; 1024],
-    hints: &[u16; 4096],
     n: usize,
+    spots: &[Spot],
     pool: &[u8],
     targets: &[u16; 1024],
     spans: &[u16; 1024],
@@ -407,26 +331,25 @@ pub fn put_side(
     out: &mut [u8],
     at: usize,
 ) -> usize
-    requires { ⌜ Named (now text) (now starts) (now sizes) (now hints) n × (side .constants ≤ 64) × (length (now positions) ≡ 64) × (side .end ≤ length (now line)) × (ones (side .constant) ≡ length (picked 1 (side .constant) (columnsIn (now line) (side .end)))) ⌝ }
-    ensures { λ r. ⌜ ((from : ℕ) (x : Projection) (new : Bytes → Bytes) (ks : List Pair) → TreeIn (now (text .entry)) from (now (starts .entry)) (now (sizes .entry)) (now (hints .entry)) n (tree x) → Renames (listing (now (text .entry)) (now (starts .entry)) (now (sizes .entry)) n) n (now (pool .entry)) (now (targets .entry)) (now (spans .entry)) new → linesFrom (now (text .entry)) (side .inner) ≡ put (x .inner) [] → Kept (now (constants .entry)) ks false (now (positions .entry)) (now (lines .entry)) (side .constants) → (t : List Line) → puts (textOf t) (em r (now (out .exit))) ≡ puts (textOf (joinLine (side .constants) (put (renameInGraphPattern new (x .inner)) (valuesLines (side .constants) (ones (side .constant)) (picked 1 (side .constant) (columnsIn (now (line .entry)) (side .end))) (termsFrom ks 0 64) t)))) (em at (now (out .entry)))) ⌝ }
+    requires { ⌜ ((from : ℕ) × (x : Projection) × Placed (now text) from (now starts) (now sizes) n (now spots) (side .inner) (side .columns) x) × (side .constants ≤ 64) × (length (now positions) ≡ 64) × (side .end ≤ length (now line)) × (ones (side .constant) ≡ length (picked 1 (side .constant) (columnsIn (now line) (side .end)))) ⌝ }
+    ensures { λ r. ⌜ ((from : ℕ) (x : Projection) (new : Bytes → Bytes) (ks : List Pair) → Placed (now (text .entry)) from (now (starts .entry)) (now (sizes .entry)) n (now (spots .entry)) (side .inner) (side .columns) x → Renames (listing (now (text .entry)) (now (starts .entry)) (now (sizes .entry)) n) n (now (pool .entry)) (now (targets .entry)) (now (spans .entry)) new → Kept (now (constants .entry)) ks false (now (positions .entry)) (now (lines .entry)) (side .constants) → (t : List Line) → puts (textOf t) (em r (now (out .exit))) ≡ puts (textOf (joinLine (side .constants) (put (renameInGraphPattern new (x .inner)) (valuesLines (side .constants) (ones (side .constant)) (picked 1 (side .constant) (columnsIn (now (line .entry)) (side .end))) (termsFrom ks 0 64) t)))) (em at (now (out .entry)))) ⌝ }
 {
-    let mut flags = [0u8; 2048];
     let a = put_join(side.constants, out, at);
-    let p = rename_in_graph_pattern(
+    let b = put_renamed(
         text,
+        side.inner,
+        text.len(),
+        spots,
+        side.columns,
+        spots.len(),
         starts,
         sizes,
-        hints,
         n,
         pool,
         targets,
         spans,
-        &mut flags,
         out,
-        side.inner,
         a,
-        2,
-        64,
     );
     put_values(
         line,
@@ -437,6 +360,6 @@ pub fn put_side(
         lines,
         side.constants,
         out,
-        p.at,
+        b,
     )
 }

@@ -1,18 +1,23 @@
 -- What the calls that join know once their texts are checked, and what is to come of it. Assumes nothing.
-use Prim.Native.Nat.{ℕ, _≤_}
+use Prim.Native.Nat.{ℕ, _*_, _≤_}
 use mathlib.Core.Path.{_≡_}
 use mathlib.Core.List.{List, [], _∷_, _++_}
 use mathlib.Core.Bool.{true, false}
 use lib.ListN.{length, take}
 use Rattle.text.specs.Text.{Bytes}
 use Rattle.algebra.specs.Tree.{Pattern}
-use Rattle.algebra.specs.Query.{Pair}
+use Rattle.algebra.specs.Query.{Query, Pair}
 use Rattle.algebra.specs.Layout.{layout}
 use Rattle.algebra.specs.Reader.{reads}
+use Rattle.algebra.specs.Texts.{readTree, readQuery}
 use Rattle.algebra.specs.declared.Answer.{Answer as Check}
 use Rattle.algebra.specs.declared.Answer.the-variants.{Good, Malformed, OverBound}
 use Rattle.answers.specs.Outcome.{Outcome, refused, written, then, refusedUnless}
+use Rattle.names.specs.bridge.Names.{listing}
+use Rattle.lines.specs.bridge.Spotted.{Noted}
+use Rattle.scoping.specs.Numbering.{byPlace}
 use Rattle.scoping.specs.Premises.{inside, differentPositions}
+use Rattle.heads.specs.bridge.TreeAt.{TreeAt}
 use Rattle.merging.specs.Sides.{Constant, Pair as Joined}
 use Rattle.merging.specs.Request.{Projection, tree, readJoins, readConstants, joinPositions, byPosition, constantsIn, positions, request, allInside}
 use Rattle.merging.specs.Merge.{lists, mergeProjectPatterns, mergeTrees}
@@ -21,9 +26,27 @@ use Rattle.sides.specs.bridge.Listed.{Listed, positionsIn}
 use Rattle.sides.specs.bridge.Side.{TreeIn}
 
 -- a tree stands in a text from a place on, and no project at its root has more than 64 columns
-pub record Stands (s : Bytes) (at : ℕ) (a l h : List ℕ) (n : ℕ) (p : Pattern) : Type 0 where
-  pub tree-in : TreeIn s at a l h n p
+pub record Stands (s : Bytes) (at : ℕ) (a l : List ℕ) (n : ℕ) (v : List (List ℕ)) (p : Pattern) : Type 0 where
+  pub tree-in : TreeIn s at a l n v p
   pub narrow : (x : Projection) → p ≡ tree x → length (x .columns) ≤ 64
+
+-- a text that is a tree's: the table lists its names, and the array its variables
+pub record KnownTree (s : Bytes) (a l : List ℕ) (n : ℕ) (v : List (List ℕ)) : Type 0 where
+  pub pattern : Pattern
+  pub read : readTree s ≡ reads pattern
+  pub names : listing s a l n ≡ byPlace pattern
+  pub noted : Noted s 0 (listing s a l n) v (length v)
+
+-- a text that is a query's: the variables are those of its tree
+pub record KnownText (s : Bytes) (a l : List ℕ) (n : ℕ) (v : List (List ℕ)) : Type 0 where
+  pub query : Query
+  pub read : readQuery s ≡ reads query
+  pub names : listing s a l n ≡ byPlace (query .tree)
+  pub noted : (from : ℕ) → from ≤ length s → TreeAt s query from → Noted s from (listing s a l n) v (length v)
+
+-- an array has room for all variables that a text within the bounds can have
+abbrev pub HasRoom : Bytes → List (List ℕ) → Type 0
+HasRoom s v = length s ≤ 16384 → length s ≤ 3 * length v
 
 -- a text is a constant list of these lines
 pub record Terms (s : Bytes) (ks : List Pair) : Type 0 where

@@ -1,9 +1,9 @@
 -- What the code finds of a side: its names, its line of renamed columns, its masks; and the lines that it writes. Assumes nothing.
-use Prim.Native.Nat.{ℕ, zero, suc, _≤_, _<_}
+use Prim.Native.Nat.{ℕ, zero, suc, _≤_}
 use mathlib.Core.Path.{_≡_}
 use mathlib.Core.List.{List, [], _∷_, map}
 use mathlib.Core.Bool.{Bool, true, false, _&&_}
-use lib.ListN.{length, getD, take}
+use lib.ListN.{length, getD}
 use Rattle.text.specs.Text.{Bytes, Line, linesFrom}
 use Rattle.text.specs.Word.{bytes}
 use Rattle.text.specs.Field.{decimal}
@@ -12,10 +12,10 @@ use Rattle.algebra.specs.Query.{Pair}
 use Rattle.algebra.specs.Valid.{Valid, mem}
 use Rattle.algebra.specs.Depth.{depth}
 use Rattle.algebra.specs.Layout.{put}
-use Rattle.names.specs.bridge.Names.{listing, Holds}
-use Rattle.scoping.specs.Sets.{indexOf}
+use Rattle.names.specs.bridge.Names.{listing}
 use Rattle.scoping.specs.Numbering.{byPlace}
 use Rattle.scoping.specs.Premises.{sideName, inside}
+use Rattle.lines.specs.bridge.Spotted.{Noted}
 use Rattle.walking.specs.bridge.Code.{replacement}
 use Rattle.merging.specs.Request.{Projection, tree}
 use Rattle.merging.specs.Names.{from as countFrom, isAt}
@@ -25,22 +25,27 @@ use Rattle.sides.specs.declared.side.Prepared.the-variants.{Outside, Rea
 use Rattle.sides.specs.bridge.Columns.{columnsIn, maskOf}
 use Rattle.sides.specs.bridge.Listed.{Listed, positionsIn, Kept}
 
--- a tree stands in a text from a place on, within the bounds, and the table lists its names
-pub record TreeIn (s : Bytes) (at : ℕ) (a l h : List ℕ) (n : ℕ) (p : Pattern) : Type 0 where
+-- a tree stands in a text from a place on, within the bounds; the table lists its names, and the array its variables
+pub record TreeIn (s : Bytes) (at : ℕ) (a l : List ℕ) (n : ℕ) (v : List (List ℕ)) (p : Pattern) : Type 0 where
   pub lines : linesFrom s at ≡ put p []
   pub valid : Valid p
   pub deep : depth p ≤ 64
   pub few : length (byPlace p) ≤ 1024
-  pub table : Holds s a l h n (byPlace p)
+  pub names : listing s a l n ≡ byPlace p
+  pub noted : Noted s at (listing s a l n) v (length v)
+
+-- a projection of 64 columns at most does, with so many columns, and its inner pattern starts at a place
+pub record Placed (s : Bytes) (at : ℕ) (a l : List ℕ) (n : ℕ) (v : List (List ℕ)) (inner columns : ℕ) (x : Projection) : Type 0 where
+  pub stands : TreeIn s at a l n v (tree x)
+  pub narrow : length (x .columns) ≤ 64
+  pub width : columns ≡ length (x .columns)
+  pub high : inner ≤ length s
+  pub behind : linesFrom s inner ≡ put (x .inner) []
 
 -- the names of a table of n become what a map says, and no entry behind them is set
 pub record Renames (ns : List Bytes) (n : ℕ) (pool targets spans : List ℕ) (new : Bytes → Bytes) : Type 0 where
   pub found : (f : Bytes) → mem f ns ≡ true → replacement ns pool targets spans f ≡ new f
   pub behind : (k : ℕ) → n ≤ k → getD spans k 0 ≡ 0
-
--- the entries of fields among the names of a table
-abbrev pub entriesOf : List Bytes → List Bytes → List ℕ
-entriesOf ns fs = map (λ f. indexOf f ns) fs
 
 -- the mask of the positions that are listed, of c columns
 abbrev pub maskAt : List ℕ → ℕ → ℕ
@@ -51,9 +56,9 @@ abbrev pub newNames : ℕ → Bool → Projection → List Pair → Bytes → By
 newNames prefix second x js = sideName prefix (x .columns) (x .inner) (positionsIn second js)
 
 -- what a side is made of: a projection within the bounds, and two lists that were checked
-pub record Asked (s : Bytes) (at : ℕ) (a l h : List ℕ) (n : ℕ) (pairs constants : Bytes) : Type 0 where
+pub record Asked (s : Bytes) (at : ℕ) (a l : List ℕ) (n : ℕ) (v : List (List ℕ)) (pairs constants : Bytes) : Type 0 where
   pub projection : Projection
-  pub stands : TreeIn s at a l h n (tree projection)
+  pub stands : TreeIn s at a l n v (tree projection)
   pub narrow : length (projection .columns) ≤ 64
   pub joins : List Pair
   pub joins-listed : Listed pairs joins
@@ -68,6 +73,7 @@ pub record SideIs (text : Bytes) (starts sizes : List ℕ) (n prefix : ℕ) (sec
   pub width : s .columns ≡ length (x .columns)
   pub constant : s .constant ≡ maskAt (positionsIn false ks) (length (x .columns))
   pub joined : s .joined ≡ maskAt (positionsIn second js) (length (x .columns))
+  pub high : s .inner ≤ length text
   pub inner : linesFrom text (s .inner) ≡ put (x .inner) []
   pub kept : Kept constants ks false at lines (s .constants)
 

@@ -1,8 +1,5 @@
 -- `joining::merge/merge_listed_queries` meets its contract. Assumes nothing.
 use borrow.Author.Needs.{needs}
-use mathlib.Core.Path.{_≡_, refl, sym, ap, _∙_}
-use Rattle.answers.proofs.Answers as A
-use Rattle.projects.proofs.Known as K
 use Rattle.joining.proofs.Calls as Calls
 use Rattle.joining.proofs.merge.merge_listed_queries.Statement.{statement}
 use Rattle.joining.proofs.merge.merge_listed_queries.Tie as tie
@@ -18,5 +15,5 @@ merge-listed-queries-spec =
     (λ c. search needs)
     (λ c. search needs)
     (λ c. c .before .before .merge-heads .ensures)
-    (λ c. Calls.query-lists-malformed _ _ _ _ _ _ _ _ _ _ (c .before .before .before .before .before .before .before .before .before .pre .0) _ _ _ _ (c .before .before .before .before .before .before .before .before .before .pre .1) _ (c .before .before .check-lists .ensures) (c .enum-told2 .given .1))
-    (λ c. Calls.query-lists-over _ _ _ _ _ _ _ _ _ _ (c .before .before .before .before .before .before .before .before .before .pre .0) _ _ _ _ (c .before .before .before .before .before .before .before .before .before .pre .1) _ (c .before .before .check-lists .ensures) (c .enum-told3 .given .1)))
+    (λ c. Calls.query-lists-malformed _ _ _ _ _ _ _ (c .before .before .before .before .before .before .before .before .before .pre .0 .read) _ (c .before .before .before .before .before .before .before .before .before .pre .1 .read) _ (c .before .before .check-lists .ensures) (c .enum-told2 .given .1))
+    (λ c. Calls.query-lists-over _ _ _ _ _ _ _ (c .before .before .before .before .before .before .before .before .before .pre .0 .read) _ (c .before .before .before .before .before .before .before .before .before .pre .1 .read) _ (c .before .before .check-lists .ensures) (c .enum-told3 .given .1)))

@@ -1,9 +1,11 @@
 -- `joining::merge/merge_right_query` meets its contract. Assumes nothing.
 use borrow.Author.Needs.{needs}
-use Rattle.reading.specs.bridge.Variables.{treeNames, queryNames}
-use Rattle.reading.proofs.Said as Said
 use Rattle.projects.proofs.Known as K
 use Rattle.joining.proofs.Calls as Calls
+use mathlib.Core.Path.{_≡_, sym}
+use Rattle.reading.specs.bridge.Variables.{queryNames}
+use Rattle.reading.specs.bridge.Charted.{queryStart}
+use Rattle.reading.proofs.ChartSaid as ChartSaid
 use Rattle.joining.proofs.merge.merge_right_query.Statement.{statement}
 use Rattle.joining.proofs.merge.merge_right_query.Tie as tie
 
@@ -13,10 +15,15 @@ merge-right-query-spec =
     (tie.spec
     (λ c κs. search needs)
     (λ c. search needs)
-    (λ c κs. (c .before .before .before .before .before .before .before .before .before .before .before .before .before .before .before .before .before .pre, K.good-query _ _ _ _ _ _ (c .before .before .before .before .before .before .before .check-query .ensures) (c .before .before .before .before .before .right-n .given .1)))
+    (λ c. K.query-count _ _ _ _ (c .before .before .before .before .before .before .before .before .before .before .before .before .before .before .before .before .before .args .right-spots .now) _ _ _ _ (c .before .before .before .right-n .given .1) (c .before .before .before .before .before .before .before .before .before .before .before .before .before .before .before .before .before .pre .1) (c .before .before .before .before .before .before .note-query .ensures))
+    (λ c. sym (K.taken-long _ _ (K.query-count _ _ _ _ (c .before .before .before .before .before .before .before .before .before .before .before .before .before .before .before .before .before .before .args .right-spots .now) _ _ _ _ (c .before .before .before .before .right-n .given .1) (c .before .before .before .before .before .before .before .before .before .before .before .before .before .before .before .before .before .before .pre .1) (c .before .before .before .before .before .before .before .note-query .ensures))))
+    (λ c κs. (c .before .before .before .before .before .before .before .before .before .before .before .before .before .before .before .before .before .before .before .pre .0, K.good-query _ _ _ _ (c .before .before .before .before .before .before .before .before .before .before .before .before .before .before .before .before .before .before .before .args .right-spots .now) _ _ _ _ (c .before .before .before .before .before .right-n .given .1) (c .before .before .before .before .before .before .before .before .before .before .before .before .before .before .before .before .before .before .before .pre .1) (c .before .before .before .before .before .before .before .before .note-query .ensures)))
+    (λ c. search needs)
     (λ c. search needs)
     (λ c. search needs)
     (λ c. search needs)
     (λ c. c .before .before .merge-listed-queries .ensures)
-    (λ c. Calls.right-query-malformed _ _ _ _ _ _ _ _ _ _ (c .before .before .before .before .before .before .before .before .before .before .before .before .pre) (Said.said-malformed queryNames _ _ _ _ _ _ (c .before .before .check-query .ensures) (c .enum-told .given .1)))
-    (λ c. Calls.right-query-over _ _ _ _ _ _ _ _ _ _ (c .before .before .before .before .before .before .before .before .before .before .before .before .pre) (Said.said-over queryNames _ _ _ _ _ _ (c .before .before .check-query .ensures) (c .enum-told2 .given .1))))
+    (λ c. search needs)
+    (λ c. Calls.right-query-malformed _ _ _ _ _ _ _ (c .before .before .before .before .before .before .before .before .before .before .before .before .before .before .pre .0 .read) (ChartSaid.chart-malformed queryNames queryStart _ _ _ _ _ _ _ _ (c .before .before .before .note-query .ensures) (c .enum-told .given .1)))
+    (λ c. search needs)
+    (λ c. Calls.right-query-over _ _ _ _ _ _ _ (c .before .before .before .before .before .before .before .before .before .before .before .before .before .before .pre .0 .read) (ChartSaid.chart-over queryNames queryStart _ _ _ _ _ _ _ _ (c .before .before .before .note-query .ensures) (c .enum-told2 .given .1))))

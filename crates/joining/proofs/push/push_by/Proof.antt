@@ -1,10 +1,10 @@
 -- `joining::push/push_by` meets its contract. Assumes nothing.
 use borrow.Author.Needs.{needs}
-use Rattle.algebra.specs.Query.{joins, constants}
-use Rattle.lists.specs.bridge.Pairs.{keysOf}
-use Rattle.reading.proofs.Said as Said
 use Rattle.projects.proofs.Known as K
+use Rattle.reading.proofs.Said as Said
 use Rattle.joining.proofs.Calls as Calls
+use Rattle.algebra.specs.Query.{constants}
+use Rattle.lists.specs.bridge.Pairs.{keysOf}
 use Rattle.joining.proofs.push.push_by.Statement.{statement}
 use Rattle.joining.proofs.push.push_by.Tie as tie
 
@@ -19,5 +19,5 @@ push-by-spec =
     (λ c. search needs)
     (λ c. search needs)
     (λ c. c .before .before .push-of .ensures)
-    (λ c. Calls.terms-malformed _ _ _ _ _ _ _ (c .before .before .before .before .before .before .before .before .before .pre) (Said.said-malformed (keysOf constants) _ _ _ _ _ _ (c .before .before .check-constants .ensures) (c .enum-told2 .given .1)))
-    (λ c. Calls.terms-over _ _ _ _ _ _ _ (c .before .before .before .before .before .before .before .before .before .pre) (Said.said-over (keysOf constants) _ _ _ _ _ _ (c .before .before .check-constants .ensures) (c .enum-told3 .given .1))))
+    (λ c. Calls.terms-malformed _ _ _ _ (c .before .before .before .before .before .before .before .before .before .pre .read) (Said.said-malformed (keysOf constants) _ _ _ _ _ _ (c .before .before .check-constants .ensures) (c .enum-told2 .given .1)))
+    (λ c. Calls.terms-over _ _ _ _ (c .before .before .before .before .before .before .before .before .before .pre .read) (Said.said-over (keysOf constants) _ _ _ _ _ _ (c .before .before .check-constants .ensures) (c .enum-told3 .given .1))))

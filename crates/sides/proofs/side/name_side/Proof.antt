@@ -1,6 +1,5 @@
 -- `sides::side/name_side` meets its contract. Assumes nothing.
 use borrow.Author.Needs.{needs}
-use mathlib.Core.List.{[]}
 use Rattle.sides.proofs.Trees as T
 use Rattle.sides.proofs.side.name_side.Statement.{statement}
 use Rattle.sides.proofs.side.name_side.Tie as tie
@@ -9,9 +8,7 @@ pub name-side-spec : {M : Type 1} → statement M
 name-side-spec =
     tie.close
     (tie.spec
+    (λ c κs. c .before .before .before .pre .1)
+    (λ c κs. (c .before .before .before .before .before .before .before .before .pre .0, c .before .before .before .before .before .before .before .before .pre .2, c .before .before .before .before .before .before .before .before .pre .3, c .before .before .before .before .before .before .before .before .pre .4, c .before .before .before .before .before .before .before .before .pre .5, c .before .before .before .before .before .before .before .before .pre .6))
     (λ c. search needs)
-    (λ c. search needs)
-    (λ c κs. search needs)
-    (λ c κs. search needs)
-    (λ c. search needs)
-    (λ c. (search needs, search needs, λ p t. T.names-found _ _ _ _ _ _ p t [] [] _ (c .before .before .before .before .before .before .before .before .before .before .before .before .before .before .before .before .pre .6) _ _ _ _ _ _ (T.walk-numbers _ _ _ _ _ _ p t _ _ _ (c .before .before .before .before .before .before .before .before .before .before .before .before .before .before .before .before .pre .6) _ _ _ _ _ (c .before .before .before .before .before .before .before .before .rename-in-graph-pattern .ensures)) (c .before .before .standardize-variables .ensures))))
+    (λ c. λ at p t. T.names-found _ at _ _ _ _ p t _ _ _ _ _ _ _ (c .before .before .before .before .before .before .before .before .before .before .before .pre .7) (c .before .before .before .before .before .before .before .note-places .ensures) (c .before .before .standardize-variables .ensures)))

@@ -1,0 +1,29 @@
+-- `joining::push/push_with` meets its contract. Assumes nothing.
+use borrow.Author.Needs.{needs}
+use Rattle.projects.proofs.Known as K
+use Rattle.joining.proofs.Calls as Calls
+use mathlib.Core.Path.{_≡_, sym}
+use Rattle.reading.specs.bridge.Variables.{queryNames}
+use Rattle.reading.specs.bridge.Charted.{queryStart}
+use Rattle.reading.proofs.ChartSaid as ChartSaid
+use Rattle.joining.proofs.push.push_with.Statement.{statement}
+use Rattle.joining.proofs.push.push_with.Tie as tie
+
+pub push-with-spec : {M : Type 1} → statement M
+push-with-spec =
+    tie.close
+    (tie.spec
+    (λ c κs. search needs)
+    (λ c. search needs)
+    (λ c. K.query-count _ _ _ _ (c .before .before .before .before .before .before .before .before .before .before .before .before .before .before .args .spots .now) _ _ _ _ (c .before .before .before .n .given .1) (c .before .before .before .before .before .before .before .before .before .before .before .before .before .before .pre) (c .before .before .before .before .before .before .note-query .ensures))
+    (λ c. sym (K.taken-long _ _ (K.query-count _ _ _ _ (c .before .before .before .before .before .before .before .before .before .before .before .before .before .before .before .args .spots .now) _ _ _ _ (c .before .before .before .before .n .given .1) (c .before .before .before .before .before .before .before .before .before .before .before .before .before .before .before .pre) (c .before .before .before .before .before .before .before .note-query .ensures))))
+    (λ c κs. K.good-query _ _ _ _ (c .before .before .before .before .before .before .before .before .before .before .before .before .before .before .before .before .args .spots .now) _ _ _ _ (c .before .before .before .before .before .n .given .1) (c .before .before .before .before .before .before .before .before .before .before .before .before .before .before .before .before .pre) (c .before .before .before .before .before .before .before .before .note-query .ensures))
+    (λ c. search needs)
+    (λ c. search needs)
+    (λ c. search needs)
+    (λ c. search needs)
+    (λ c. c .before .before .push-by .ensures)
+    (λ c. search needs)
+    (λ c. Calls.push-malformed _ _ _ (ChartSaid.chart-malformed queryNames queryStart _ _ _ _ _ _ _ _ (c .before .before .before .note-query .ensures) (c .enum-told .given .1)))
+    (λ c. search needs)
+    (λ c. Calls.push-over _ _ _ (ChartSaid.chart-over queryNames queryStart _ _ _ _ _ _ _ _ (c .before .before .before .note-query .ensures) (c .enum-told2 .given .1))))
