@@ -1,14 +1,15 @@
 -- The call bindings, from places in its texts to the bytes. Assumes nothing.
-use Prim.Native.Nat.{ℕ, _-_, _≤_, _<_}
-use mathlib.Core.Path.{_≡_, refl, sym, ap, ap₂, _∙_}
+use Prim.Native.Nat.{ℕ, _+_, _-_, _*_, _≤_, _<_, min}
+use mathlib.Core.Path.{_≡_, refl, sym, ap, ap₂, subst, _∙_}
+use mathlib.Core.Logic.{inl, inr, ⊎-elim}
 use mathlib.Core.Bool.{Bool, true, false, cond, not, _&&_}
 use mathlib.Core.List.{List, [], _∷_, _++_, map}
 use mathlib.Core.Option.{none}
 use native.Mathlib.Omega.{arith}
 use lib.ListN.{length, take, drop, length-drop}
 use lib.Seq.{take-all}
-use lib.Dec.{ltb}
-use borrow.Author.Tests.{not-true, not-false}
+use lib.Dec.{ltb, leb}
+use borrow.Author.Tests.{not-true, not-false, leb-true, leb-false}
 use Rattle.text.specs.Text.{Bytes, Line, same, textOf, part, linesFrom}
 use Rattle.text.specs.Word.{bytes}
 use Rattle.algebra.specs.Tree.{Pattern}
@@ -17,7 +18,8 @@ use Rattle.algebra.specs.Layout.{put, putSets, layout}
 use Rattle.algebra.specs.Reader.{reads, refuses, malformed, overBound}
 use Rattle.algebra.specs.Texts.{readTree, readSets}
 use Rattle.emit.specs.bridge.Emit.{Em, em, last, puts}
-use Rattle.emit.proofs.Laws.{puts-append}
+use Rattle.emit.proofs.Laws.{puts-append, puts-at, puts-past}
+use Rattle.algebra.proofs.Theorem.{sets-exactly}
 use Rattle.answers.specs.declared.Answer.the-variants.{Written, Malformed, OverBound, Outside, TooShort, NotUsable}
 use Rattle.answers.specs.Outcome.{written, refused, refusedUnless, Reported, Answered}
 use Rattle.answers.proofs.Answers.{too-short, all-written, answered}
@@ -37,9 +39,12 @@ use Rattle.placing.specs.bridge.Fields.{columnsOn}
 use Rattle.placing.specs.bridge.Ends.{EndsAt}
 use Rattle.placing.proofs.Repeated.{repeated-append}
 use Rattle.placing.proofs.Inner.{none-found, Found, is-found, way, columns-are, modified, inner-copied, rest-text}
+use Rattle.room.specs.Room.{bindingsRoom}
+use Rattle.room.proofs.Enough.{written-fits}
+use Rattle.room.proofs.Bindings.{bindings-enough}
 use Rattle.binding.specs.declared.judge.Judged.{Judged}
 use Rattle.binding.specs.bridge.Judged.{allBelow, atBelow, JudgedAll}
-use Rattle.binding.specs.bridge.Bound.{boundAt}
+use Rattle.binding.specs.bridge.Bound.{boundAt, Holds}
 
 -- ---- the five pieces
 
@@ -147,12 +152,33 @@ module _ (tree sets : Bytes) (p : Pattern) (xs : List BindingSet) (e : readTree 
           bound : bindingsOutcome tree sets ≡ written Answer
           bound = by-tests ∙ rw (sym inside-is ∙ not-false (j .inside) yes, sym usable-is ∙ not-false (j .usable) can) (ap written bound-layout)
 
-          module _ (out : Bytes) (need : ℕ) (tiny tiny′ : Bytes) (measure : em need tiny′ ≡ puts Answer (em 0 tiny)) where
-            pub bindings-short : length out < need → Answered (bindingsOutcome tree sets) out out TooShort
-            bindings-short h = answered _ _ out out TooShort bound (too-short _ out need tiny tiny′ measure h)
+          module _ (out : Bytes) (b : Bool) (h : Holds (length tree + 65 * length sets) (length Answer) (length out) b) where
+            -- the answer is no longer than bindings can need
+            fits : b ≡ true → min (length Answer) last ≤ length out
+            unfolding bindingsRoom
+            fits t = ⊎-elim (λ (m : length tree + 65 * length sets ≤ length out). let w = written-fits _ _ Answer (bindings-enough tree sets) bound in omega arith) (λ (m : min (length Answer) last ≤ length out). m) (h .yes t)
 
-            pub bindings-all : (size : ℕ) (out′ : Bytes) → need ≤ length out → length out < last → em size out′ ≡ puts Answer (em 0 out) → Answered (bindingsOutcome tree sets) out out′ (Written size)
-            bindings-all size out′ i j k = answered _ _ out out′ (Written size) bound (all-written _ out need tiny tiny′ measure size out′ i j k)
+            measure : em (min (length Answer) last) [] ≡ puts Answer (em 0 [])
+            measure = puts-past Answer 0 (min (length Answer) last) [] (omega arith) (omega arith) (omega arith)
+
+            pub bindings-short : not b ≡ true → Answered (bindingsOutcome tree sets) out out TooShort
+            bindings-short i = answered _ _ out out TooShort bound (too-short _ out (min (length Answer) last) [] [] measure (h .no (not-true b i)))
+
+            pub bindings-all : (size : ℕ) (out′ : Bytes) → not b ≡ false → length out < last → em size out′ ≡ puts Answer (em 0 out) → Answered (bindingsOutcome tree sets) out out′ (Written size)
+            bindings-all size out′ i j k = answered _ _ out out′ (Written size) bound (all-written _ out (min (length Answer) last) [] [] measure size out′ (fits (not-false b i)) j k)
+
+-- ---- the room
+
+pub sets-short : (s : Bytes) (xs : List BindingSet) → readSets s ≡ reads xs → length s ≤ 16384
+sets-short s xs e = let x = sets-exactly s xs .0 e in subst (λ (b : Bytes). length b ≤ 16384) (x .0) (x .2 .bytes)
+
+pub most-holds : (most size room : ℕ) → most ≤ room → Holds most size room true
+most-holds most size room h = record { yes = λ t. inl h; no = λ t. let z : _≡_ {A = ℕ} 0 1 = cc in absurd (omega arith) }
+
+pub size-holds : (most room k : ℕ) (p o : Bytes) → em k o ≡ puts p (em 0 []) → Holds most (length p) room (leb k room)
+size-holds most room k p o e =
+    let m : k ≡ min (0 + length p) last = ap (λ (x : Em). x .at) e ∙ puts-at p (em 0 []) (omega arith) in
+    record { yes = λ t. let l = leb-true k room t in inr (omega arith); no = λ t. let l = leb-false k room t in omega arith }
 
 -- ---- a text that is refused
 

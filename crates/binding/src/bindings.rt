@@ -8,12 +8,12 @@ use heads::copy;
 use negating::Outermost;
 use negating::outermost_projection;
 use placing::columns::read_columns;
-use placing::ends::pattern_end;
+use placing::ends::inner_end;
 use placing::steps::put_repeated;
 use reading::check_sets;
 use reading::check_tree;
 ghost use mathlib.Core.Path.{_≡_};
-ghost use Prim.Native.Nat.{_≤_};
+ghost use Prim.Native.Nat.{_+_, _*_, _≤_};
 ghost use mathlib.Core.List.{List};
 ghost use lib.ListN.{length};
 ghost use Rattle.text.specs.Text.{linesFrom};
@@ -26,7 +26,7 @@ ghost use Rattle.names.specs.bridge.Names.{listing};
 ghost use Rattle.emit.specs.bridge.Emit.{em, puts};
 ghost use Rattle.answers.specs.Outcome.{Answered};
 ghost use Rattle.filtering.specs.Bindings.{bindingsOutcome};
-ghost use Rattle.binding.specs.bridge.Bound.{boundAt};
+ghost use Rattle.binding.specs.bridge.Bound.{boundAt, Holds};
 
 const JOIN: [u8; 4] = *b"join";
 
@@ -52,6 +52,29 @@ fn put_bindings(
     put_all(out, d, &tree[end..])
 }
 
+// A buffer of so many bytes holds that. Where it is as long as the answer can be, nothing is measured.
+fn has_room(
+    tree: &[u8],
+    inner: usize,
+    end: usize,
+    starts: &[u16; 64],
+    sizes: &[u16; 64],
+    n: usize,
+    sets: &[u8],
+    joins: usize,
+    room: usize,
+) -> bool
+    requires { ⌜ (inner ≤ end) × (end ≤ length (now tree)) × (n ≤ 64) × Ended (linesFrom (now sets) 0) × (length (now tree) ≤ 16384) × (length (now sets) ≤ 16384) ⌝ }
+    ensures { λ r. ⌜ Holds (length (now (tree .entry)) + 65 * length (now (sets .entry))) (length (boundAt (now (tree .entry)) inner end joins (listing (now (tree .entry)) (now (starts .entry)) (now (sizes .entry)) n) (linesFrom (now (sets .entry)) 0))) room r ⌝ }
+{
+    if tree.len() + 65 * sets.len() <= room {
+        return true;
+    }
+    let mut none = [0u8; 0];
+    let size = put_bindings(tree, inner, end, starts, sizes, n, sets, joins, &mut none);
+    size <= room
+}
+
 // For texts that were checked.
 fn bindings_of(tree: &[u8], sets: &[u8], out: &mut [u8]) -> Answer
     requires { ⌜ ((p : Pattern) × (readTree (now tree) ≡ reads p)) × ((xs : List BindingSet) × (readSets (now sets) ≡ reads xs)) ⌝ }
@@ -70,9 +93,8 @@ fn bindings_of(tree: &[u8], sets: &[u8], out: &mut [u8]) -> Answer
     if !judged.usable {
         return Answer::NotUsable;
     }
-    let end = pattern_end(tree, inner);
-    let mut none = [0u8; 0];
-    let size = put_bindings(
+    let end = inner_end(tree, inner);
+    if !has_room(
         tree,
         inner,
         end,
@@ -81,24 +103,27 @@ fn bindings_of(tree: &[u8], sets: &[u8], out: &mut [u8]) -> Answer
         n,
         sets,
         judged.sets,
-        &mut none,
-    );
-    if out.len() < size {
+        out.len(),
+    ) {
         return Answer::TooShort;
     }
     let put = put_bindings(tree, inner, end, &starts, &sizes, n, sets, judged.sets, out);
     Answer::Written(put)
 }
 
-// For a tree that was checked.
-fn bindings_by(tree: &[u8], sets: &[u8], out: &mut [u8]) -> Answer
+// For a tree that was checked; its table of names is used again, as sets have none.
+fn bindings_by(
+    tree: &[u8],
+    sets: &[u8],
+    starts: &mut [u16; 1024],
+    sizes: &mut [u16; 1024],
+    hints: &mut [u16; 4096],
+    out: &mut [u8],
+) -> Answer
     requires { ⌜ ((p : Pattern) × (readTree (now tree) ≡ reads p)) ⌝ }
     ensures { λ r. ⌜ Answered (bindingsOutcome (now (tree .entry)) (now (sets .entry))) (now (out .entry)) (now (out .exit)) r ⌝ }
 {
-    let mut starts = [0u16; 1024];
-    let mut sizes = [0u16; 1024];
-    let mut hints = [0u16; 4096];
-    match check_sets(sets, &mut starts, &mut sizes, &mut hints) {
+    match check_sets(sets, starts, sizes, hints) {
         Check::Good(_) => bindings_of(tree, sets, out),
         Check::Malformed => Answer::Malformed,
         Check::OverBound => Answer::OverBound,
@@ -113,7 +138,7 @@ pub fn bindings(tree: &[u8], sets: &[u8], out: &mut [u8]) -> Answer
     let mut sizes = [0u16; 1024];
     let mut hints = [0u16; 4096];
     match check_tree(tree, &mut starts, &mut sizes, &mut hints) {
-        Check::Good(_) => bindings_by(tree, sets, out),
+        Check::Good(_) => bindings_by(tree, sets, &mut starts, &mut sizes, &mut hints, out),
         Check::Malformed => Answer::Malformed,
         Check::OverBound => Answer::OverBound,
     }

@@ -1,19 +1,21 @@
 -- The filters one after the other: their references, and those that are placed. Assumes nothing.
 use Prim.Native.Nat.{ℕ, zero, suc, _+_, _-_, _≤_, _<_}
-use mathlib.Core.Path.{_≡_, refl, sym, ap, ap₂, _∙_}
+use mathlib.Core.Path.{_≡_, refl, sym, ap, ap₂, subst, _∙_}
 use mathlib.Core.Bool.{Bool, true, false, cond, not, _&&_}
 use mathlib.Core.List.{List, [], _∷_, _++_}
 use mathlib.Core.Logic.{⊎-elim}
 use native.Mathlib.Omega.{arith}
 use lib.ListN.{length}
 use lib.Dec.{ltb}
+use lib.Seq.{sets}
 use borrow.Author.Tests.{not-true, not-false}
+use Rattle.text.proofs.Basics.{and-left, and-right}
 use Rattle.text.specs.Text.{Bytes, Line, same, textOf, split, part, linesFrom, First}
 use Rattle.text.specs.Word.{bytes}
 use Rattle.text.proofs.Places.{lines-next, lines-end}
 use Rattle.cursor.specs.bridge.Cursor.{left}
-use Rattle.emit.specs.bridge.Emit.{Em, puts}
-use Rattle.emit.proofs.Laws.{puts-append, puts-nil}
+use Rattle.emit.specs.bridge.Emit.{Em, em, puts}
+use Rattle.emit.proofs.Laws.{puts-append, puts-nil, puts-out}
 use Rattle.scoping.specs.Sets.{all}
 use Rattle.walking.specs.bridge.Code.{LineEnd}
 use Rattle.walking.proofs.Lines.{nothing-here}
@@ -23,8 +25,10 @@ use Rattle.heads.proofs.Cut.{text-append}
 use Rattle.filtering.specs.bridge.FilterLines.{isTrueLine, partsBelow, expressionLines, Walked, severalParts, treeToExpression, Placed, oneMore, placedFilters}
 use Rattle.placing.specs.declared.field.Field.{Field}
 use Rattle.placing.specs.bridge.Fields.{FieldIs}
+use Rattle.expressing.specs.declared.express.Walked.{Walked as Went}
 use Rattle.expressing.specs.declared.place.Placed.{Placed as Said}
-use Rattle.expressing.specs.bridge.Walks.{Places}
+use Rattle.expressing.specs.declared.place.Measured.{Measured}
+use Rattle.expressing.specs.bridge.Walks.{Walks, Places, allPlaced, Measures}
 use Rattle.expressing.specs.bridge.Filtered.{refBelow}
 
 -- ---- references
@@ -87,6 +91,11 @@ same-is b n h = rw h
 
 -- ---- filter by filter
 
+pub no-lines : (cs : List Bytes) (n : ℕ) → placedFilters cs n [] ≡ record { many = 0; lines = [] }
+unfolding placedFilters
+no-lines cs zero = refl
+no-lines cs (suc n) = refl
+
 -- those placed so far in front of those that are left are the whole
 pub record Going (cs : List Bytes) (s : Bytes) (k from many : ℕ) (e : Em) (whole : Placed) (start : Em) : Type 0 where
   pub count : many + placedFilters cs k (linesFrom s from) .many ≡ whole .many
@@ -108,20 +117,19 @@ module _ (cs : List Bytes) (s : Bytes) (k from many : ℕ) (e : Em) (whole : Pla
   unfolding placedFilters
   going-done h r q = let z : k ≡ 0 = omega arith in nothing (ap (λ (n : ℕ). placedFilters cs n (linesFrom s from)) z) r q
 
+  pub going-end : length s ≤ from → (r : Said) → r .many ≡ many → Places whole start e r
+  going-end h r q = nothing (ap (placedFilters cs k) (lines-end s from h) ∙ no-lines cs k) r q
+
   module _ (more : 0 < k) (end : ℕ) (l : LineEnd s from end) where
     pub going-stop : end ≡ length s → (r : Said) → r .many ≡ many → Places whole start e r
     unfolding placedFilters treeToExpression expressionLines partsBelow severalParts isTrueLine same
     going-stop q r p = nothing (⊎-elim (λ (z : linesFrom s from ≡ []). none z) (λ (z : linesFrom s from ≡ [] ∷ []). open-line z) (nothing-here s from end l q)) r p
       where
-        empty : (n : ℕ) → placedFilters cs n [] ≡ record { many = 0; lines = [] }
-        empty zero = refl
-        empty (suc n) = refl
-
         none : linesFrom s from ≡ [] → placedFilters cs k (linesFrom s from) ≡ record { many = 0; lines = [] }
-        none z = ap (placedFilters cs k) z ∙ empty k
+        none z = ap (placedFilters cs k) z ∙ no-lines cs k
 
         open-line : linesFrom s from ≡ [] ∷ [] → placedFilters cs k (linesFrom s from) ≡ record { many = 0; lines = [] }
-        open-line z = let j : k ≡ suc (k - 1) = omega arith in ap₂ (placedFilters cs) j z ∙ empty (k - 1)
+        open-line z = let j : k ≡ suc (k - 1) = omega arith in ap₂ (placedFilters cs) j z ∙ no-lines cs (k - 1)
 
     module _ (more-lines : end ≡ length s → ⊥) where
       inside : end < length s
@@ -143,6 +151,21 @@ module _ (cs : List Bytes) (s : Bytes) (k from many : ℕ) (e : Em) (whole : Pla
           let n = lines-next s from end (l .ends inside) inside in
           ap₂ (placedFilters cs) j n
           ∙ (λ i. oneMore (not (isTrueLine (split 9 (part from end s))) && treeToExpression cs (sym j i) (sym n i) .expressed) (treeToExpression cs (sym j i) (sym n i) .lines) (placedFilters cs (k - 1) (treeToExpression cs (sym j i) (sym n i) .left)))
+
+      -- the filter here is placed and so is each behind it, exactly if each from here on is
+      every-opened : allPlaced cs k (linesFrom s from) ≡ ((not (isTrueLine (split 9 (part from end s))) && Tried .expressed) && allPlaced cs (k - 1) (Tried .left))
+      unfolding allPlaced
+      every-opened =
+          let j : k ≡ suc (k - 1) = omega arith in
+          let n = lines-next s from end (l .ends inside) inside in
+          ap₂ (allPlaced cs) j n
+          ∙ (λ i. (not (isTrueLine (split 9 (part from end s))) && treeToExpression cs (sym j i) (sym n i) .expressed) && allPlaced cs (k - 1) (treeToExpression cs (sym j i) (sym n i) .left))
+
+      pub every-next : (a d t x b : Bool) (next : ℕ) (Q : Type 0) → t ≡ isTrueLine (split 9 (part from end s)) → x ≡ Tried .expressed → b ≡ (not t && x) → linesFrom s next ≡ Tried .left → d ≡ (a && b)
+          → (a ≡ true → allPlaced cs k (linesFrom s from) ≡ true → Q) → d ≡ true → allPlaced cs (k - 1) (linesFrom s next) ≡ true → Q
+      every-next a d t x b next Q p q r n e f h i =
+          let is : b ≡ (not (isTrueLine (split 9 (part from end s))) && Tried .expressed) = r ∙ ap₂ (λ (c d : Bool). not c && d) p q in
+          f (and-left a b (sym e ∙ h)) (every-opened ∙ ap₂ (λ (c d : Bool). c && d) (sym is ∙ and-right a b (sym e ∙ h)) (ap (allPlaced cs (k - 1)) (sym n) ∙ i))
 
       pub going-next : (t x b : Bool) (next m : ℕ) (e′ : Em) → t ≡ isTrueLine (split 9 (part from end s)) → x ≡ Tried .expressed → b ≡ (not t && x) → linesFrom s next ≡ Tried .left
           → e′ ≡ cond b (puts (textOf (Tried .lines)) e) e → m ≡ cond b (many + 1) many → Going cs s (k - 1) next m e′ whole start
@@ -177,3 +200,75 @@ module _ (cs : List Bytes) (s : Bytes) (k from many : ℕ) (e : Em) (whole : Pla
 pub count-fits : (b : Bool) (n m k top : ℕ) → 0 < k → m ≡ cond b (n + 1) n → n + k ≤ top → m + (k - 1) ≤ top
 count-fits true n m k top h e i = omega arith
 count-fits false n m k top h e i = omega arith
+
+-- ---- nothing written
+
+nothing-set : (p : Bytes) (a : ℕ) → sets {A = ℕ} [] a p ≡ []
+nothing-set [] a = refl
+nothing-set (x ∷ p) a = nothing-set p (suc a)
+
+-- an empty buffer stays empty
+pub tried-is : (s : Bytes) (w : Walked) (a k : ℕ) (o : Bytes) (r : Went) → Walks s w (em a []) (em k o) r → Walks s w (em a []) (em k []) r
+tried-is s w a k o r x =
+    let e : o ≡ [] = ap (λ (y : Em). y .out) (x .lines) ∙ puts-out (textOf (w .lines)) (em a []) (omega arith) ∙ nothing-set (textOf (w .lines)) a in
+    subst (λ (b : Bytes). Walks s w (em a []) (em k b) r) e x
+
+pub end-is : (b : Bool) (x : Bytes) (a k m : ℕ) → em k [] ≡ puts x (em a []) → m ≡ cond b k a → em m [] ≡ cond b (puts x (em a [])) (em a [])
+end-is true x a k m e h = ap (λ (n : ℕ). em n []) h ∙ e
+end-is false x a k m e h = ap (λ (n : ℕ). em n []) h
+
+pub measured : (cs : List Bytes) (s : Bytes) (r : Measured) → Places (placedFilters cs (length s) (linesFrom s 0)) (em 0 []) (em (r .size) []) (record { many = r .many; at = r .size }) → (r .all ≡ true → allPlaced cs (length s) (linesFrom s 0) ≡ true) → r .many ≤ length s → Measures cs s r
+measured cs s r p a f = record { many = p .many; size = p .lines; all = a; few = f }
+
+-- ---- each is placed
+
+module _ (cs : List Bytes) where
+  every-none : (n : ℕ) → allPlaced cs n [] ≡ true
+  unfolding allPlaced
+  every-none zero = refl
+  every-none (suc n) = refl
+
+  pub every-end : (s : Bytes) (k from : ℕ) → length s ≤ from → allPlaced cs k (linesFrom s from) ≡ true
+  every-end s k from h = ap (allPlaced cs k) (lines-end s from h) ∙ every-none k
+
+  pub every-done : (k : ℕ) (ls : List Line) → k ≤ 0 → allPlaced cs k ls ≡ true
+  unfolding allPlaced
+  every-done k ls h = let z : k ≡ 0 = omega arith in ap (λ (n : ℕ). allPlaced cs n ls) z
+
+  abbrev Step : ℕ → ℕ → List Line → Type 0
+  Step k m ls = (placedFilters cs k ls .lines ≡ treeToExpression cs k ls .lines ++ placedFilters cs m (treeToExpression cs k ls .left) .lines) × (allPlaced cs m (treeToExpression cs k ls .left) ≡ true)
+
+  step : (n : ℕ) (ls : List Line) → allPlaced cs (suc n) ls ≡ true → Step (suc n) n ls
+  unfolding placedFilters treeToExpression allPlaced
+  step n [] h = (ap (λ (x : Placed). x .lines) (sym (no-lines cs n)), every-none n)
+  step n (l ∷ ls) h =
+      let T = treeToExpression cs (suc n) (l ∷ ls) in
+      let b = not (isTrueLine l) && T .expressed in
+      (ap (λ (d : Bool). oneMore d (T .lines) (placedFilters cs n (T .left)) .lines) (and-left b (allPlaced cs n (T .left)) h), and-right b (allPlaced cs n (T .left)) h)
+
+  module _ (s : Bytes) (k from : ℕ) (e g : Em) (inv : puts (textOf (placedFilters cs k (linesFrom s from) .lines)) e ≡ g) where
+    all-put : placedFilters cs k (linesFrom s from) .lines ≡ [] → e ≡ g
+    unfolding textOf
+    all-put z = sym (puts-nil e) ∙ ap (λ (ls : List Line). puts (textOf ls) e) (sym z) ∙ inv
+
+    pub every-put-end : length s ≤ from → e ≡ g
+    every-put-end h = all-put (ap (λ (x : Placed). x .lines) (ap (placedFilters cs k) (lines-end s from h) ∙ no-lines cs k))
+
+    pub every-put-done : k ≤ 0 → e ≡ g
+    unfolding placedFilters
+    every-put-done h = let z : k ≡ 0 = omega arith in all-put (ap (λ (n : ℕ). placedFilters cs n (linesFrom s from) .lines) z)
+
+    pub every-put-next : 0 < k → allPlaced cs k (linesFrom s from) ≡ true → (f : Em) (r : Went) → Walks s (treeToExpression cs k (linesFrom s from)) e f r
+        → (allPlaced cs (k - 1) (linesFrom s (r .from)) ≡ true) × (puts (textOf (placedFilters cs (k - 1) (linesFrom s (r .from)) .lines)) f ≡ g)
+    every-put-next h a f r w =
+        let j : k ≡ suc (k - 1) = omega arith in
+        let ls = linesFrom s from in
+        let T = treeToExpression cs k ls in
+        let t : Step k (k - 1) ls = subst (λ (n : ℕ). Step n (k - 1) ls) (sym j) (step (k - 1) ls (ap (λ (n : ℕ). allPlaced cs n ls) (sym j) ∙ a)) in (
+          ap (allPlaced cs (k - 1)) (w .left) ∙ t .1,
+          ap₂ (λ (m : List Line) (x : Em). puts (textOf (placedFilters cs (k - 1) m .lines)) x) (w .left) (w .lines)
+              ∙ sym (puts-append (textOf (T .lines)) (textOf (placedFilters cs (k - 1) (T .left) .lines)) e)
+              ∙ ap (λ (z : Bytes). puts z e) (sym (text-append (T .lines) (placedFilters cs (k - 1) (T .left) .lines)))
+              ∙ ap (λ (m : List Line). puts (textOf m) e) (sym (t .0))
+              ∙ inv,
+        )

@@ -13,7 +13,7 @@ use Rattle.text.specs.Word.{bytes}
 use Rattle.cursor.specs.bridge.Cursor.{left}
 use Rattle.emit.specs.bridge.Emit.{Em, puts}
 use Rattle.emit.proofs.Laws.{puts-append, puts-nil}
-use Rattle.walking.specs.bridge.Walk.{numberIn}
+use Rattle.scoping.specs.bridge.Walk.{numberIn}
 use Rattle.walking.proofs.Laws.{line-split}
 use Rattle.merging.specs.Request.{position}
 use Rattle.filtering.specs.bridge.Terms.{formOf, isExpressed, termOf}

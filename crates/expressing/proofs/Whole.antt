@@ -1,12 +1,12 @@
 -- The call filters, from places in its texts to the bytes. Assumes nothing.
-use Prim.Native.Nat.{ℕ, _-_, _≤_, _<_}
+use Prim.Native.Nat.{ℕ, zero, suc, _+_, _-_, _*_, _≤_, _<_, min}
 use mathlib.Core.Path.{_≡_, refl, sym, ap, ap₂, subst, _∙_}
 use mathlib.Core.Bool.{Bool, true, false, not, _&&_}
 use mathlib.Core.List.{List, [], _∷_, _++_}
 use mathlib.Core.Option.{none}
 use native.Mathlib.Omega.{arith}
-use lib.ListN.{length, take, drop, length-drop}
-use lib.Seq.{take-all}
+use lib.ListN.{length, take, drop, length-drop, length-append}
+use lib.Seq.{take-all, length-take-le}
 use borrow.Author.Tests.{not-true, not-false}
 use Rattle.text.specs.Text.{Bytes, Line, ended, textOf, part, linesFrom}
 use Rattle.text.specs.Word.{bytes}
@@ -16,7 +16,8 @@ use Rattle.algebra.specs.Layout.{put, putFilters, layout}
 use Rattle.algebra.specs.Reader.{reads, refuses, malformed, overBound}
 use Rattle.algebra.specs.Texts.{readTree, readFilters}
 use Rattle.emit.specs.bridge.Emit.{Em, em, last, puts}
-use Rattle.emit.proofs.Laws.{puts-append}
+use Rattle.emit.proofs.Laws.{puts-append, puts-at, puts-past}
+use Rattle.algebra.proofs.Theorem.{filters-exactly}
 use Rattle.answers.specs.declared.Answer.the-variants.{Written, Malformed, OverBound, Outside, TooShort}
 use Rattle.answers.specs.Outcome.{written, refusedUnless, Reported, Answered}
 use Rattle.answers.proofs.Answers.{too-short, all-written, answered}
@@ -36,8 +37,8 @@ use Rattle.placing.specs.bridge.Fields.{columnsOn}
 use Rattle.placing.specs.bridge.Ends.{EndsAt}
 use Rattle.placing.proofs.Repeated.{repeated-append}
 use Rattle.placing.proofs.Inner.{none-found, Found, is-found, way, columns-are, modified, inner-copied, rest-text}
-use Rattle.expressing.specs.declared.place.Placed.{Placed as Said}
-use Rattle.expressing.specs.bridge.Walks.{Places}
+use Rattle.expressing.specs.declared.place.Measured.{Measured}
+use Rattle.expressing.specs.bridge.Walks.{Measures}
 use Rattle.expressing.specs.bridge.Filtered.{refBelow, filteredAt}
 
 -- ---- the six pieces
@@ -59,6 +60,31 @@ filtered-put s inner end ands ls e a b c d g r p q t u v w =
     ∙ puts-append X (A ++ (textOf ls ++ drop end s)) _
     ∙ puts-append A (textOf ls ++ drop end s) _
     ∙ puts-append (textOf ls) (drop end s) _)
+
+-- ---- how long they are
+
+and-lines : (n : ℕ) → length (textOf (repeated n (bytes "and") [])) ≡ n * 4
+unfolding textOf ended repeated
+and-lines zero = refl
+and-lines (suc n) = omega (arith, and-lines n)
+
+answer-length : (s : Bytes) (inner end ands : ℕ) (ls : List Line) → inner ≤ end → end ≤ length s → length (filteredAt s inner end ands ls) ≡ length s + 7 + ands * 4 + length (textOf ls)
+unfolding filteredAt
+answer-length s inner end ands ls low high =
+    let A = textOf (repeated ands (bytes "and") []) in
+    let X = part inner end s in
+    let a : length (take inner s) ≡ inner = length-take-le inner s (omega arith) in
+    let b : length X ≡ end - inner = length-take-le (end - inner) (drop inner s) (simp length-drop (omega arith)) in
+    let c = and-lines ands in
+    let d = length-drop end s in
+    let p = length-append (take inner s) (bytes "filter\n" ++ (X ++ (A ++ (textOf ls ++ drop end s)))) in
+    let q = length-append X (A ++ (textOf ls ++ drop end s)) in
+    let r = length-append A (textOf ls ++ drop end s) in
+    let t = length-append (textOf ls) (drop end s) in
+    omega arith
+
+pub text-short : (s : Bytes) (fs : List Filter) → readFilters s ≡ reads fs → length s ≤ 16384
+text-short s fs e = let x = filters-exactly s fs .0 e in subst (λ (b : Bytes). length b ≤ 16384) (x .0) (x .2 .bytes)
 
 -- ---- the outcome
 
@@ -111,7 +137,7 @@ module _ (tree filters : Bytes) (p : Pattern) (fs : List Filter) (e : readTree t
             (λ i. placedFilters (sym cs-are i) (length filters) (sym (filters-at filters fs f) i))
             (filters-placed (At .columns) fs (length filters) (filters-valid filters fs f) (filters-long filters fs f))
 
-        module _ (j : Said) (x y : Em) (k : Places Put x y j) where
+        module _ (j : Measured) (k : Measures cs filters j) where
           many-is : j .many ≡ length (expressions (At .columns) fs)
           many-is = k .many ∙ placed-as .many
 
@@ -153,12 +179,18 @@ module _ (tree filters : Bytes) (p : Pattern) (fs : List Filter) (e : readTree t
             answer-is : filtersOutcome tree filters ≡ written Answer
             answer-is = written-is ∙ ap written filtered-layout
 
-            module _ (out : Bytes) (need : ℕ) (tiny tiny′ : Bytes) (measure : em need tiny′ ≡ puts Answer (em 0 tiny)) where
+            module _ (out : Bytes) (need : ℕ) (size : need ≡ min (length tree + 7 + (j .many - 1) * 4 + j .size) last) where
+              measure : em need [] ≡ puts Answer (em 0 [])
+              measure =
+                  let a = answer-length tree inner end (j .many - 1) (Put .lines) (o .low) (o .high) in
+                  let m : j .size ≡ min (0 + length (textOf (Put .lines))) last = ap (λ (e : Em). e .at) (k .size) ∙ puts-at (textOf (Put .lines)) (em 0 []) (omega arith) in
+                  puts-past Answer 0 need [] (omega arith) (omega arith) (omega arith)
+
               pub filters-short : length out < need → Answered (filtersOutcome tree filters) out out TooShort
-              filters-short h = answered _ _ out out TooShort answer-is (too-short _ out need tiny tiny′ measure h)
+              filters-short h = answered _ _ out out TooShort answer-is (too-short _ out need [] [] measure h)
 
               pub filters-all : (size : ℕ) (out′ : Bytes) → need ≤ length out → length out < last → em size out′ ≡ puts Answer (em 0 out) → Answered (filtersOutcome tree filters) out out′ (Written size)
-              filters-all size out′ i j k = answered _ _ out out′ (Written size) answer-is (all-written _ out need tiny tiny′ measure size out′ i j k)
+              filters-all size out′ i j k = answered _ _ out out′ (Written size) answer-is (all-written _ out need [] [] measure size out′ i j k)
 
 -- ---- a text that is refused
 

@@ -2,6 +2,7 @@
 use crate::head::parts_below;
 use crate::head::put_head;
 use placing::steps::both;
+use text::find;
 use walking::line::line_end;
 ghost use Prim.Native.Nat.{_≤_};
 ghost use Rattle.text.specs.Text.{linesFrom};
@@ -47,11 +48,12 @@ pub fn tree_to_expression(
             at,
         };
     }
-    let head = put_head(tree, starts, sizes, n, filters, from, end, out, at);
+    let word = find(filters, from, end, 9);
+    let head = put_head(tree, starts, sizes, n, filters, from, word, end, out, at);
     let mut expressed = head.expressed;
     let mut to = head.at;
     let mut next = end + 1;
-    let mut parts = parts_below(filters, from, end);
+    let mut parts = parts_below(filters, from, word, end);
     while 0 < parts {
         let part = tree_to_expression(tree, starts, sizes, n, filters, next, left - 1, out, to);
         expressed = both(expressed, part.expressed);

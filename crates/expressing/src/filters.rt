@@ -1,5 +1,6 @@
 // The call filters: tree and filters to tree.
-use crate::place::put_filters;
+use crate::place::measure_filters;
+use crate::place::put_expressions;
 use algebra::Answer as Check;
 use answers::Answer;
 use emit::put_all;
@@ -7,7 +8,7 @@ use heads::copy;
 use negating::Outermost;
 use negating::outermost_projection;
 use placing::columns::read_columns;
-use placing::ends::pattern_end;
+use placing::ends::inner_end;
 use placing::field::field_at;
 use placing::field::position_of;
 use placing::steps::put_repeated;
@@ -17,7 +18,8 @@ use text::equal;
 use text::find;
 use walking::line::line_end;
 ghost use mathlib.Core.Path.{_≡_};
-ghost use Prim.Native.Nat.{_≤_, _<_};
+ghost use mathlib.Core.Bool.{true};
+ghost use Prim.Native.Nat.{_+_, _*_, _≤_, _<_, min};
 ghost use mathlib.Core.List.{List};
 ghost use lib.ListN.{length};
 ghost use Rattle.text.specs.Text.{part, split, linesFrom};
@@ -26,12 +28,13 @@ ghost use Rattle.algebra.specs.Query.{Filter};
 ghost use Rattle.algebra.specs.Reader.{reads};
 ghost use Rattle.algebra.specs.Texts.{readTree, readFilters};
 ghost use Rattle.names.specs.bridge.Names.{listing};
-ghost use Rattle.emit.specs.bridge.Emit.{em, puts};
+ghost use Rattle.emit.specs.bridge.Emit.{em, last, puts};
 ghost use Rattle.answers.specs.Outcome.{Answered};
 ghost use Rattle.scoping.specs.Sets.{all};
 ghost use Rattle.filtering.specs.bridge.FilterLines.{placedFilters};
 ghost use Rattle.filtering.specs.Filters.{filtersOutcome};
 ghost use Rattle.expressing.specs.bridge.Filtered.{refBelow, filteredAt};
+ghost use Rattle.expressing.specs.bridge.Walks.{allPlaced};
 
 const REF: [u8; 3] = *b"ref";
 
@@ -82,17 +85,30 @@ fn put_filtered(
     n: usize,
     filters: &[u8],
     ands: usize,
+    all: bool,
     out: &mut [u8],
 ) -> usize
-    requires { ⌜ (inner ≤ end) × (end ≤ length (now tree)) × (n ≤ 64) ⌝ }
+    requires { ⌜ (inner ≤ end) × (end ≤ length (now tree)) × (n ≤ 64) × (all ≡ true → allPlaced (listing (now tree) (now starts) (now sizes) n) (length (now filters)) (linesFrom (now filters) 0) ≡ true) ⌝ }
     ensures { λ r. ⌜ em r (now (out .exit)) ≡ puts (filteredAt (now (tree .entry)) inner end ands (placedFilters (listing (now (tree .entry)) (now (starts .entry)) (now (sizes .entry)) n) (length (now (filters .entry))) (linesFrom (now (filters .entry)) 0) .lines)) (em 0 (now (out .entry))) ⌝ }
 {
     let a = put_all(out, 0, &tree[..inner]);
     let b = put_all(out, a, &FILTER);
     let c = put_all(out, b, &tree[inner..end]);
     let d = put_repeated(&AND, ands, out, c);
-    let placed = put_filters(tree, starts, sizes, n, filters, out, d);
-    put_all(out, placed.at, &tree[end..])
+    let e = put_expressions(all, tree, starts, sizes, n, filters, out, d);
+    put_all(out, e, &tree[end..])
+}
+
+// How long that is, by the length of the expressions.
+fn filtered_size(tree: &[u8], ands: usize, size: usize) -> usize
+    requires { ⌜ (length (now tree) ≤ 16384) × (ands ≤ 16384) ⌝ }
+    ensures { λ r. ⌜ r ≡ min (length (now (tree .entry)) + 7 + ands * 4 + size) last ⌝ }
+{
+    let rest = tree.len() + 7 + ands * 4;
+    if usize::MAX - rest < size {
+        return usize::MAX;
+    }
+    rest + size
 }
 
 // For texts that were checked.
@@ -109,14 +125,17 @@ fn filters_of(tree: &[u8], filters: &[u8], out: &mut [u8]) -> Answer
     if !are_inside(filters, n) {
         return Answer::Outside;
     }
-    let mut none = [0u8; 0];
-    let placed = put_filters(tree, &starts, &sizes, n, filters, &mut none, 0);
+    let placed = measure_filters(tree, &starts, &sizes, n, filters);
     if placed.many == 0 {
         return copy(tree, out);
     }
     let ands = placed.many - 1;
-    let end = pattern_end(tree, inner);
-    let size = put_filtered(
+    let end = inner_end(tree, inner);
+    let size = filtered_size(tree, ands, placed.size);
+    if out.len() < size {
+        return Answer::TooShort;
+    }
+    let put = put_filtered(
         tree,
         inner,
         end,
@@ -125,24 +144,25 @@ fn filters_of(tree: &[u8], filters: &[u8], out: &mut [u8]) -> Answer
         n,
         filters,
         ands,
-        &mut none,
+        placed.all,
+        out,
     );
-    if out.len() < size {
-        return Answer::TooShort;
-    }
-    let put = put_filtered(tree, inner, end, &starts, &sizes, n, filters, ands, out);
     Answer::Written(put)
 }
 
-// For a tree that was checked.
-fn filters_by(tree: &[u8], filters: &[u8], out: &mut [u8]) -> Answer
+// For a tree that was checked; its table of names is used again, as filters have none.
+fn filters_by(
+    tree: &[u8],
+    filters: &[u8],
+    starts: &mut [u16; 1024],
+    sizes: &mut [u16; 1024],
+    hints: &mut [u16; 4096],
+    out: &mut [u8],
+) -> Answer
     requires { ⌜ ((p : Pattern) × (readTree (now tree) ≡ reads p)) ⌝ }
     ensures { λ r. ⌜ Answered (filtersOutcome (now (tree .entry)) (now (filters .entry))) (now (out .entry)) (now (out .exit)) r ⌝ }
 {
-    let mut starts = [0u16; 1024];
-    let mut sizes = [0u16; 1024];
-    let mut hints = [0u16; 4096];
-    match check_filters(filters, &mut starts, &mut sizes, &mut hints) {
+    match check_filters(filters, starts, sizes, hints) {
         Check::Good(_) => filters_of(tree, filters, out),
         Check::Malformed => Answer::Malformed,
         Check::OverBound => Answer::OverBound,
@@ -157,7 +177,7 @@ pub fn filters(tree: &[u8], filters: &[u8], out: &mut [u8]) -> Answer
     let mut sizes = [0u16; 1024];
     let mut hints = [0u16; 4096];
     match check_tree(tree, &mut starts, &mut sizes, &mut hints) {
-        Check::Good(_) => filters_by(tree, filters, out),
+        Check::Good(_) => filters_by(tree, filters, &mut starts, &mut sizes, &mut hints, out),
         Check::Malformed => Answer::Malformed,
         Check::OverBound => Answer::OverBound,
     }

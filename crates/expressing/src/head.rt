@@ -14,7 +14,7 @@ ghost use Prim.Native.Nat.{_+_, _≤_, _<_};
 ghost use mathlib.Core.List.{[], _∷_};
 ghost use mathlib.Core.Option.{some};
 ghost use lib.ListN.{length, getD, drop};
-ghost use Rattle.text.specs.Text.{part, split};
+ghost use Rattle.text.specs.Text.{part, split, First};
 ghost use Rattle.text.specs.Word.{bytes};
 ghost use Rattle.cursor.specs.bridge.Cursor.{left};
 ghost use Rattle.emit.specs.bridge.Emit.{em};
@@ -184,7 +184,7 @@ fn put_binary(name: &[u8], out: &mut [u8], at: usize) -> Head
     }
 }
 
-// The lines that the line from here to its end becomes; its parts' follow.
+// The lines that the line from here to its end becomes, whose word ends at `word`; its parts' follow.
 pub fn put_head(
     tree: &[u8],
     starts: &[u16; 64],
@@ -192,14 +192,14 @@ pub fn put_head(
     n: usize,
     filters: &[u8],
     from: usize,
+    word: usize,
     end: usize,
     out: &mut [u8],
     at: usize,
 ) -> Head
-    requires { ⌜ (n ≤ 64) × (from ≤ end) × (end < length (now filters)) ⌝ }
+    requires { ⌜ (n ≤ 64) × (from ≤ end) × (end < length (now filters)) × First 9 (now filters) from end word ⌝ }
     ensures { λ r. ⌜ Heads (expressionLines (listing (now (tree .entry)) (now (starts .entry)) (now (sizes .entry)) n) (split 9 (part from end (now (filters .entry))))) (em at (now (out .entry))) (em (r .at) (now (out .exit))) (r .expressed) ⌝ }
 {
-    let word = find(filters, from, end, 9);
     let first = word + 1;
     if equal(&filters[from..word], &LEAF) {
         return put_leaf(filters, first, end, out, at);
@@ -222,11 +222,10 @@ pub fn put_head(
 }
 
 // How many parts stand below the line from here to its end.
-pub fn parts_below(filters: &[u8], from: usize, end: usize) -> usize
-    requires { ⌜ (from ≤ end) × (end < length (now filters)) ⌝ }
+pub fn parts_below(filters: &[u8], from: usize, word: usize, end: usize) -> usize
+    requires { ⌜ (from ≤ end) × (end < length (now filters)) × First 9 (now filters) from end word ⌝ }
     ensures { λ r. ⌜ r ≡ partsBelow (split 9 (part from end (now (filters .entry)))) ⌝ }
 {
-    let word = find(filters, from, end, 9);
     if equal(&filters[from..word], &UN) {
         return 1;
     }

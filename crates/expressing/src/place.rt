@@ -6,13 +6,14 @@ use placing::steps::both;
 use walking::line::line_end;
 ghost use mathlib.Core.Path.{_≡_};
 ghost use Prim.Native.Nat.{_+_, _≤_, _<_};
-ghost use mathlib.Core.Bool.{cond};
+ghost use mathlib.Core.Bool.{cond, true};
+ghost use mathlib.Core.List.{[]};
 ghost use lib.ListN.{length};
 ghost use Rattle.text.specs.Text.{textOf, linesFrom};
 ghost use Rattle.emit.specs.bridge.Emit.{em, puts};
 ghost use Rattle.names.specs.bridge.Names.{listing};
 ghost use Rattle.filtering.specs.bridge.FilterLines.{treeToExpression, placedFilters};
-ghost use Rattle.expressing.specs.bridge.Walks.{Places};
+ghost use Rattle.expressing.specs.bridge.Walks.{Walks, Places, allPlaced, Measures};
 
 // A filter, and nothing written.
 fn try_filter(
@@ -23,12 +24,13 @@ fn try_filter(
     filters: &[u8],
     from: usize,
     left: usize,
+    at: usize,
 ) -> Walked
     requires { ⌜ n ≤ 64 ⌝ }
-    ensures { λ r. ⌜ (r .expressed ≡ treeToExpression (listing (now (tree .entry)) (now (starts .entry)) (now (sizes .entry)) n) left (linesFrom (now (filters .entry)) from) .expressed) × (linesFrom (now (filters .entry)) (r .from) ≡ treeToExpression (listing (now (tree .entry)) (now (starts .entry)) (now (sizes .entry)) n) left (linesFrom (now (filters .entry)) from) .left) ⌝ }
+    ensures { λ r. ⌜ Walks (now (filters .entry)) (treeToExpression (listing (now (tree .entry)) (now (starts .entry)) (now (sizes .entry)) n) left (linesFrom (now (filters .entry)) from)) (em at []) (em (r .at) []) r ⌝ }
 {
     let mut none = [0u8; 0];
-    tree_to_expression(tree, starts, sizes, n, filters, from, left, &mut none, 0)
+    tree_to_expression(tree, starts, sizes, n, filters, from, left, &mut none, at)
 }
 
 // The expression of a filter that is placed.
@@ -70,7 +72,7 @@ pub struct Placed {
 }
 
 // All filters, one after the other.
-pub fn put_filters(
+fn put_filters(
     tree: &[u8],
     starts: &[u16; 64],
     sizes: &[u16; 64],
@@ -91,7 +93,7 @@ pub fn put_filters(
         if end == filters.len() {
             return Placed { many, at: to };
         }
-        let tried = try_filter(tree, starts, sizes, n, filters, from, left);
+        let tried = try_filter(tree, starts, sizes, n, filters, from, left, 0);
         let placed = both(!is_constant_true(filters, from, end), tried.expressed);
         to = put_placed(placed, tree, starts, sizes, n, filters, from, left, out, to);
         many = one_more(many, placed);
@@ -99,4 +101,108 @@ pub fn put_filters(
         left -= 1;
     }
     Placed { many, at: to }
+}
+
+// How many filters are placed, how long their expressions' lines are, and whether that is all filters.
+pub struct Measured {
+    pub many: usize,
+    pub size: usize,
+    pub all: bool,
+}
+
+fn placed_end(placed: bool, end: usize, at: usize) -> usize
+    ensures { λ r. ⌜ r ≡ cond placed end at ⌝ }
+{
+    if placed {
+        return end;
+    }
+    at
+}
+
+// All filters, and nothing written.
+pub fn measure_filters(
+    tree: &[u8],
+    starts: &[u16; 64],
+    sizes: &[u16; 64],
+    n: usize,
+    filters: &[u8],
+) -> Measured
+    requires { ⌜ n ≤ 64 ⌝ }
+    ensures { λ r. ⌜ Measures (listing (now (tree .entry)) (now (starts .entry)) (now (sizes .entry)) n) (now (filters .entry)) r ⌝ }
+{
+    let mut many = 0;
+    let mut size = 0;
+    let mut all = true;
+    let mut from = 0;
+    let mut left = filters.len();
+    while 0 < left {
+        if filters.len() <= from {
+            return Measured { many, size, all };
+        }
+        let end = line_end(filters, from);
+        if end == filters.len() {
+            return Measured {
+                many,
+                size,
+                all: false,
+            };
+        }
+        let tried = try_filter(tree, starts, sizes, n, filters, from, left, size);
+        let placed = both(!is_constant_true(filters, from, end), tried.expressed);
+        size = placed_end(placed, tried.at, size);
+        many = one_more(many, placed);
+        all = both(all, placed);
+        from = tried.from;
+        left -= 1;
+    }
+    Measured { many, size, all }
+}
+
+// The expressions of all filters, each of which is placed.
+fn put_every(
+    tree: &[u8],
+    starts: &[u16; 64],
+    sizes: &[u16; 64],
+    n: usize,
+    filters: &[u8],
+    out: &mut [u8],
+    at: usize,
+) -> usize
+    requires { ⌜ (n ≤ 64) × (allPlaced (listing (now tree) (now starts) (now sizes) n) (length (now filters)) (linesFrom (now filters) 0) ≡ true) ⌝ }
+    ensures { λ r. ⌜ em r (now (out .exit)) ≡ puts (textOf (placedFilters (listing (now (tree .entry)) (now (starts .entry)) (now (sizes .entry)) n) (length (now (filters .entry))) (linesFrom (now (filters .entry)) 0) .lines)) (em at (now (out .entry))) ⌝ }
+{
+    let mut to = at;
+    let mut from = 0;
+    let mut left = filters.len();
+    while 0 < left {
+        if filters.len() <= from {
+            return to;
+        }
+        let walked = tree_to_expression(tree, starts, sizes, n, filters, from, left, out, to);
+        to = walked.at;
+        from = walked.from;
+        left -= 1;
+    }
+    to
+}
+
+// The expressions of the filters that are placed; where all are, none is tried first.
+pub fn put_expressions(
+    all: bool,
+    tree: &[u8],
+    starts: &[u16; 64],
+    sizes: &[u16; 64],
+    n: usize,
+    filters: &[u8],
+    out: &mut [u8],
+    at: usize,
+) -> usize
+    requires { ⌜ (n ≤ 64) × (all ≡ true → allPlaced (listing (now tree) (now starts) (now sizes) n) (length (now filters)) (linesFrom (now filters) 0) ≡ true) ⌝ }
+    ensures { λ r. ⌜ em r (now (out .exit)) ≡ puts (textOf (placedFilters (listing (now (tree .entry)) (now (starts .entry)) (now (sizes .entry)) n) (length (now (filters .entry))) (linesFrom (now (filters .entry)) 0) .lines)) (em at (now (out .entry))) ⌝ }
+{
+    if all {
+        return put_every(tree, starts, sizes, n, filters, out, at);
+    }
+    let placed = put_filters(tree, starts, sizes, n, filters, out, at);
+    placed.at
 }

@@ -19,8 +19,8 @@ use Rattle.words.specs.declared.Found.the-variants.{Is, None}
 use Rattle.words.specs.bridge.Code.{sortAt, groupOf, rowOf, rowFound, noCode, Tidy}
 use Rattle.cursor.specs.bridge.Cursor.{left}
 use Rattle.parted.proofs.Laws.{part-join, part-line}
-use Rattle.lines.specs.bridge.Below.{amountIn}
-use Rattle.walking.specs.bridge.Walk.{rowOr, numberIn}
+use Rattle.lines.specs.bridge.Below.{amountIn, Alone}
+use Rattle.scoping.specs.bridge.Walk.{rowOr, numberIn}
 use Rattle.walking.specs.bridge.Code.{LineEnd}
 use Rattle.walking.proofs.Laws.{tidy-is}
 use Rattle.filtering.specs.bridge.Copying.{plus, amounts, below, toCome, copying}
@@ -126,6 +126,16 @@ come-is s from end w a b c x y z l r p q i j k =
     ∙ sym (row-amount c a b)
     ∙ ap₂ (λ (g : List Below) (ns : List ℕ). amounts g ns) (ap (λ (o : Row). o .below) r ∙ sym (below-row (rowIn table (part from w s)))) (ap₂ (λ (m n : ℕ). m ∷ n ∷ []) p q)
     ∙ ap (λ (m : Line). amounts (below (rowIn table (getD m 0 []))) (numberIn (getD m 1 []) ∷ numberIn (getD m 2 []) ∷ [])) (sym l)
+
+-- a row that asks for no line
+no-amount : (n k a b : ℕ) → n ≡ 0 → k ≡ 0 → 0 ≡ amountIn n k a b
+no-amount n k a b p q = sym (ap₂ (λ (m f : ℕ). amountIn m f a b) p q)
+
+pub come-none : (s : Bytes) (from end w : ℕ) (c : Code) → split 9 (part from end s) ≡ part from w s ∷ left s (w + 1) end → rowOf c ≡ rowOr (rowIn table (part from w s)) → Alone c → 0 ≡ toCome (split 9 (part from end s))
+come-none s from end w c l r n =
+    let a = numberIn (getD (left s (w + 1) end) 0 []) in
+    let b = numberIn (getD (left s (w + 1) end) 1 []) in
+    come-is s from end w a b c 0 0 0 l r refl refl (no-amount (c .7) (c .8) a b (n .first .0) (n .first .1)) (no-amount (c .10) (c .11) a b (n .second .0) (n .second .1)) (no-amount (c .13) (c .14) a b (n .third .0) (n .third .1))
 
 -- a group is small if the row and the numbers are
 pub amount-fits : (n k a b r : ℕ) → r ≡ amountIn n k a b → n ≤ 3 → a < 4294967296 → b < 4294967296 → r ≤ 4294967298

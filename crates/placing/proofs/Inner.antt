@@ -29,7 +29,7 @@ use Rattle.placing.specs.bridge.Ends.{EndsAt}
 pub cancel : (a b c : Bytes) → a ++ b ≡ a ++ c → b ≡ c
 cancel a b c e = sym (drop-append-seam a b) ∙ ap (drop (length a)) e ∙ drop-append-seam a c
 
-inner-valid : {p : Pattern} {x : Projection} → Outermost p x → Valid p → Valid (x .inner)
+pub inner-valid : {p : Pattern} {x : Projection} → Outermost p x → Valid p → Valid (x .inner)
 unfolding Valid
 inner-valid here v = v .1
 inner-valid (under-distinct o) v = inner-valid o v

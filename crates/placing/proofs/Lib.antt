@@ -4,3 +4,4 @@ pub mod Listed
 pub mod Written
 pub mod Inner
 pub mod Repeated
+pub mod Bare

@@ -11,7 +11,7 @@ use Rattle.text.specs.bridge.Code.{numberIn}
 use Rattle.text.specs.declared.Number.{Number}
 use Rattle.text.specs.declared.Number.the-variants.{Is, Not}
 use Rattle.cursor.proofs.Laws.{left-none, left-next}
-use Rattle.walking.specs.bridge.Walk as W
+use Rattle.scoping.specs.bridge.Walk as W
 use Rattle.merging.specs.Request.{orZero, position}
 use Rattle.placing.specs.bridge.Fields.{FieldIs}
 

@@ -1,5 +1,7 @@
 // Where a pattern ends: line by line while something is to come, by the one table of words.
+use lines::below::alone;
 use lines::below::amount;
+use text::equal;
 use text::find;
 use walking::line::count_at;
 use walking::line::line_end;
@@ -7,14 +9,18 @@ use words::Found;
 use words::Row;
 use words::lookup;
 ghost use mathlib.Core.Path.{_≡_};
-ghost use Prim.Native.Nat.{_+_, _≤_, _<_};
+ghost use Prim.Native.Nat.{ℕ, _+_, _≤_, _<_};
 ghost use lib.ListN.{length};
 ghost use Rattle.text.specs.Text.{part, split, linesFrom};
+ghost use Rattle.algebra.specs.Tree.{Pattern};
+ghost use Rattle.algebra.specs.Reader.{reads};
+ghost use Rattle.algebra.specs.Texts.{readTree};
 ghost use Rattle.algebra.specs.bridge.Table.{table, rowIn};
-ghost use Rattle.walking.specs.bridge.Walk.{rowOr};
+ghost use Rattle.scoping.specs.bridge.Walk.{rowOr};
 ghost use Rattle.words.specs.bridge.Code.{rowOf};
+ghost use Rattle.negating.specs.bridge.Lines.{Projects};
 ghost use Rattle.filtering.specs.bridge.Copying.{toCome};
-ghost use Rattle.placing.specs.bridge.Ends.{Small, EndsAt};
+ghost use Rattle.placing.specs.bridge.Ends.{Small, EndsAt, isBare, bareDown};
 
 // The row of a word, whatever its sort; one without lines below where it is none.
 fn row_of(word: &[u8]) -> Row
@@ -27,7 +33,7 @@ fn row_of(word: &[u8]) -> Row
         }
         sort += 1;
     }
-    Row(0, 0, 0, 0, 0, 0, 0, 0, 0, 0, 0, 0, 0, 0, 0, 0)
+    Row(0, 0, 0, 0, 0, 0, 0, 0, 0, 0, 0, 0, 0, 0, 0, 0, 0)
 }
 
 // How many lines stand directly below a line.
@@ -37,6 +43,9 @@ fn lines_below(text: &[u8], from: usize, end: usize) -> u64
 {
     let word = find(text, from, end, 9);
     let row = row_of(&text[from..word]);
+    if alone(row) {
+        return 0;
+    }
     let a = count_at(text, word + 1, end);
     let b = count_at(text, a.next, end);
     amount(row.7, row.8, a.number, b.number)
@@ -60,4 +69,58 @@ pub fn pattern_end(text: &[u8], from: usize) -> usize
         at = end + 1;
     }
     at
+}
+
+const PROJECT: [u8; 7] = *b"project";
+
+const DISTINCT: [u8; 8] = *b"distinct";
+
+const REDUCED: [u8; 7] = *b"reduced";
+
+const SLICE: [u8; 5] = *b"slice";
+
+// A line with this word has a pattern below it and nothing else.
+fn is_bare(word: &[u8]) -> bool
+    ensures { λ r. ⌜ r ≡ isBare (now (word .entry)) ⌝ }
+{
+    if equal(word, &DISTINCT) {
+        return true;
+    }
+    if equal(word, &REDUCED) {
+        return true;
+    }
+    equal(word, &SLICE)
+}
+
+// Only such lines stand above the outermost projection's.
+fn is_bare_down(text: &[u8]) -> bool
+    ensures { λ r. ⌜ r ≡ bareDown (linesFrom (now (text .entry)) 0) ⌝ }
+{
+    let mut at = 0;
+    while at < text.len() {
+        let end = line_end(text, at);
+        if end == text.len() {
+            return false;
+        }
+        let word = find(text, at, end, 9);
+        if equal(&text[at..word], &PROJECT) {
+            return true;
+        }
+        if !is_bare(&text[at..word]) {
+            return false;
+        }
+        at = end + 1;
+    }
+    false
+}
+
+// Where the outermost projection's inner pattern ends: with the text, where nothing can stand behind it.
+pub fn inner_end(text: &[u8], inner: usize) -> usize
+    requires { ⌜ ((p : Pattern) × (readTree (now text) ≡ reads p)) × ((line : ℕ) × Projects (now text) 0 line inner) ⌝ }
+    ensures { λ r. ⌜ EndsAt (now (text .entry)) inner r ⌝ }
+{
+    if is_bare_down(text) {
+        return text.len();
+    }
+    pattern_end(text, inner)
 }

@@ -1,11 +1,14 @@
 -- Where a pattern's lines end. Assumes nothing.
 use Prim.Native.Nat.{ℕ, _≤_}
 use mathlib.Core.Path.{_≡_}
-use mathlib.Core.List.{List, _++_}
+use mathlib.Core.Bool.{Bool, true, false, cond, _||_}
+use mathlib.Core.List.{List, [], _∷_, _++_}
 use lib.ListN.{length}
-use Rattle.text.specs.Text.{Bytes, Line, textOf, part, linesFrom}
+use Rattle.text.specs.Text.{Bytes, Line, same, textOf, part, linesFrom}
+use Rattle.text.specs.Word.{bytes}
 use Rattle.text.proofs.Texts.{Ended}
 use Rattle.words.specs.declared.Row.{Row as Code}
+use Rattle.negating.specs.bridge.Lines.{word}
 use Rattle.filtering.specs.bridge.Copying.{copying}
 
 -- the numbers of lines that a row says itself are small
@@ -17,3 +20,14 @@ pub record EndsAt (s : Bytes) (from to : ℕ) : Type 0 where
   pub low : from ≤ to
   pub high : to ≤ length s
   pub copied : Ended (linesFrom s from) → (v : List Line) → textOf (copying (linesFrom s from) 1 v) ≡ part from to s ++ textOf v
+
+-- a line with this word has a pattern below it and nothing else
+unfoldable pub isBare : Bytes → Bool
+unfolding same
+isBare w = same w (bytes "distinct") || (same w (bytes "reduced") || same w (bytes "slice"))
+
+-- only such lines stand above the outermost projection's
+unfoldable pub bareDown : List Line → Bool
+unfolding isBare same
+bareDown [] = false
+bareDown (l ∷ ls) = cond (same (word l) (bytes "project")) true (cond (isBare (word l)) (bareDown ls) false)

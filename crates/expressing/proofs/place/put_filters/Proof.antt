@@ -37,6 +37,6 @@ put-filters-spec =
     (λ c κs. let b = c .before .before .before .before .before .before .before .before .before .before .loop .inv .2 in let t = c .before .before .before .before .before .before .before .before .before .loop-test .taken in let g = c .before .before .before .before .before .before .before .before .before .before .before .before .before .before .good in omega (arith, g))
     (λ c. search needs)
     (λ c. search needs)
-    (λ c. (search needs, C.going-next (listing (c .before .before .before .before .before .before .before .before .before .before .before .before .before .before .before .args .tree .now) (c .before .before .before .before .before .before .before .before .before .before .before .before .before .before .before .args .starts .now) (c .before .before .before .before .before .before .before .before .before .before .before .before .before .before .before .args .sizes .now) (c .before .before .before .before .before .before .before .before .before .before .before .before .before .before .before .args .n)) _ _ _ _ _ _ _ (c .before .before .before .before .before .before .before .before .before .before .before .loop .inv .1) (c .before .before .before .before .before .before .before .before .before .before .loop-test .taken) _ (c .before .before .before .before .before .before .before .before .before .line-end .ensures) (c .before .before .before .before .before .before .before .before .if1 .left) _ _ _ _ _ _ (c .before .before .before .before .before .before .is-constant-true .ensures) (c .before .before .before .before .before .before .before .try-filter .ensures .0) (c .before .before .before .before .before .both .ensures) (c .before .before .before .before .before .before .before .try-filter .ensures .1) (c .before .before .before .put-placed .ensures) (c .one-more .ensures), C.count-fits (c .before .before .before .before .before .both .result) _ _ _ _ (c .before .before .before .before .before .before .before .before .before .before .loop-test .taken) (c .one-more .ensures) (c .before .before .before .before .before .before .before .before .before .before .before .loop .inv .2)))
+    (λ c. (search needs, C.going-next (listing (c .before .before .before .before .before .before .before .before .before .before .before .before .before .before .before .args .tree .now) (c .before .before .before .before .before .before .before .before .before .before .before .before .before .before .before .args .starts .now) (c .before .before .before .before .before .before .before .before .before .before .before .before .before .before .before .args .sizes .now) (c .before .before .before .before .before .before .before .before .before .before .before .before .before .before .before .args .n)) _ _ _ _ _ _ _ (c .before .before .before .before .before .before .before .before .before .before .before .loop .inv .1) (c .before .before .before .before .before .before .before .before .before .before .loop-test .taken) _ (c .before .before .before .before .before .before .before .before .before .line-end .ensures) (c .before .before .before .before .before .before .before .before .if1 .left) _ _ _ _ _ _ (c .before .before .before .before .before .before .is-constant-true .ensures) (c .before .before .before .before .before .before .before .try-filter .ensures .expressed) (c .before .before .before .before .before .both .ensures) (c .before .before .before .before .before .before .before .try-filter .ensures .left) (c .before .before .before .put-placed .ensures) (c .one-more .ensures), C.count-fits (c .before .before .before .before .before .both .result) _ _ _ _ (c .before .before .before .before .before .before .before .before .before .before .loop-test .taken) (c .one-more .ensures) (c .before .before .before .before .before .before .before .before .before .before .before .loop .inv .2)))
     (λ c. c .before .loop .inv .0)
     (λ c. C.going-done (listing (c .before .before .before .before .before .args .tree .now) (c .before .before .before .before .before .args .starts .now) (c .before .before .before .before .before .args .sizes .now) (c .before .before .before .before .before .args .n)) _ _ _ _ _ _ _ (c .before .loop .inv .1) (c .loop-test .left) _ refl))

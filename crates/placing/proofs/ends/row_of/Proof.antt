@@ -25,7 +25,7 @@ row-of-spec =
     (λ c. (omega arith, C.row-start _))
     (λ c κs. search needs)
     (λ c. search needs)
-    (λ c. (C.row-hit _ _ (c .before .before .before .before .loop-test .taken) _ (c .before .before .before .lookup .ensures .0) (c .before .before .before .before .before .loop .inv .1) _ (c .before .row .given .1), C.row-small _ _ _ (c .before .before .before .lookup .ensures .1) (c .before .row .given .1)))
+    (λ c. (C.row-hit _ _ (c .before .before .before .before .loop-test .taken) _ (c .before .before .before .lookup .ensures .0) (c .before .before .before .before .before .loop .inv .1) _ (c .before .row .given .1), C.row-small _ _ _ (c .before .before .before .lookup .ensures .1 .0) (c .before .row .given .1)))
     (λ c. search needs)
     (λ c. search needs)
     (λ c. search needs)
