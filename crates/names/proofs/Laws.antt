@@ -230,10 +230,10 @@ module _ (s f : Bytes) (a l h : List ℕ) (n : ℕ) (want : List Bytes) (holds :
 
 -- ---- the entry of a name that is kept
 
-pub listing-at : (s : Bytes) (a l : List ℕ) (n i : ℕ) → i < n → getD (listing s a l n) i [] ≡ nameAt s a l i
+pub listing-at : (s : Bytes) (a l : List ℕ) (i n : ℕ) → i < n → getD (listing s a l n) i [] ≡ nameAt s a l i
 unfolding listing
-listing-at s a l zero i h = absurd (omega arith)
-listing-at s a l (suc n) i h = ⊎-elim (λ (e : i ≡ n). rw e (last n (listing-long s a l n))) (λ k. getD-front (listing s a l n) (nameAt s a l n ∷ []) i (rw (listing-long s a l n) k) ∙ listing-at s a l n i k) (eq-or-lt-of-le (omega arith))
+listing-at s a l i zero h = absurd (omega arith)
+listing-at s a l i (suc n) h = ⊎-elim (λ (e : i ≡ n). rw e (last n (listing-long s a l n))) (λ k. getD-front (listing s a l n) (nameAt s a l n ∷ []) i (rw (listing-long s a l n) k) ∙ listing-at s a l i n k) (eq-or-lt-of-le (omega arith))
   where
     last : (k : ℕ) → length (listing s a l n) ≡ k → getD (listing s a l n ++ (nameAt s a l n ∷ [])) k [] ≡ nameAt s a l n
     last k e = rw (← e) (getD-behind (listing s a l n) (nameAt s a l n))
@@ -268,7 +268,7 @@ module _ (s f : Bytes) (a l : List ℕ) (n : ℕ) where
     tables = λ t. t;
     more = λ m t. ([], sym (append-nil (listing s a l n)));
     inside = λ m. k;
-    here = λ m t. listing-at s a l n r k ∙ sym (same-eq f (nameAt s a l r) (e k));
+    here = λ m t. listing-at s a l r n k ∙ sym (same-eq f (nameAt s a l r) (e k));
   }
 
   -- it is new
@@ -280,7 +280,7 @@ module _ (s f : Bytes) (a l : List ℕ) (n : ℕ) where
     tables = λ t. (rw (length-set a n from) (t .0), rw (length-set l n size) (t .1));
     more = λ m t. (nameAt s (set a n from) (set l n size) n ∷ [], rw (add-one, listing-below s a l n from size n (omega arith)));
     inside = λ m. omega arith;
-    here = λ m t. listing-at s (set a n from) (set l n size) (n + 1) n (omega arith) ∙ rw (getD-set-same a n from 0 (let q = t .0 in omega arith), getD-set-same l n size 0 (let q = t .1 in omega arith)) (sym e);
+    here = λ m t. listing-at s (set a n from) (set l n size) n (n + 1) (omega arith) ∙ rw (getD-set-same a n from 0 (let q = t .0 in omega arith), getD-set-same l n size 0 (let q = t .1 in omega arith)) (sym e);
   }
 
 -- for callers that know what the table lists

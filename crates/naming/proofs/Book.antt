@@ -13,7 +13,7 @@ use Rattle.text.specs.Text.{Bytes, same, piece}
 use Rattle.algebra.specs.Valid.{mem}
 use Rattle.names.specs.bridge.Names.{nameAt, listing, kept, Holds}
 use Rattle.names.proofs.Laws.{listing-long, holds-long, holds-none}
-use Rattle.walking.proofs.Laws.{listing-at}
+use Rattle.names.proofs.Laws.{listing-at}
 use Rattle.scoping.specs.Label.{base}
 use Rattle.scoping.specs.bridge.Pushes.{Push, aPush, contains, pushed}
 use Rattle.naming.specs.bridge.Code.{book, Stored, LabelAt}

@@ -14,7 +14,7 @@ use Rattle.text.proofs.Basics.{same-eq}
 use Rattle.algebra.specs.Valid.{mem}
 use Rattle.names.specs.bridge.Names.{nameAt, listing, Hinted}
 use Rattle.names.proofs.Laws.{listing-long, listed}
-use Rattle.walking.proofs.Laws.{listing-at}
+use Rattle.names.proofs.Laws.{listing-at}
 use Rattle.scoping.specs.Label.{label, isLabel, base, generated}
 use Rattle.scoping.specs.bridge.Pushes.{Push, aPush, lookup, contains, pushed, pushes, allPushes}
 use Rattle.scoping.specs.Sets.{indexOf}

@@ -22,8 +22,8 @@ use Rattle.scoping.specs.Label.{label, generated}
 use Rattle.scoping.specs.Standardize.{orSelf}
 use Rattle.scoping.specs.bridge.Pushes.{Push, lookup, newName}
 use Rattle.scoping.proofs.Index.{at-index, index-below}
-use Rattle.walking.specs.bridge.Code.{replacement}
-use Rattle.walking.proofs.Laws.{listing-at}
+use Rattle.scoping.specs.bridge.Becomes.{replacement}
+use Rattle.names.proofs.Laws.{listing-at}
 use Rattle.naming.specs.declared.Hit.{Hit}
 use Rattle.naming.specs.declared.Hit.the-variants.{Missing, Plain, Labelled}
 use Rattle.naming.specs.bridge.Code.{said, written, Laid, becomesAt, Settled, SettledTo, Standard}

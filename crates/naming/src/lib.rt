@@ -17,7 +17,7 @@ ghost use Rattle.names.specs.bridge.Names.{nameAt, listing, Hinted};
 ghost use Rattle.emit.specs.bridge.Emit.{em, puts};
 ghost use Rattle.scoping.specs.Label.{isLabel, base as baseOf, generated};
 ghost use Rattle.scoping.specs.bridge.Pushes.{lookup, contains, pushed, pushes, allPushes};
-ghost use Rattle.walking.specs.bridge.Flags.{chosen};
+ghost use Rattle.scoping.specs.bridge.Becomes.{chosen};
 ghost use Rattle.naming.specs.bridge.Code.{book, Stored, Apart, LabelAt, Room, numberedBy, namesAt, said, written, Laid, Settled, Standard};
 
 fn wide(x: u16) -> usize

@@ -15,7 +15,8 @@ use Rattle.cursor.specs.bridge.Cursor.{left}
 use Rattle.cursor.proofs.Laws.{left-none}
 use Rattle.walking.specs.bridge.Code.{LineEnd}
 use Rattle.walking.proofs.Lines.{nothing-here}
-use Rattle.walking.proofs.Laws.{listing-at, line-split}
+use Rattle.names.proofs.Laws.{listing-at}
+use Rattle.walking.proofs.Laws.{line-split}
 use Rattle.placing.specs.declared.field.Field.{Field}
 use Rattle.placing.specs.bridge.Fields.{FieldIs, columnsOn}
 

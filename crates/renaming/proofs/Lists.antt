@@ -15,8 +15,8 @@ use Rattle.names.specs.bridge.Names.{nameAt, listing}
 use Rattle.names.proofs.Laws.{listing-long}
 use Rattle.emit.specs.bridge.Emit.{Em, em, puts}
 use Rattle.emit.proofs.Laws.{puts-append}
-use Rattle.walking.proofs.Laws.{listing-at}
-use Rattle.walking.specs.bridge.Flags.{chosen}
+use Rattle.names.proofs.Laws.{listing-at}
+use Rattle.scoping.specs.bridge.Becomes.{chosen}
 use Rattle.renaming.specs.bridge.Code.{chosenText, tabbed}
 
 -- ---- one name

@@ -32,7 +32,8 @@ use Rattle.scoping.proofs.Named.{named}
 use Rattle.scoping.proofs.FirstPlaces.{by-place-mem}
 use Rattle.scoping.specs.bridge.Spots.{Spot}
 use Rattle.lines.specs.bridge.Spotted.{spotsOf}
-use Rattle.walking.specs.bridge.Code.{replacement, renames}
+use Rattle.scoping.specs.bridge.Becomes.{replacement}
+use Rattle.walking.specs.bridge.Code.{renames}
 use Rattle.walking.specs.bridge.Rewritten.{rewritten}
 use Rattle.walking.proofs.Noted.{rewritten-tree}
 use Rattle.answers.specs.declared.Answer.the-variants.{Written, Malformed, OverBound, TooShort}

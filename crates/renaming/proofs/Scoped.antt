@@ -15,7 +15,8 @@ use Rattle.scoping.specs.Numbering.{byPlace}
 use Rattle.scoping.specs.Sets.{Once}
 use Rattle.scoping.specs.bridge.Spots.{Spot}
 use Rattle.lines.specs.bridge.Spotted.{spotsOf}
-use Rattle.walking.specs.bridge.Flags.{flagAll, chosen}
+use Rattle.scoping.specs.bridge.Becomes.{chosen}
+use Rattle.walking.specs.bridge.Flags.{flagAll}
 use Rattle.walking.specs.bridge.Code.{Inside}
 use Rattle.walking.specs.bridge.Rewritten.{flagSpots}
 use Rattle.walking.proofs.Noted.{spotted-inside, flagged-tree}

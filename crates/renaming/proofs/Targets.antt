@@ -19,7 +19,8 @@ use Rattle.cursor.specs.bridge.Cursor.{left}
 use Rattle.cursor.proofs.Laws.{left-none, left-all}
 use Rattle.scoping.specs.Sets.{indexOf}
 use Rattle.scoping.proofs.Index.{same-place}
-use Rattle.walking.specs.bridge.Code.{replacement, LineEnd}
+use Rattle.scoping.specs.bridge.Becomes.{replacement}
+use Rattle.walking.specs.bridge.Code.{LineEnd}
 use Rattle.walking.proofs.Laws.{line-split}
 use Rattle.walking.proofs.Lines.{nothing-here}
 use Rattle.renaming.specs.bridge.Code.{orOld, lookLast, Targets, Settled}

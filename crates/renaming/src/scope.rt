@@ -18,7 +18,7 @@ ghost use Rattle.names.specs.bridge.Names.{listing, nameAt};
 ghost use Rattle.emit.specs.bridge.Emit.{em, puts};
 ghost use Rattle.answers.specs.Outcome.{Answered};
 ghost use Rattle.renaming.specs.Scope.{scopeOutcome};
-ghost use Rattle.walking.specs.bridge.Flags.{chosen};
+ghost use Rattle.scoping.specs.bridge.Becomes.{chosen};
 ghost use Rattle.renaming.specs.bridge.Code.{Surveyed, chosenText, tabbed};
 
 // The names whose flags from `base` on are set, each after a tab.

@@ -3,3 +3,4 @@ pub mod Walk
 pub mod Spots
 pub mod Services
 pub mod Pushes
+pub mod Becomes

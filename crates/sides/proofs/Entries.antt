@@ -9,7 +9,7 @@ use lib.ListN.{length, getD, set}
 use lib.Seq.{getD-set-same, getD-set-other}
 use Rattle.text.specs.Text.{Bytes}
 use Rattle.names.specs.bridge.Names.{nameAt, listing}
-use Rattle.walking.proofs.Laws.{listing-at}
+use Rattle.names.proofs.Laws.{listing-at}
 use Rattle.naming.specs.bridge.Code.{namesAt}
 
 -- the entry that an array of variables has at a number

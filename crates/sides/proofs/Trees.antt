@@ -25,8 +25,10 @@ use Rattle.scoping.proofs.Named.{named}
 use Rattle.scoping.proofs.FirstPlaces.{by-place-mem, by-place-once}
 use Rattle.scoping.proofs.Alike.{rename-alike}
 use Rattle.lines.specs.bridge.Spotted.{spotsOf}
-use Rattle.walking.specs.bridge.Code.{replacement, renames, Inside}
-use Rattle.walking.specs.bridge.Flags.{flagAll, chosen}
+use Rattle.scoping.specs.bridge.Becomes.{replacement}
+use Rattle.walking.specs.bridge.Code.{renames, Inside}
+use Rattle.scoping.specs.bridge.Becomes.{chosen}
+use Rattle.walking.specs.bridge.Flags.{flagAll}
 use Rattle.walking.specs.bridge.Rewritten.{rewritten, flagSpots, Stands}
 use Rattle.walking.proofs.Noted.{spots-take, flagged-tree, column-count, rewritten-inner, stands-inner, rewritten-columns, stands-columns}
 use Rattle.walking.proofs.Chosen.{chosen-in-scope, chosen-hidden}

@@ -20,7 +20,8 @@ use Rattle.scoping.proofs.Index.{at-index, index-below, mem-at, index-at}
 use Rattle.scoping.proofs.Walked.{visible-in-scope, covered-hidden}
 use Rattle.scoping.proofs.FirstPlaces.{by-place-once}
 use Rattle.walking.specs.bridge.Walk.{flagged}
-use Rattle.walking.specs.bridge.Flags.{flagAll, chosen}
+use Rattle.scoping.specs.bridge.Becomes.{chosen}
+use Rattle.walking.specs.bridge.Flags.{flagAll}
 
 -- the flag is set
 abbrev on : List ℕ → ℕ → Bool

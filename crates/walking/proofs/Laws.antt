@@ -20,7 +20,7 @@ use Rattle.words.specs.declared.Row.{Row as Code}
 use Rattle.words.specs.declared.Found.{Found}
 use Rattle.words.specs.declared.Found.the-variants as W
 use Rattle.names.specs.bridge.Names.{nameAt, listing, Hinted}
-use Rattle.names.proofs.Laws.{listing-long, listed}
+use Rattle.names.proofs.Laws.{listing-long, listing-at, listed}
 use Rattle.cursor.specs.bridge.Cursor.{left}
 use Rattle.cursor.proofs.Laws.{left-none, left-next, left-all}
 use Rattle.lines.specs.bridge.Spotted.{markAt}
@@ -77,15 +77,6 @@ flag-silent (suc zero) k fl h i = absurd (i refl)
 flag-silent (suc (suc m)) k fl h i = refl
 
 -- ---- the entry of a name
-
-pub listing-at : (s : Bytes) (a l : List ℕ) (k n : ℕ) → k < n → getD (listing s a l n) k [] ≡ nameAt s a l k
-unfolding listing
-listing-at s a l k zero h = absurd (omega arith)
-listing-at s a l k (suc n) h =
-    ⊎-elim
-    (λ (q : k ≡ n). rw q (getD-at (listing s a l n) (nameAt s a l n) [] [] n (listing-long s a l n)))
-    (λ (q : k < n). List·getD-append (listing s a l n) (nameAt s a l n ∷ []) [] k (omega (arith, listing-long s a l n)) ∙ listing-at s a l k n q)
-    (eq-or-lt-of-le (omega arith))
 
 -- what find_name promises
 abbrev pub FoundAt : Bytes → Bytes → List ℕ → List ℕ → List ℕ → ℕ → ℕ → Type 0

@@ -20,10 +20,11 @@ use Rattle.scoping.specs.bridge.Spots.{Spot, spot}
 use Rattle.lines.specs.bridge.Spotted.{markAt, spotAt, spotsOf}
 use Rattle.walking.specs.bridge.Walk.{flagged}
 use Rattle.walking.specs.bridge.Rewritten.{rewritten, flagSpots, Stands}
-use Rattle.walking.proofs.Laws.{listing-at}
+use Rattle.names.proofs.Laws.{listing-at}
 use Rattle.walking.proofs.Stretches.{part-append, stands-lower, stands-high, copy-apart}
 use Rattle.walking.proofs.Noted.{spots-long, spots-at}
-use Rattle.walking.specs.bridge.Code.{replacement, renames, Inside, Stay, NextRenamed}
+use Rattle.scoping.specs.bridge.Becomes.{replacement}
+use Rattle.walking.specs.bridge.Code.{renames, Inside, Stay, NextRenamed}
 
 -- ---- names that stay
 

@@ -12,8 +12,8 @@ use Rattle.algebra.specs.Valid.{mem}
 use Rattle.names.specs.bridge.Names.{nameAt, listing, Holds}
 use Rattle.scoping.specs.Label.{label, base, generated}
 use Rattle.scoping.specs.bridge.Pushes.{Push, aPush, contains, newName}
-use Rattle.walking.specs.bridge.Code.{replacement}
-use Rattle.walking.specs.bridge.Flags.{chosen}
+use Rattle.scoping.specs.bridge.Becomes.{replacement}
+use Rattle.scoping.specs.bridge.Becomes.{chosen}
 use Rattle.naming.specs.declared.Hit.{Hit}
 use Rattle.naming.specs.declared.Hit.the-variants.{Missing, Plain, Labelled}
 

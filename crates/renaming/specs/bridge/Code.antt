@@ -14,8 +14,8 @@ use Rattle.algebra.specs.Texts.{readPairs}
 use Rattle.names.specs.bridge.Names.{listing}
 use Rattle.lines.specs.bridge.Spotted.{Noted}
 use Rattle.emit.specs.bridge.Emit.{Em, puts}
-use Rattle.walking.specs.bridge.Code.{replacement}
-use Rattle.walking.specs.bridge.Flags.{chosen}
+use Rattle.scoping.specs.bridge.Becomes.{replacement}
+use Rattle.scoping.specs.bridge.Becomes.{chosen}
 use Rattle.heads.specs.bridge.Known.{Known}
 
 -- a text that is a tree's was checked, and its variables were noted

@@ -16,7 +16,7 @@ use Rattle.names.specs.bridge.Names.{listing}
 use Rattle.scoping.specs.Numbering.{byPlace}
 use Rattle.scoping.specs.Premises.{sideName, inside}
 use Rattle.lines.specs.bridge.Spotted.{Noted}
-use Rattle.walking.specs.bridge.Code.{replacement}
+use Rattle.scoping.specs.bridge.Becomes.{replacement}
 use Rattle.merging.specs.Request.{Projection, tree}
 use Rattle.merging.specs.Names.{from as countFrom, isAt}
 use Rattle.sides.specs.declared.side.Side.{Side}

@@ -2,22 +2,17 @@
 use Prim.Native.Nat.{ℕ, _≤_, _<_}
 use mathlib.Core.Path.{_≡_}
 use mathlib.Core.List.{List, []}
-use mathlib.Core.Bool.{cond}
 use lib.ListN.{length, getD}
-use lib.Dec.{eqb}
-use Rattle.text.specs.Text.{Bytes, piece, First}
+use Rattle.text.specs.Text.{Bytes, First}
 use Rattle.names.specs.bridge.Names.{listing, Hinted}
-use Rattle.scoping.specs.Sets.{Once, indexOf}
+use Rattle.scoping.specs.Sets.{Once}
+use Rattle.scoping.specs.bridge.Becomes.{replacement}
 
 -- the names of the table are told apart, and each is found
 pub record Named (s : Bytes) (starts sizes hints : List ℕ) (n : ℕ) : Type 0 where
   pub high : n ≤ 1024
   pub hinted : Hinted hints (listing s starts sizes n)
   pub once : Once (listing s starts sizes n)
-
--- what a name becomes: at its entry a start and a size in another text; a size of 0 leaves it
-unfoldable pub replacement : List Bytes → Bytes → List ℕ → List ℕ → Bytes → Bytes
-replacement ns pool starts sizes f = cond (eqb (getD sizes (indexOf f ns) 0) 0) f (piece (getD starts (indexOf f ns) 0) (getD sizes (indexOf f ns) 0) pool)
 
 -- what the names of the table become
 abbrev pub renames : Bytes → List ℕ → List ℕ → ℕ → Bytes → List ℕ → List ℕ → Bytes → Bytes

@@ -1,9 +1,7 @@
--- Which names are noted where the walk meets places of variables, and the names that have been. Assumes nothing.
-use Prim.Native.Nat.{ℕ, suc}
+-- Which names are noted where the walk meets places of variables. Assumes nothing.
+use Prim.Native.Nat.{ℕ}
 use mathlib.Core.List.{List, [], _∷_}
 use mathlib.Core.Bool.{cond}
-use lib.ListN.{getD}
-use lib.Dec.{eqb}
 use Rattle.text.specs.Text.{Bytes}
 use Rattle.algebra.specs.Valid.{mem}
 use Rattle.scoping.specs.Sets.{indexOf}
@@ -15,8 +13,3 @@ unfoldable pub flagAll : List Bytes → List Place → List ℕ → List ℕ
 unfolding mem indexOf
 flagAll ns [] flags = flags
 flagAll ns (x ∷ xs) flags = flagAll ns xs (cond (mem (x .name) ns) (flagged (x .mark) (indexOf (x .name) ns) flags) flags)
-
--- the names whose flags, from number k on, are set
-unfoldable pub chosen : ℕ → List ℕ → List Bytes → List Bytes
-chosen k flags [] = []
-chosen k flags (f ∷ fs) = cond (eqb (getD flags k 0) 0) (chosen (suc k) flags fs) (f ∷ chosen (suc k) flags fs)

@@ -7,7 +7,7 @@ use native.Mathlib.Omega.{arith}
 use lib.ListN.{length, drop}
 use Rattle.names.specs.bridge.Names.{listing}
 use Rattle.emit.specs.bridge.Emit.{em}
-use Rattle.walking.specs.bridge.Flags.{chosen}
+use Rattle.scoping.specs.bridge.Becomes.{chosen}
 use Rattle.renaming.specs.bridge.Code.{tabbed}
 use Rattle.renaming.proofs.Lists as L
 use Rattle.renaming.proofs.scope.put_names.Statement.{statement}
