@@ -1,5 +1,6 @@
-// Reads a tree from standard input, checks it as often as the first argument says and once more, and writes the number of the check,
-// and a mix of entries of the table after each check, which keeps every check in the compiled program.
+// Reads a tree from standard input, checks it as often as the first argument says and once more, each time over a table of its own, and writes the
+// number of the check, and a mix of entries of the tables, which keeps every check in the compiled program.
+use algebra::Answer;
 use algebra::number;
 use libc::STDIN_FILENO;
 use libc::STDOUT_FILENO;
@@ -12,35 +13,37 @@ fn entry(starts: &[u16; 1024], sizes: &[u16; 1024], hints: &[u16; 4096], k: u32)
     starts[i] ^ sizes[i] ^ hints[i]
 }
 
-fn again(
-    text: &[u8],
-    starts: &mut [u16; 1024],
-    sizes: &mut [u16; 1024],
-    hints: &mut [u16; 4096],
-    times: u32,
-) -> u16 {
+fn once(text: &[u8], k: u32) -> u16 {
+    let mut starts = [0u16; 1024];
+    let mut sizes = [0u16; 1024];
+    let mut hints = [0u16; 4096];
+    check_tree(text, &mut starts, &mut sizes, &mut hints);
+    entry(&starts, &sizes, &hints, k)
+}
+
+fn again(text: &[u8], times: u32) -> u16 {
     let mut mix: u16 = 0;
     let mut k = times;
     while k > 0 {
-        check_tree(text, starts, sizes, hints);
-        mix = mix ^ entry(starts, sizes, hints, k);
+        mix = mix ^ once(text, k);
         k -= 1;
     }
     mix
 }
 
-fn run(
-    text: &[u8],
-    starts: &mut [u16; 1024],
-    sizes: &mut [u16; 1024],
-    hints: &mut [u16; 4096],
-    times: &[u8],
-) {
+fn answer(text: &[u8]) -> Answer {
+    let mut starts = [0u16; 1024];
+    let mut sizes = [0u16; 1024];
+    let mut hints = [0u16; 4096];
+    check_tree(text, &mut starts, &mut sizes, &mut hints)
+}
+
+fn run(text: &[u8], times: &[u8]) {
     let Number::Is(n) = number_of(times) else {
         return;
     };
-    let mix = again(text, starts, sizes, hints, n);
-    let a = check_tree(text, starts, sizes, hints);
+    let mix = again(text, n);
+    let a = answer(text);
     io::print_decimal(STDOUT_FILENO, number(a));
     io::write_all(STDOUT_FILENO, b"\t");
     io::print_decimal(STDOUT_FILENO, mix as u64);
@@ -52,14 +55,5 @@ fn main() {
     let size = os::arg(1, &mut word);
     let mut text = [0u8; 20480];
     let n = io::read_full(STDIN_FILENO, &mut text);
-    let mut starts = [0u16; 1024];
-    let mut sizes = [0u16; 1024];
-    let mut hints = [0u16; 4096];
-    run(
-        &text[..n],
-        &mut starts,
-        &mut sizes,
-        &mut hints,
-        &word[..size],
-    );
+    run(&text[..n], &word[..size]);
 }

@@ -52,8 +52,8 @@ fn have_places(starts: &[u16; 1024], sizes: &[u16; 1024], hints: &[u16; 4096]) -
     has_places(hints, 4096)
 }
 
-// A table without names. Whoever made it has cleared it; what earlier names left would do no harm, as a hint is compared with the
-// name itself. The test is one of types, and the compiled code has none.
+// A table without names. Whoever made it has cleared it; what earlier names left would cost time and change no answer, as a hint is
+// compared with the name itself. The test is one of types, and the compiled code has none.
 pub fn no_names(starts: &mut [u16; 1024], sizes: &mut [u16; 1024], hints: &mut [u16; 4096])
     ensures { λ _. ⌜ (length (now (starts .exit)) ≡ 1024) × (length (now (sizes .exit)) ≡ 1024) × (length (now (hints .exit)) ≡ 4096) ⌝ }
 {
