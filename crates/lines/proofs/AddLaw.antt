@@ -11,9 +11,9 @@ use Rattle.cursor.specs.declared.Cursor.{Cursor}
 use Rattle.cursor.proofs.Laws.{Next}
 use Rattle.algebra.specs.bridge.Table.{Slot, term, text, count, choice}
 use Rattle.scoping.specs.bridge.Places.{Mark}
-use Rattle.words.specs.bridge.Code.{tailOf}
+use Rattle.words.specs.bridge.Code.{oneSlot, tailOf}
 use Rattle.lines.specs.bridge.Line.{takeField, takeTail}
-use Rattle.lines.specs.bridge.Steps.{InLine, leftAt, Along, Follows, restOf, restIn, oneSlot}
+use Rattle.lines.specs.bridge.Steps.{InLine, leftAt, Along, Follows, restOf, restIn}
 use Rattle.lines.specs.bridge.Stored.{Store, Adds, found, oneSpot}
 use Rattle.lines.proofs.StepLaw.{field, left-is, in-line}
 use Rattle.lines.proofs.RepeatLaw.{follows-along, follows-fine, follows-line}
@@ -63,31 +63,3 @@ plain-adds s c d A m kind width line high a b f h k =
     let x = follows-fine s c d _ f h in
     let e = line .ends in
     adds-none s A (c .at) (d .at) _ _ (x .1) (omega arith) (found-plain s c d kind width m line (follows-line s c d _ line f) high k a b f h)
-
--- ---- slots in turn
-
--- a slot's step
-abbrev pub Slotted : Bytes → Cursor → Slot → Cursor → Store → Store → Mark → Type 0
-Slotted s c σ d A B m = d .at ≤ c .end + 1 → (ss : List Slot) → Adds s A (c .at) B (d .at) (found m (σ ∷ ss) s c) (found m ss s d)
-
-module _ (s : Bytes) (c d r : Cursor) (σ τ : Slot) (A B C : Store) (m : Mark) (f : Follows s c (restOf (takeField σ (leftAt s c))) d) (g : Follows s d (restOf (takeField τ (leftAt s d))) r) where
-  same-end : d .end ≡ c .end
-  same-end = follows-along s c d _ f .0
-
-  pub not-failed : r .at ≤ c .end + 1 → (r .at ≤ d .end + 1) × (d .at ≤ c .end + 1)
-  not-failed h =
-      let e = same-end in
-      let k : r .at ≤ d .end + 1 = omega arith in
-      let l = came-from s d r τ g k in
-      (k, omega arith)
-
-  pub two-adds : Slotted s c σ d A B m → Slotted s d τ r B C m → r .at ≤ c .end + 1 → (ss : List Slot) → Adds s A (c .at) C (r .at) (found m (σ ∷ τ ∷ ss) s c) (found m ss s r)
-  two-adds x y h ss = let k = not-failed h in adds-then s A (c .at) B (d .at) C (r .at) _ _ _ (x (k .1) (τ ∷ ss)) (y (k .0) ss)
-
-pub three-adds : (s : Bytes) (c d b r : Cursor) (σ τ υ : Slot) (A B C D : Store) (m : Mark) → Follows s c (restOf (takeField σ (leftAt s c))) d → Follows s d (restOf (takeField τ (leftAt s d))) b → Follows s b (restOf (takeField υ (leftAt s b))) r
-    → Slotted s c σ d A B m → Slotted s d τ b B C m → Slotted s b υ r C D m → r .at ≤ c .end + 1 → Adds s A (c .at) D (r .at) (found m (σ ∷ τ ∷ υ ∷ []) s c) (found m [] s r)
-three-adds s c d b r σ τ υ A B C D m f g i x y z h =
-    let e = follows-along s c d _ f .0 in
-    let k = not-failed s d b r τ υ B C D m g i (omega arith) in
-    let l = k .1 in
-    adds-then s A (c .at) C (b .at) D (r .at) _ _ _ (two-adds s c d b σ τ A B C m f g x y (omega arith) (υ ∷ [])) (z (k .0) [])

@@ -1,5 +1,5 @@
 -- What a line asks for: its groups, their amounts, and the levels below it. Assumes nothing.
-use Prim.Native.Nat.{ℕ, zero, suc, _-_}
+use Prim.Native.Nat.{ℕ, zero, suc, _-_, _/_, _%_}
 use mathlib.Core.Path.{_≡_, refl, sym, _∙_, ap}
 use mathlib.Core.List.{List, [], _∷_, _++_, append-nil}
 use mathlib.Core.Bool.{Bool, true, false}
@@ -7,10 +7,9 @@ use native.Mathlib.Numerals.{sub-one}
 use lib.ListN.{getD, replicate}
 use Rattle.algebra.specs.bridge.Table.{Sort, Below, opens}
 use Rattle.algebra.specs.bridge.Machine.{Want, want, amountOf, wants}
-use Rattle.words.specs.declared.Row.{Row as Code}
-use Rattle.words.specs.bridge.Code.{sortAt, groupOf, rowOf}
+use Rattle.words.specs.bridge.Code.{sortAt, groupOf, groupsIn}
 use Rattle.lines.specs.bridge.Says.{below}
-use Rattle.lines.specs.bridge.Below.{amountIn, groups, Alone}
+use Rattle.lines.specs.bridge.Below.{amountIn, groups}
 
 -- ---- amounts
 
@@ -25,9 +24,11 @@ amount-none base (suc (suc (suc zero))) x y a b c d e = absurd (d refl)
 amount-none base (suc (suc (suc (suc zero)))) x y a b c d e = absurd (e refl)
 amount-none base (suc (suc (suc (suc (suc n))))) x y a b c d e = refl
 
--- a line that asks for none
-pub alone-none : (c : Code) (level first second : ℕ) → Alone c → groups c level first second ≡ []
-alone-none c level first second a = rw (a .first .0, a .first .1, a .second .0, a .second .1, a .third .0, a .third .1)
+-- no number of groups, no groups
+pub groups-none : (k level first second : ℕ) → groups k 0 level first second ≡ []
+unfolding groups
+groups-none zero level first second = refl
+groups-none (suc k) level first second = groups-none k level first second
 
 -- ---- levels
 
@@ -47,7 +48,7 @@ module _ (d : ℕ) (cs : List ℕ) where
   wants-cons b [] = sym (append-nil _)
   wants-cons b (c ∷ bs) = refl
 
-  pub below-group : (b f : ℕ) (s : Sort) (bs : List Below) → wants d cs (groupOf b f s ++ bs) ≡ replicate (amountIn b f (getD cs 0 0) (getD cs 1 0)) (want s d (getD cs 0 0)) ++ wants d cs bs
+  below-group : (b f : ℕ) (s : Sort) (bs : List Below) → wants d cs (groupOf b f s ++ bs) ≡ replicate (amountIn b f (getD cs 0 0) (getD cs 1 0)) (want s d (getD cs 0 0)) ++ wants d cs bs
   below-group zero zero s bs = refl
   below-group (suc b) zero s bs = wants-cons _ bs
   below-group b (suc zero) s bs = wants-cons _ bs
@@ -56,10 +57,9 @@ module _ (d : ℕ) (cs : List ℕ) where
   below-group b (suc (suc (suc (suc zero)))) s bs = wants-cons _ bs
   below-group b (suc (suc (suc (suc (suc f))))) s bs = refl
 
-  pub below-row : (c : Code) → wants d cs (rowOf c .below) ≡ replicate (amountIn (c .7) (c .8) (getD cs 0 0) (getD cs 1 0)) (want (sortAt (c .9)) d (getD cs 0 0)) ++ (replicate (amountIn (c .10) (c .11) (getD cs 0 0) (getD cs 1 0)) (want (sortAt (c .12)) d (getD cs 0 0)) ++ replicate (amountIn (c .13) (c .14) (getD cs 0 0) (getD cs 1 0)) (want (sortAt (c .15)) d (getD cs 0 0)))
-  below-row c =
-      below-group (c .7) (c .8) (sortAt (c .9)) _
-      ∙ ap (λ (ws : List Want). replicate (amountIn (c .7) (c .8) (getD cs 0 0) (getD cs 1 0)) (want (sortAt (c .9)) d (getD cs 0 0)) ++ ws)
-      (below-group (c .10) (c .11) (sortAt (c .12)) _
-      ∙ ap (λ (ws : List Want). replicate (amountIn (c .10) (c .11) (getD cs 0 0) (getD cs 1 0)) (want (sortAt (c .12)) d (getD cs 0 0)) ++ ws)
-      (ap (wants d cs) (sym (append-nil (groupOf (c .13) (c .14) (sortAt (c .15))))) ∙ (below-group (c .13) (c .14) (sortAt (c .15)) [] ∙ append-nil _)))
+  pub below-groups : (k n : ℕ) → wants d cs (groupsIn k n) ≡ groups k n d (getD cs 0 0) (getD cs 1 0)
+  unfolding groupsIn groups
+  below-groups zero n = refl
+  below-groups (suc k) n =
+      below-group (n % 4) (n / 4 % 8) (sortAt (n / 32 % 16)) (groupsIn k (n / 512))
+      ∙ ap (λ (ws : List Want). replicate (amountIn (n % 4) (n / 4 % 8) (getD cs 0 0) (getD cs 1 0)) (want (sortAt (n / 32 % 16)) d (getD cs 0 0)) ++ ws) (below-groups k (n / 512))

@@ -1,5 +1,5 @@
 -- The descent and the line machine's run: one after the other, and each way out of a line. Assumes nothing.
-use Prim.Native.Nat.{ℕ, zero, suc, _+_, _-_, _≤_, _<_}
+use Prim.Native.Nat.{ℕ, zero, suc, _+_, _-_, _/_, _%_, _≤_, _<_}
 use mathlib.Core.Path.{_≡_, refl, sym, _∙_, ap, ap₂, subst}
 use mathlib.Core.List.{List, [], _∷_, _++_, append-assoc}
 use native.Mathlib.Numerals.{add-one}
@@ -11,16 +11,15 @@ use Rattle.cursor.specs.declared.Cursor.{Cursor}
 use Rattle.algebra.specs.Tally.{Tally, bounds}
 use Rattle.algebra.specs.Reader.{Refusal, malformed, overBound, refused}
 use Rattle.algebra.specs.bridge.Machine.{Want, want, wants, More, Demand, Check, bad, run, lineOf}
-use Rattle.words.specs.declared.Row.{Row as Code}
 use Rattle.words.specs.bridge.Code.{sortAt, rowOf}
 use Rattle.lines.specs.declared.check.Place.{Place}
 use Rattle.lines.specs.declared.line.Asked.{Asked}
 use Rattle.lines.specs.declared.line.Line.{Line as Read}
 use Rattle.lines.specs.declared.line.Line.the-variants.{Asks, Malformed, OverBound}
 use Rattle.lines.specs.bridge.Says.{LineIs, below}
-use Rattle.lines.specs.bridge.Below.{amountIn, groups, Alone}
+use Rattle.lines.specs.bridge.Below.{amountIn, groups}
 use Rattle.lines.specs.bridge.Run.{Ready, Stood, Went}
-use Rattle.lines.proofs.BelowLaw.{below-row, alone-none}
+use Rattle.lines.proofs.BelowLaw.{below-groups, groups-none}
 use Rattle.lines.proofs.RunLaw.{run-open, run-refused, run-next, run-missing}
 
 -- ---- one after the other
@@ -77,17 +76,17 @@ module _ (s a b h : List ℕ) (ρ : More) (ws : List Want) (sort level width : �
       unfolding LineIs
       line-over us r e f = went-over s ρ a b h us _ r f (refused-here overBound (subst (LineIs s a b h (record { at = p .from; end = end; height = 0 }) sort level width m) e is))
 
-      pub line-asks : (x : Asked) → l ≡ Asks x → m .lines ≡ p .lines → Went s a b h ρ (groups (x .row) (below sort level) (x .first) (x .second) ++ ws) (run bounds (linesFrom s (p .from)) ρ (this ∷ ws) m) (record { from = end + 1; lines = p .lines + 1; n = x .names; spots = x .spots; fault = 0 })
+      pub line-asks : (x : Asked) → l ≡ Asks x → m .lines ≡ p .lines → Went s a b h ρ (groups 3 (x .row .below) (below sort level) (x .first) (x .second) ++ ws) (run bounds (linesFrom s (p .from)) ρ (this ∷ ws) m) (record { from = end + 1; lines = p .lines + 1; n = x .names; spots = x .spots; fault = 0 })
       unfolding LineIs
       line-asks x e same = go (subst (LineIs s a b h (record { at = p .from; end = end; height = 0 }) sort level width m) e is)
         where
-          go : LineIs s a b h (record { at = p .from; end = end; height = 0 }) sort level width m (Asks x) → Went s a b h ρ (groups (x .row) (below sort level) (x .first) (x .second) ++ ws) (run bounds (linesFrom s (p .from)) ρ (this ∷ ws) m) (record { from = end + 1; lines = p .lines + 1; n = x .names; spots = x .spots; fault = 0 })
+          go : LineIs s a b h (record { at = p .from; end = end; height = 0 }) sort level width m (Asks x) → Went s a b h ρ (groups 3 (x .row .below) (below sort level) (x .first) (x .second) ++ ws) (run bounds (linesFrom s (p .from)) ρ (this ∷ ws) m) (record { from = end + 1; lines = p .lines + 1; n = x .names; spots = x .spots; fault = 0 })
           go q = record {
             on = λ z. (
               q .1,
               here
                   ∙ run-next (linesFrom s (end + 1)) (split 9 (part (p .from) end s)) ρ (this ∷ ws) m asked-for refl (wants (below sort level) (q .0) (rowOf (x .row) .below)) (q .1) (q .2)
-                  ∙ ap (λ v. run bounds (linesFrom s (end + 1)) ρ (v ++ ws) (q .1)) (below-row (below sort level) (q .0) (x .row) ∙ ap₂ (λ i j. groups (x .row) (below sort level) i j) (q .3) (q .4)),
+                  ∙ ap (λ v. run bounds (linesFrom s (end + 1)) ρ (v ++ ws) (q .1)) (below-groups (below sort level) (q .0) 3 (x .row .below) ∙ ap₂ (λ i j. groups 3 (x .row .below) (below sort level) i j) (q .3) (q .4)),
               record { lines = q .7 ∙ (ap suc same ∙ sym (add-one (p .lines))); wide = q .8; names = q .9 },
             );
             wrong = λ z. absurd (omega (arith, z));
@@ -96,63 +95,48 @@ module _ (s a b h : List ℕ) (ρ : More) (ws : List Want) (sort level width : �
 
 -- ---- what a line asks for
 
-module _ (s : Bytes) (ρ : More) (ws : List Want) (x : Check) (c : Code) (level first second : ℕ) where
-  pub alone-went : (a b h : List ℕ) (p : Place) → Alone c → Went s a b h ρ (groups c level first second ++ ws) x p → Went s a b h ρ ws x p
-  alone-went a b h p q w = went-as s ρ a b h _ ws x p (ap (λ (v : List Want). v ++ ws) (alone-none c level first second q)) w
+module _ (s : Bytes) (ρ : More) (ws : List Want) (x : Check) (n level first second : ℕ) where
+  pub alone-went : (a b h : List ℕ) (p : Place) → n ≡ 0 → Went s a b h ρ (groups 3 n level first second ++ ws) x p → Went s a b h ρ ws x p
+  alone-went a b h p e w = went-as s ρ a b h _ ws x p (ap (λ (i : ℕ). groups 3 i level first second ++ ws) e ∙ ap (λ (v : List Want). v ++ ws) (groups-none 3 level first second)) w
 
-  pub below-went : (a b h a′ b′ h′ : List ℕ) (p r : Place) (d : ℕ) → d ≡ level → Went s a b h ρ (groups c level first second ++ ws) x p → p .fault ≡ 0
-      → ((ρ : More) (ws : List Want) (m : Tally) → Stood s a b h p m → Went s a′ b′ h′ ρ ws (run bounds (linesFrom s (p .from)) ρ (groups c d first second ++ ws) m) r) → Went s a′ b′ h′ ρ ws x r
-  below-went a b h a′ b′ h′ p r d e w z f = went-on s ρ a b h a′ b′ h′ (groups c d first second ++ ws) ws x p r (subst (λ (l : ℕ). Went s a b h ρ (groups c l first second ++ ws) x p) (sym e) w) z (λ m st. f ρ ws m st)
+  pub below-went : (a b h a′ b′ h′ : List ℕ) (p r : Place) (d : ℕ) → d ≡ level → Went s a b h ρ (groups 3 n level first second ++ ws) x p → p .fault ≡ 0
+      → ((ρ : More) (ws : List Want) (m : Tally) → Stood s a b h p m → Went s a′ b′ h′ ρ ws (run bounds (linesFrom s (p .from)) ρ (groups 3 n d first second ++ ws) m) r) → Went s a′ b′ h′ ρ ws x r
+  below-went a b h a′ b′ h′ p r d e w z f = went-on s ρ a b h a′ b′ h′ (groups 3 n d first second ++ ws) ws x p r (subst (λ (l : ℕ). Went s a b h ρ (groups 3 n l first second ++ ws) x p) (sym e) w) z (λ m st. f ρ ws m st)
 
 -- ---- groups in turn
 
 abbrev pub Goes : Bytes → List ℕ → List ℕ → List ℕ → Place → List ℕ → List ℕ → List ℕ → List Want → Place → Type 0
 Goes s a b h p a′ b′ h′ us r = (ρ : More) (ws : List Want) (m : Tally) → Stood s a b h p m → Went s a′ b′ h′ ρ ws (run bounds (linesFrom s (p .from)) ρ (us ++ ws) m) r
 
-pub goes-stop : (s a b h : List ℕ) (p : Place) (a′ b′ h′ : List ℕ) (us vs : List Want) (r : Place) → Goes s a b h p a′ b′ h′ us r → (r .fault ≡ 0 → ⊥) → Goes s a b h p a′ b′ h′ (us ++ vs) r
-goes-stop s a b h p a′ b′ h′ us vs r f nz ρ ws m st = subst (λ l. Went s a′ b′ h′ ρ ws (run bounds (linesFrom s (p .from)) ρ l m) r) (sym (append-assoc us vs ws)) (went-stop s ρ a′ b′ h′ (vs ++ ws) ws _ r (f ρ (vs ++ ws) m st) nz)
+-- of what was to come at p, the vs are left at q
+abbrev pub Rest : Bytes → List ℕ → List ℕ → List ℕ → Place → List ℕ → List ℕ → List ℕ → List Want → List Want → Place → Type 0
+Rest s a b h p a′ b′ h′ us vs q = (ρ : More) (ws : List Want) (m : Tally) → Stood s a b h p m → Went s a′ b′ h′ ρ (vs ++ ws) (run bounds (linesFrom s (p .from)) ρ (us ++ ws) m) q
 
-pub goes-on : (s a b h : List ℕ) (p : Place) (a′ b′ h′ : List ℕ) (us vs : List Want) (q : Place) (a″ b″ h″ : List ℕ) (r : Place) → Goes s a b h p a′ b′ h′ us q → q .fault ≡ 0 → Goes s a′ b′ h′ q a″ b″ h″ vs r → Goes s a b h p a″ b″ h″ (us ++ vs) r
-goes-on s a b h p a′ b′ h′ us vs q a″ b″ h″ r f z g ρ ws m st = subst (λ l. Went s a″ b″ h″ ρ ws (run bounds (linesFrom s (p .from)) ρ l m) r) (sym (append-assoc us vs ws)) (went-on s ρ a′ b′ h′ a″ b″ h″ (vs ++ ws) ws _ q r (f ρ (vs ++ ws) m st) z (λ m′ st′. g ρ ws m′ st′))
+pub rest-begin : (s a b h : List ℕ) (p : Place) (us : List Want) → p .fault ≡ 0 → Rest s a b h p a b h us us p
+rest-begin s a b h p us z ρ ws m st = went-here s ρ a b h (us ++ ws) p m st z
 
-pub goes-none : (s a b h : List ℕ) (p : Place) (w : Want) (k : ℕ) → k ≡ 0 → p .fault ≡ 0 → Goes s a b h p a b h (replicate k w) p
-goes-none s a b h p w k e z ρ ws m st = subst (λ (n : ℕ). Went s a b h ρ ws (run bounds (linesFrom s (p .from)) ρ (replicate n w ++ ws) m) p) (sym e) (went-here s ρ a b h ws p m st z)
+module _ (s a b h : List ℕ) (p : Place) (a′ b′ h′ : List ℕ) (us : List Want) (q : Place) where
+  -- the groups of a number are left: the first of them is next
+  module _ (k n level first second : ℕ) (f : Rest s a b h p a′ b′ h′ us (groups (suc k) n level first second) q) (z : q .fault ≡ 0) (times : ℕ) (e : times ≡ amountIn (n % 4) (n / 4 % 8) first second) (a″ b″ h″ : List ℕ) (r : Place) (g : Goes s a′ b′ h′ q a″ b″ h″ (replicate times (want (sortAt (n / 32 % 16)) level first)) r) where
+    pub rest-next : Rest s a b h p a″ b″ h″ us (groups k (n / 512) level first second) r
+    unfolding groups
+    rest-next ρ ws m st =
+        let vs = replicate (amountIn (n % 4) (n / 4 % 8) first second) (want (sortAt (n / 32 % 16)) level first) in
+        let ts = groups k (n / 512) level first second in
+        let g′ : Goes s a′ b′ h′ q a″ b″ h″ vs r = subst (λ (i : ℕ). Goes s a′ b′ h′ q a″ b″ h″ (replicate i (want (sortAt (n / 32 % 16)) level first)) r) e g in
+        went-on s ρ a′ b′ h′ a″ b″ h″ (vs ++ (ts ++ ws)) (ts ++ ws) _ q r (went-as s ρ a′ b′ h′ _ _ _ q (append-assoc vs ts ws) (f ρ ws m st)) z (λ m′ st′. g′ ρ (ts ++ ws) m′ st′)
 
-pub goes-many : (s a b h : List ℕ) (p : Place) (a′ b′ h′ : List ℕ) (w : Want) (k n : ℕ) (r : Place) → k ≡ n → Goes s a b h p a′ b′ h′ (replicate k w) r → Goes s a b h p a′ b′ h′ (replicate n w) r
-goes-many s a b h p a′ b′ h′ w k n r e f = subst (λ (i : ℕ). Goes s a b h p a′ b′ h′ (replicate i w) r) e f
+    pub rest-stop : (r .fault ≡ 0 → ⊥) → Goes s a b h p a″ b″ h″ us r
+    rest-stop nz ρ ws m st = went-stop s ρ a″ b″ h″ _ ws _ r (rest-next ρ ws m st) nz
 
-module _ (s : Bytes) (c : Code) (level first second : ℕ) where
-  abbrev group1 : List Want
-  group1 = replicate (amountIn (c .7) (c .8) first second) (want (sortAt (c .9)) level first)
-
-  abbrev group2 : List Want
-  group2 = replicate (amountIn (c .10) (c .11) first second) (want (sortAt (c .12)) level first)
-
-  abbrev group3 : List Want
-  group3 = replicate (amountIn (c .13) (c .14) first second) (want (sortAt (c .15)) level first)
-
-  module _ (a b h : List ℕ) (p : Place) (k : ℕ) (e : k ≡ amountIn (c .7) (c .8) first second) (a1 b1 h1 : List ℕ) (q : Place) (f : Goes s a b h p a1 b1 h1 (replicate k (want (sortAt (c .9)) level first)) q) where
-    goes1 : Goes s a b h p a1 b1 h1 group1 q
-    goes1 = goes-many s a b h p a1 b1 h1 (want (sortAt (c .9)) level first) k _ q e f
-
-    pub below-first : (q .fault ≡ 0 → ⊥) → Goes s a b h p a1 b1 h1 (groups c level first second) q
-    below-first nz = goes-stop s a b h p a1 b1 h1 group1 (group2 ++ group3) q goes1 nz
-
-    module _ (z : q .fault ≡ 0) (l : ℕ) (e2 : l ≡ amountIn (c .10) (c .11) first second) (a2 b2 h2 : List ℕ) (r : Place) (g : Goes s a1 b1 h1 q a2 b2 h2 (replicate l (want (sortAt (c .12)) level first)) r) where
-      goes2 : Goes s a1 b1 h1 q a2 b2 h2 group2 r
-      goes2 = goes-many s a1 b1 h1 q a2 b2 h2 (want (sortAt (c .12)) level first) l _ r e2 g
-
-      pub below-second : (r .fault ≡ 0 → ⊥) → Goes s a b h p a2 b2 h2 (groups c level first second) r
-      below-second nz = goes-on s a b h p a1 b1 h1 group1 (group2 ++ group3) q a2 b2 h2 r goes1 z (goes-stop s a1 b1 h1 q a2 b2 h2 group2 group3 r goes2 nz)
-
-      pub below-third : r .fault ≡ 0 → (x : ℕ) → x ≡ amountIn (c .13) (c .14) first second → (a3 b3 h3 : List ℕ) (t : Place) → Goes s a2 b2 h2 r a3 b3 h3 (replicate x (want (sortAt (c .15)) level first)) t → Goes s a b h p a3 b3 h3 (groups c level first second) t
-      below-third y x e3 a3 b3 h3 t j = goes-on s a b h p a1 b1 h1 group1 (group2 ++ group3) q a3 b3 h3 t goes1 z (goes-on s a1 b1 h1 q a2 b2 h2 group2 group3 r a3 b3 h3 t goes2 y (goes-many s a2 b2 h2 r a3 b3 h3 (want (sortAt (c .15)) level first) x _ t e3 j))
+  pub rest-done : (k n level first second : ℕ) → Rest s a b h p a′ b′ h′ us (groups k n level first second) q → n ≡ 0 → Goes s a b h p a′ b′ h′ us q
+  rest-done k n level first second f e ρ ws m st = went-as s ρ a′ b′ h′ _ _ _ q (ap (λ (i : ℕ). groups k i level first second ++ ws) e ∙ ap (λ (v : List Want). v ++ ws) (groups-none k level first second)) (f ρ ws m st)
 
 -- ---- so many lines
 
 -- of n lines k are left
 abbrev pub Lines : Bytes → List ℕ → List ℕ → List ℕ → Place → List ℕ → List ℕ → List ℕ → Want → ℕ → ℕ → Place → Type 0
-Lines s a b h p a′ b′ h′ w n k q = (ρ : More) (ws : List Want) (m : Tally) → Stood s a b h p m → Went s a′ b′ h′ ρ (replicate k w ++ ws) (run bounds (linesFrom s (p .from)) ρ (replicate n w ++ ws) m) q
+Lines s a b h p a′ b′ h′ w n k q = Rest s a b h p a′ b′ h′ (replicate n w) (replicate k w) q
 
 rep-next : (k : ℕ) (w : Want) → 0 < k → replicate k w ≡ w ∷ replicate (k - 1) w
 rep-next zero w h = absurd (omega arith)
@@ -169,6 +153,3 @@ module _ (s a b h : List ℕ) (p : Place) (a′ b′ h′ : List ℕ) (w : Want)
 
   pub lines-all : Lines s a b h p a′ b′ h′ w n k q → k ≤ 0 → Goes s a b h p a′ b′ h′ (replicate n w) q
   lines-all ls e ρ ws m st = went-as s ρ a′ b′ h′ _ _ _ q (ap (λ (i : ℕ). replicate i w ++ ws) (let z : k ≡ 0 = omega arith in z)) (ls ρ ws m st)
-
-pub lines-begin : (s a b h : List ℕ) (p : Place) (w : Want) (n : ℕ) → p .fault ≡ 0 → Lines s a b h p a b h w n n p
-lines-begin s a b h p w n z ρ ws m st = went-here s ρ a b h (replicate n w ++ ws) p m st z

@@ -15,6 +15,8 @@ pub mod CheckLaw
 pub mod StoreLaw
 pub mod SpotsLaw
 pub mod AddLaw
+pub mod TurnLaw
 pub mod WalkLaw
 pub mod NotesLaw
 pub mod WalksLaw
+pub mod GroupsLaw

@@ -1,5 +1,5 @@
 -- A line by its word and its fields: the spots that were noted are those of the walk, and it asks for what the walk goes on with. Assumes nothing.
-use Prim.Native.Nat.{ℕ, zero, suc, _+_, _-_, _≤_, _<_}
+use Prim.Native.Nat.{ℕ, zero, suc, _+_, _-_, _/_, _%_, _≤_, _<_}
 use mathlib.Core.Path.{_≡_, refl, sym, _∙_, ap, ap₂, subst}
 use mathlib.Core.List.{List, [], _∷_, _++_, append-nil}
 use mathlib.Core.Bool.{Bool, true, false, cond, not, _&&_, _||_, true≢false, false≢true}
@@ -23,13 +23,13 @@ use Rattle.scoping.specs.bridge.Spots.{Spot, spotsIn, fieldsSize, Trace, trace,
 use Rattle.words.specs.declared.Row.{Row as Code}
 use Rattle.words.specs.declared.Found.{Found}
 use Rattle.words.specs.declared.Found.the-variants.{Is, None}
-use Rattle.words.specs.bridge.Code.{mapped, sortAt, slotThen, rowOf, rowFound, counting, inTree, Tidy, flagOf, Flags}
+use Rattle.words.specs.bridge.Code.{oneSlot, slotsIn, mapped, sortAt, rowOf, rowFound, sortsIn, counting, countsIn, inTree, Tidy, flagOf, Flags}
 use Rattle.lines.specs.declared.line.Line.{Line as Read}
 use Rattle.lines.specs.declared.line.Line.the-variants.{Asks, Malformed, OverBound}
 use Rattle.lines.specs.bridge.Below.{amountIn}
 use Rattle.lines.specs.bridge.Line.{andThen, Took, took, takeField, Fields, fields, takeSlots, takeTail, takeLine}
 use Rattle.lines.specs.bridge.Line as W
-use Rattle.lines.specs.bridge.Steps.{InLine, leftAt, restOf, oneSlot}
+use Rattle.lines.specs.bridge.Steps.{InLine, leftAt, restOf}
 use Rattle.lines.specs.bridge.Says.{Says}
 use Rattle.lines.specs.bridge.Spotted.{markAt}
 use Rattle.lines.specs.bridge.Stored.{store, Keeps, Adds, found, LineNotes}
@@ -158,24 +158,20 @@ line-slots r n l u e = go (takeSlots (r .slots) l) refl e
     go (some t) p q = (t, p, tail t (takeTail (r .tail) n (t .rest)) q)
 
 module _ (c : Code) (l : List Bytes) (u : Fields) (e : takeSlots (rowOf c .slots) l ≡ some u) where
-  first-is : (not (eqb (c .6) 1) && leb 3 (c .0)) ≡ true → getD (u .numbers) 0 0 ≡ numberIn (getD l 0 [])
+  first-is : (not (eqb (c .behind) 1) && leb 3 (c .fields % 16)) ≡ true → getD (u .numbers) 0 0 ≡ numberIn (getD l 0 [])
   first-is h =
-      let n : c .6 ≡ 1 → ⊥ = eqb-false (c .6) 1 (not-true _ (and-left (not (eqb (c .6) 1)) (leb 3 (c .0)) h)) in
-      let r : 3 ≤ c .0 = leb-true 3 (c .0) (and-right (not (eqb (c .6) 1)) (leb 3 (c .0)) h) in
-      first-number _ _ l u (counts-role (c .0) _ r) (subst (λ (ss : List Slot). takeSlots ss l ≡ some u) (under-others (c .6) _ n ∙ slots-more (c .0) _ _ (λ z. omega arith)) e)
+      let n : c .behind ≡ 1 → ⊥ = eqb-false (c .behind) 1 (not-true _ (and-left (not (eqb (c .behind) 1)) (leb 3 (c .fields % 16)) h)) in
+      let r : 3 ≤ c .fields % 16 = leb-true 3 (c .fields % 16) (and-right (not (eqb (c .behind) 1)) (leb 3 (c .fields % 16)) h) in
+      first-number _ _ l u (counts-role (c .fields % 16) _ r) (subst (λ (ss : List Slot). takeSlots ss l ≡ some u) (under-others (c .behind) _ n ∙ slots-more 2 (c .fields) (λ z. omega arith)) e)
 
-  second-is : (not (eqb (c .6) 1) && (leb 1 (c .0) && leb 3 (c .2))) ≡ true → getD (u .numbers) 1 0 ≡ numberIn (getD l 1 [])
+  second-is : (not (eqb (c .behind) 1) && leb 3 (c .fields / 256 % 16)) ≡ true → getD (u .numbers) 1 0 ≡ numberIn (getD l 1 [])
   second-is h =
-      let n : c .6 ≡ 1 → ⊥ = eqb-false (c .6) 1 (not-true _ (and-left (not (eqb (c .6) 1)) (leb 1 (c .0) && leb 3 (c .2)) h)) in
-      let k = and-right (not (eqb (c .6) 1)) (leb 1 (c .0) && leb 3 (c .2)) h in
-      let p : 1 ≤ c .0 = leb-true 1 (c .0) (and-left (leb 1 (c .0)) (leb 3 (c .2)) k) in
-      let r : 3 ≤ c .2 = leb-true 3 (c .2) (and-right (leb 1 (c .0)) (leb 3 (c .2)) k) in
-      let last = slotThen (c .4) (kindAt (c .5)) [] in
-      second-number (oneSlot (c .0) (kindAt (c .1))) (oneSlot (c .2) (kindAt (c .3))) last l u (counts-role (c .2) (kindAt (c .3)) r)
+      let n : c .behind ≡ 1 → ⊥ = eqb-false (c .behind) 1 (not-true _ (and-left (not (eqb (c .behind) 1)) (leb 3 (c .fields / 256 % 16)) h)) in
+      let r : 3 ≤ c .fields / 256 % 16 = leb-true 3 (c .fields / 256 % 16) (and-right (not (eqb (c .behind) 1)) (leb 3 (c .fields / 256 % 16)) h) in
+      let σ = oneSlot (c .fields % 16) (kindAt (c .fields / 16 % 16)) in
+      second-number σ (oneSlot (c .fields / 256 % 16) (kindAt (c .fields / 256 / 16 % 16))) (slotsIn 1 (c .fields / 256 / 256)) l u (counts-role (c .fields / 256 % 16) (kindAt (c .fields / 256 / 16 % 16)) r)
       (subst (λ (ss : List Slot). takeSlots ss l ≡ some u)
-      (under-others (c .6) (slotThen (c .0) (kindAt (c .1)) (slotThen (c .2) (kindAt (c .3)) last)) n
-      ∙ slots-more (c .0) (kindAt (c .1)) (slotThen (c .2) (kindAt (c .3)) last) (λ z. omega arith)
-      ∙ ap (λ (ss : List Slot). oneSlot (c .0) (kindAt (c .1)) ∷ ss) (slots-more (c .2) (kindAt (c .3)) last (λ z. omega arith))) e)
+      (under-others (c .behind) (slotsIn 3 (c .fields)) n ∙ slots-more 2 (c .fields) (λ z. omega arith) ∙ ap (λ (ss : List Slot). σ ∷ ss) (slots-more 1 (c .fields / 256) (λ z. omega arith))) e)
 
   amounts : (n k : ℕ) → counting c k ≡ true → amountIn n k (getD (u .numbers) 0 0) (getD (u .numbers) 1 0) ≡ amountIn n k (numberIn (getD l 0 [])) (numberIn (getD l 1 []))
   amounts n zero h = refl
@@ -187,30 +183,20 @@ module _ (c : Code) (l : List Bytes) (u : Fields) (e : takeSlots (rowOf c .slots
 
 -- what the table says of a line of a tree
 pub record Plain (c : Code) : Type 0 where
-  pub sorts : (c .9 ≤ 6) × (c .12 ≤ 6) × (c .15 ≤ 6)
-  pub tail : c .6 ≤ 3
-  pub counts : (counting c (c .8) ≡ true) × (counting c (c .11) ≡ true) × (counting c (c .14) ≡ true)
+  pub sorts : sortsIn 6 3 (c .below) ≡ true
+  pub tail : c .behind ≤ 3
+  pub counts : countsIn c 3 (c .below) ≡ true
 
 pub plain-row : (s : ℕ) (c : Code) → s ≤ 7 → inTree s c ≡ true → Plain c
 plain-row s c h e = go (ltb 7 s) refl e
   where
-    low : Bool
-    low = leb (c .9) 6 && (leb (c .12) 6 && leb (c .15) 6)
-
-    num : Bool
-    num = counting c (c .8) && (counting c (c .11) && counting c (c .14))
-
-    go : (b : Bool) → ltb 7 s ≡ b → (b || ((leb (c .9) 6 && (leb (c .12) 6 && leb (c .15) 6)) && (leb (c .6) 3 && (counting c (c .8) && (counting c (c .11) && counting c (c .14)))))) ≡ true → Plain c
+    go : (b : Bool) → ltb 7 s ≡ b → (b || (sortsIn 6 3 (c .below) && (leb (c .behind) 3 && countsIn c 3 (c .below)))) ≡ true → Plain c
     go true p q = let z = ltb-true 7 s p in absurd (omega arith)
     go false p q =
-        let a = and-left (leb (c .9) 6 && (leb (c .12) 6 && leb (c .15) 6)) (leb (c .6) 3 && (counting c (c .8) && (counting c (c .11) && counting c (c .14)))) q in
-        let b = and-right (leb (c .9) 6 && (leb (c .12) 6 && leb (c .15) 6)) (leb (c .6) 3 && (counting c (c .8) && (counting c (c .11) && counting c (c .14)))) q in
-        let d = and-right (leb (c .9) 6) (leb (c .12) 6 && leb (c .15) 6) a in
-        let k = and-right (leb (c .6) 3) (counting c (c .8) && (counting c (c .11) && counting c (c .14))) b in
-        let j = and-right (counting c (c .8)) (counting c (c .11) && counting c (c .14)) k in record {
-          sorts = (leb-true (c .9) 6 (and-left (leb (c .9) 6) (leb (c .12) 6 && leb (c .15) 6) a), leb-true (c .12) 6 (and-left (leb (c .12) 6) (leb (c .15) 6) d), leb-true (c .15) 6 (and-right (leb (c .12) 6) (leb (c .15) 6) d));
-          tail = leb-true (c .6) 3 (and-left (leb (c .6) 3) (counting c (c .8) && (counting c (c .11) && counting c (c .14))) b);
-          counts = (and-left (counting c (c .8)) (counting c (c .11) && counting c (c .14)) k, and-left (counting c (c .11)) (counting c (c .14)) j, and-right (counting c (c .11)) (counting c (c .14)) j);
+        let a = and-right (sortsIn 6 3 (c .below)) (leb (c .behind) 3 && countsIn c 3 (c .below)) q in record {
+          sorts = and-left (sortsIn 6 3 (c .below)) (leb (c .behind) 3 && countsIn c 3 (c .below)) q;
+          tail = leb-true (c .behind) 3 (and-left (leb (c .behind) 3) (countsIn c 3 (c .below)) a);
+          counts = and-right (leb (c .behind) 3) (countsIn c 3 (c .below)) a;
         }
 
 -- ---- the line
@@ -219,15 +205,15 @@ module _ (s : Bytes) (c : Cursor) (e : ℕ) (d : Cursor) (i : InLine s c) (low :
     (flags : Flags (field s c e d i here) f) (tidy : Tidy sort f) (row : Code) (q : f ≡ Is row) (width : ℕ) (b : Cursor) (x y k : ℕ)
     (says : Says d (takeLine (rowOf row) width (leftAt s d)) (rowOf row .tail) b x y k) (z : b .at ≡ d .end + 1)
     (a l : List ℕ) (n : ℕ) (p : List (List ℕ)) (j : ℕ) (a′ l′ : List ℕ) (n′ : ℕ) (p′ : List (List ℕ)) (j′ r : ℕ)
-    (adds : b .at ≡ d .end + 1 → row .6 ≤ 3 → Adds s (store a l n p j) (d .at) (store a′ l′ n′ p′ j′) (b .at) (found (markAt mark) (rowOf row .slots) s d) (found (markAt mark) [] s b))
-    (counted : r ≡ cond (eqb (row .16) 2) j j′) (room : n′ ≤ 1024) where
+    (adds : b .at ≡ d .end + 1 → row .behind ≤ 3 → Adds s (store a l n p j) (d .at) (store a′ l′ n′ p′ j′) (b .at) (found (markAt mark) (rowOf row .slots) s d) (found (markAt mark) [] s b))
+    (counted : r ≡ cond (eqb (row .flag) 2) j j′) (room : n′ ≤ 1024) where
   abbrev word : Bytes
   word = field s c e d i here
 
   fields-are : split 9 (part (c .at) (c .end) s) ≡ field s c e d i here ∷ leftAt s d
   fields-are = sym (left-all s (c .at) (c .end) low) ∙ left-is s c e d i here
 
-  row-flag : row .16 ≡ flagOf (field s c e d i here)
+  row-flag : row .flag ≡ flagOf (field s c e d i here)
   row-flag = subst (Flags (field s c e d i here)) q flags
 
   plain : sort ≤ 7 → Plain row
@@ -241,7 +227,7 @@ module _ (s : Bytes) (c : Cursor) (e : ℕ) (d : Cursor) (i : InLine s c) (low :
   end-at = let g = left-size s c i (omega arith) in let t : fieldsSize (leftAt s c) ≡ suc (length (field s c e d i here) + fieldsSize (leftAt s d)) = ap fieldsSize (left-is s c e d i here) in omega arith
 
   -- the line's own step of the walk
-  put-is : (xs ys : List Spot) → ys ≡ xs ++ cond (eqb (row .16) 2) [] (found (markAt mark) (rowOf row .slots) s d) → trace (c .end + 1) ys ≡ spotLine (markAt mark) (rowOf row) (field s c e d i here) (leftAt s d) (trace (c .at) xs)
+  put-is : (xs ys : List Spot) → ys ≡ xs ++ cond (eqb (row .flag) 2) [] (found (markAt mark) (rowOf row .slots) s d) → trace (c .end + 1) ys ≡ spotLine (markAt mark) (rowOf row) (field s c e d i here) (leftAt s d) (trace (c .at) xs)
   unfolding spotLine
   put-is xs ys g =
       ap₂ trace (sym end-at)
@@ -249,24 +235,23 @@ module _ (s : Bytes) (c : Cursor) (e : ℕ) (d : Cursor) (i : InLine s c) (low :
 
   walk-is : sort ≤ 7 → (xs ys : List Spot) → trace (c .end + 1) ys ≡ spotLine (markAt mark) (rowOf row) (field s c e d i here) (leftAt s d) (trace (c .at) xs)
       → (trees : Sort → Mark → State Trace → State Trace) (ls : List Line)
-      → beneath spotLine trees (eqb (row .16) 1) (markAt mark) (rowOf row .below) (x ∷ y ∷ []) (state ls (trace (c .end + 1) ys)) ≡ whole spotLine trees (sortAt sort) (markAt mark) (split 9 (part (c .at) (c .end) s) ∷ ls) (trace (c .at) xs)
+      → beneath spotLine trees (eqb (row .flag) 1) (markAt mark) (rowOf row .below) (x ∷ y ∷ []) (state ls (trace (c .end + 1) ys)) ≡ whole spotLine trees (sortAt sort) (markAt mark) (split 9 (part (c .at) (c .end) s) ∷ ls) (trace (c .at) xs)
   walk-is h xs ys g trees ls =
       let w = field s c e d i here in
       let fs = leftAt s d in
       let o = says .whole z in
       let t = line-slots (rowOf row) width fs (o .0) (o .1) in
-      let ct = plain h .counts in
       let same-first : getD (t .0 .numbers) 0 0 ≡ x = ap (λ (v : List ℕ). getD v 0 0) (t .2) ∙ o .2 in
       let same-second : getD (t .0 .numbers) 1 0 ≡ y = ap (λ (v : List ℕ). getD v 1 0) (t .2) ∙ o .3 in
       let am : (m v : ℕ) → counting row v ≡ true → amountIn m v x y ≡ amountIn m v (numberIn (getD fs 0 [])) (numberIn (getD fs 1 [])) = λ m v u. ap₂ (λ (x1 y1 : ℕ). amountIn m v x1 y1) (sym same-first) (sym same-second) ∙ amounts row fs (t .0) (t .1) m v u in
-      beneath-same spotLine trees (eqb (row .16) 1) (markAt mark) row x y (numberIn (getD fs 0 [])) (numberIn (getD fs 1 [])) (state ls (trace (c .end + 1) ys)) (am (row .7) (row .8) (ct .0)) (am (row .10) (row .11) (ct .1)) (am (row .13) (row .14) (ct .2))
+      beneath-same spotLine trees (eqb (row .flag) 1) (markAt mark) row x y (numberIn (getD fs 0 [])) (numberIn (getD fs 1 [])) am 3 (row .below) (plain h .counts) (state ls (trace (c .end + 1) ys))
       ∙ ap₂ (λ (u : Bool) (v : Trace). beneath spotLine trees u (markAt mark) (rowOf row .below) (numberIn (getD fs 0 []) ∷ numberIn (getD fs 1 []) ∷ []) (state ls v)) (ap (λ (v : ℕ). eqb v 1) row-flag ∙ flag-hides w) g
-      ∙ whole-line spotLine trees (eqb (row .16) 1) (markAt mark) w fs ls (trace (c .at) xs) (sortAt sort) (rowOf row) (sym is ∙ ap rowFound q)
+      ∙ whole-line spotLine trees (eqb (row .flag) 1) (markAt mark) w fs ls (trace (c .at) xs) (sortAt sort) (rowOf row) (sym is ∙ ap rowFound q)
       ∙ ap (λ (v : List Bytes). whole spotLine trees (sortAt sort) (markAt mark) (v ∷ ls) (trace (c .at) xs)) (sym fields-are)
 
   pub line-notes : sort ≤ 7 → LineNotes s a l n p j a′ l′ p′ c sort mark (Asks (record { row = row; first = x; second = y; names = n′; spots = r }))
   unfolding LineNotes
-  line-notes h xs kp = go (eqb (row .16) 2) refl
+  line-notes h xs kp = go (eqb (row .flag) 2) refl
     where
       u1 : b .at ≡ c .end + 1
       u1 = z ∙ ap (λ (v : ℕ). v + 1) (here .end)
@@ -283,9 +268,9 @@ module _ (s : Bytes) (c : Cursor) (e : ℕ) (d : Cursor) (i : InLine s c) (low :
       kb : Keeps s (store a′ l′ n′ p′ j′) (c .end + 1) (xs ++ step .0)
       kb = subst (λ (v : ℕ). Keeps s (store a′ l′ n′ p′ j′) v (xs ++ step .0)) u1 (step .2)
 
-      go : (t : Bool) → eqb (row .16) 2 ≡ t
+      go : (t : Bool) → eqb (row .flag) 2 ≡ t
           → (ys : List Spot) × Keeps s (store a′ l′ n′ p′ r) (c .end + 1) ys
-          × ((trees : Sort → Mark → State Trace → State Trace) (ls : List Line) → beneath spotLine trees (eqb (row .16) 1) (markAt mark) (rowOf row .below) (x ∷ y ∷ []) (state ls (trace (c .end + 1) ys)) ≡ whole spotLine trees (sortAt sort) (markAt mark) (split 9 (part (c .at) (c .end) s) ∷ ls) (trace (c .at) xs))
+          × ((trees : Sort → Mark → State Trace → State Trace) (ls : List Line) → beneath spotLine trees (eqb (row .flag) 1) (markAt mark) (rowOf row .below) (x ∷ y ∷ []) (state ls (trace (c .end + 1) ys)) ≡ whole spotLine trees (sortAt sort) (markAt mark) (split 9 (part (c .at) (c .end) s) ∷ ls) (trace (c .at) xs))
       go true t = (xs, subst (λ (v : ℕ). Keeps s (store a′ l′ n′ p′ v) (c .end + 1) xs) (sym (counted ∙ rw t)) (keeps-cut s a l n p j a′ l′ n′ p′ j′ (c .at) (c .end + 1) xs (step .0) (omega arith) kp kb), walk-is h xs xs (put-is xs xs (sym (append-nil xs) ∙ rw t)))
       go false t = (xs ++ step .0, subst (λ (v : ℕ). Keeps s (store a′ l′ n′ p′ v) (c .end + 1) (xs ++ step .0)) (sym (counted ∙ rw t)) kb, walk-is h xs (xs ++ step .0) (put-is xs (xs ++ step .0) (ap (λ (v : List Spot). xs ++ v) got ∙ rw t)))
 

@@ -1,25 +1,26 @@
 -- The slots of a row, one after the other. Assumes nothing.
-use Prim.Native.Nat.{ℕ, zero, suc, _+_, _-_, _≤_, _<_}
+use Prim.Native.Nat.{ℕ, zero, suc, _+_, _-_, _/_, _%_, _≤_, _<_}
 use mathlib.Core.Path.{_≡_, refl, sym, _∙_, ap, ap₂, subst}
-use mathlib.Core.List.{List, [], _∷_, _++_}
+use mathlib.Core.List.{List, [], _∷_, _++_, append-nil, append-assoc}
 use mathlib.Core.Bool.{Bool, true, false, cond}
 use mathlib.Core.Option.{Option, none, some}
 use mathlib.Core.Logic.{_⊎_, inl, inr, ⊎-elim}
 use native.Mathlib.Omega.{arith}
 use lib.Dec.{leb}
-use borrow.Author.Tests.{leb-true, leb-false}
+use borrow.Author.Tests.{leb-true, leb-false, ne-eqb}
 use lib.ListN.{length, getD}
 use Rattle.text.specs.Text.{Bytes}
 use Rattle.text.specs.Field.{Kind, fits, numberOf}
+use Rattle.text.specs.bridge.Code.{kindAt}
 use Rattle.algebra.specs.Reader.{kept, zeroOne}
 use Rattle.algebra.specs.Tally.{notes}
 use Rattle.names.specs.bridge.Names.{Holds}
 use Rattle.cursor.specs.declared.Cursor.{Cursor}
 use Rattle.cursor.proofs.Laws.{left-none}
 use Rattle.algebra.specs.bridge.Table.{Slot, term, text, count, choice}
-use Rattle.words.specs.bridge.Code.{mapped, slotThen, slotsUnder, tailOf}
+use Rattle.words.specs.bridge.Code.{oneSlot, slotsIn, mapped, slotsUnder, tailOf}
 use Rattle.lines.specs.bridge.Line.{andThen, Took, took, takeField, Fields, fields, takeSlots}
-use Rattle.lines.specs.bridge.Steps.{InLine, leftAt, Along, Follows, restOf, restIn, termsOf, termsIn, numberTaken, numbersIn, oneSlot, TookSlots}
+use Rattle.lines.specs.bridge.Steps.{InLine, leftAt, Along, Follows, restOf, restIn, termsOf, termsIn, numberTaken, numbersIn, TookSlots}
 use Rattle.lines.proofs.RepeatLaw.{follows-along, follows-fine, follows-fault}
 
 pub le-or-lt : (a b : ℕ) → (a ≤ b) ⊎ (b < a)
@@ -52,16 +53,15 @@ slot-choice (suc (suc zero)) k a b c = absurd (b refl)
 slot-choice (suc (suc (suc zero))) k a b c = absurd (c refl)
 slot-choice (suc (suc (suc (suc r)))) k a b c = refl
 
-pub slots-none : (r : ℕ) (k : Kind) (ss : List Slot) → r ≡ 0 → slotThen r k ss ≡ []
-slots-none r k ss e = rw e
+-- the slots of a number: none, or one and those behind it
+pub slots-none : (k : ℕ) → slotsIn k 0 ≡ []
+unfolding slotsIn
+slots-none zero = refl
+slots-none (suc k) = refl
 
-pub slots-more : (r : ℕ) (k : Kind) (ss : List Slot) → (r ≡ 0 → ⊥) → slotThen r k ss ≡ oneSlot r k ∷ ss
-unfolding oneSlot
-slots-more zero k ss h = absurd (h refl)
-slots-more (suc zero) k ss h = refl
-slots-more (suc (suc zero)) k ss h = refl
-slots-more (suc (suc (suc zero))) k ss h = refl
-slots-more (suc (suc (suc (suc r)))) k ss h = refl
+pub slots-more : (k n : ℕ) → (n ≡ 0 → ⊥) → slotsIn (suc k) n ≡ oneSlot (n % 16) (kindAt (n / 16 % 16)) ∷ slotsIn k (n / 256)
+unfolding slotsIn
+slots-more k n h = rw (ne-eqb n 0 h) refl
 
 -- a line of columns has no slots
 pub under-columns : (t : ℕ) (ss : List Slot) → t ≡ 1 → slotsUnder (tailOf t) ss ≡ []
@@ -85,7 +85,7 @@ pub data Steps (s : Bytes) : Cursor → List Slot → List Bytes → List ℕ �
       → Follows s c (restOf (takeField σ (leftAt s c))) d → numberTaken (takeField σ (leftAt s c)) ≡ x → Steps s d ss ts xs r
       → Steps s c (σ ∷ ss) (termsOf (takeField σ (leftAt s c)) ++ ts) (x ∷ xs) r
 
-steps-along : (s : Bytes) {c r : Cursor} {ss : List Slot} {ts : List Bytes} {xs : List ℕ} → Steps s c ss ts xs r → Along c r
+pub steps-along : (s : Bytes) {c r : Cursor} {ss : List Slot} {ts : List Bytes} {xs : List ℕ} → Steps s c ss ts xs r → Along c r
 steps-along s stop = (refl, refl)
 steps-along s (go {c = c} {d = d} f n more) = let a = follows-along s c d _ f in let b = steps-along s more in (b .0 ∙ a .0, b .1 ∙ a .1)
 
@@ -163,6 +163,13 @@ steps-fault s (go {c = c} {d = d} {r = r} {σ = σ} {ss = ss} f n more) l h =
     at-once : (o : Option Took) → takeField σ (leftAt s c) ≡ o → restOf o ≡ none → restIn (andThen (takeField σ (leftAt s c)) (λ t. mapped (λ u. fields (u .rest) (t .terms ++ u .terms) (t .number ∷ u .numbers)) (takeSlots ss (t .rest)))) ≡ none
     at-once none q e = rw q
     at-once (some t) q e = let z : _≡_ {A = ℕ} 0 1 = cc in absurd (omega arith)
+
+-- a step more
+pub steps-more : (s : Bytes) {c d r : Cursor} {ss : List Slot} {ts : List Bytes} {xs : List ℕ} (σ : Slot) (x : ℕ) → Steps s c ss ts xs d → Follows s d (restOf (takeField σ (leftAt s d))) r → numberTaken (takeField σ (leftAt s d)) ≡ x
+    → Steps s c (ss ++ (σ ∷ [])) (ts ++ termsOf (takeField σ (leftAt s d))) (xs ++ (x ∷ [])) r
+steps-more s {d = d} {r = r} σ x stop f n = subst (λ (ts : List Bytes). Steps s d (σ ∷ []) ts (x ∷ []) r) (append-nil (termsOf (takeField σ (leftAt s d)))) (go f n stop)
+steps-more s {d = d} {r = r} σ x (go {c = c} {σ = τ} {ss = ss} {ts = ts} {x = y} {xs = xs} g m more) f n =
+    subst (λ (us : List Bytes). Steps s c (τ ∷ (ss ++ (σ ∷ []))) us (y ∷ (xs ++ (x ∷ []))) r) (sym (append-assoc (termsOf (takeField τ (leftAt s c))) ts (termsOf (takeField σ (leftAt s d))))) (go g m (steps-more s σ x more f n))
 
 -- so the code's steps are what the row's slots take
 pub steps-took : (s : Bytes) (c r : Cursor) (ss : List Slot) (ts : List Bytes) (xs : List ℕ) (x y : ℕ) → Steps s c ss ts xs r → c .at ≤ c .end + 1 → getD xs 0 0 ≡ x → getD xs 1 0 ≡ y → x < 4294967296 → y < 4294967296 → TookSlots s c (takeSlots ss (leftAt s c)) r x y

@@ -1,7 +1,7 @@
 -- Laws of the walk over a tree's lines, whatever is made of each line. Assumes nothing.
-use Prim.Native.Nat.{ℕ, zero, suc, _+_, _-_, _≤_, _<_}
+use Prim.Native.Nat.{ℕ, zero, suc, _+_, _-_, _/_, _%_, _≤_, _<_}
 use mathlib.Core.Path.{_≡_, refl, sym, ap, ap₂, subst, _∙_}
-use mathlib.Core.List.{List, [], _∷_, _++_, append-nil}
+use mathlib.Core.List.{List, [], _∷_, _++_}
 use mathlib.Core.Bool.{Bool, true, false, cond, _&&_}
 use mathlib.Core.Option.{Option, none, some}
 use native.Mathlib.Omega.{arith}
@@ -9,12 +9,13 @@ use lib.ListN.{getD}
 use lib.Dec.{eqb}
 use Rattle.text.specs.Text.{Bytes, Line, same}
 use Rattle.text.specs.Word.{bytes}
+use Rattle.text.proofs.Basics.{and-left, and-right}
 use Rattle.algebra.specs.bridge.Table.{Sort, triples, columns, patterns, expressions, rows, orders, aggregates, Below, Row, Entry, rowsOf, rowIn, rowFor, opens}
 use Rattle.words.specs.declared.Row.{Row as Code}
-use Rattle.words.specs.bridge.Code.{sortAt, groupOf, rowOf}
+use Rattle.words.specs.bridge.Code.{sortAt, groupOf, groupsIn, counting, countsIn}
 use Rattle.scoping.specs.bridge.Places.{Mark, silent, under}
 use Rattle.scoping.specs.bridge.Walk.{State, state, rowOr, numberIn, hides, times, headAmount, part, child, beneath, whole, tree}
-use Rattle.lines.specs.bridge.Below.{amountIn, Alone}
+use Rattle.lines.specs.bridge.Below.{amountIn}
 use Rattle.lines.specs.bridge.Says.{below}
 use Rattle.lines.specs.bridge.Walks.{markUnder}
 
@@ -38,28 +39,25 @@ module _ {O : Type 0} (put : Mark → Row → Bytes → List Bytes → O → O) 
       unfolding beneath
       nothing-more st = refl
 
-      pub groups-are : (c : Code) (st : State O) → beneath put trees hide m (rowOf c .below) (a ∷ b ∷ []) st
-          ≡ times (child put trees hide m (sortAt (c .15))) (amountIn (c .13) (c .14) a b) (times (child put trees hide m (sortAt (c .12))) (amountIn (c .10) (c .11) a b) (times (child put trees hide m (sortAt (c .9))) (amountIn (c .7) (c .8) a b) st))
-      groups-are c st =
-          let fst = times (child put trees hide m (sortAt (c .9))) (amountIn (c .7) (c .8) a b) st in
-          let snd = times (child put trees hide m (sortAt (c .12))) (amountIn (c .10) (c .11) a b) fst in
-          group-is (c .7) (c .8) (sortAt (c .9)) (groupOf (c .10) (c .11) (sortAt (c .12)) ++ groupOf (c .13) (c .14) (sortAt (c .15))) st
-          ∙ group-is (c .10) (c .11) (sortAt (c .12)) (groupOf (c .13) (c .14) (sortAt (c .15))) fst
-          ∙ ap (λ (bs : List Below). beneath put trees hide m bs (a ∷ b ∷ []) snd) (sym (append-nil (groupOf (c .13) (c .14) (sortAt (c .15)))))
-          ∙ group-is (c .13) (c .14) (sortAt (c .15)) [] snd
-          ∙ nothing-more (times (child put trees hide m (sortAt (c .15))) (amountIn (c .13) (c .14) a b) snd)
+      pub group-next : (k n : ℕ) (st : State O) → beneath put trees hide m (groupsIn (suc k) n) (a ∷ b ∷ []) st ≡ beneath put trees hide m (groupsIn k (n / 512)) (a ∷ b ∷ []) (times (child put trees hide m (sortAt (n / 32 % 16))) (amountIn (n % 4) (n / 4 % 8) a b) st)
+      unfolding groupsIn
+      group-next k n st = group-is (n % 4) (n / 4 % 8) (sortAt (n / 32 % 16)) (groupsIn k (n / 512)) st
+
+      pub group-none : (k : ℕ) (st : State O) → beneath put trees hide m (groupsIn k 0) (a ∷ b ∷ []) st ≡ st
+      unfolding groupsIn times
+      group-none zero st = nothing-more st
+      group-none (suc k) st = group-next k 0 st ∙ group-none k st
 
     -- the same amounts
-    pub beneath-same : (c : Code) (a b a′ b′ : ℕ) (st : State O) → amountIn (c .7) (c .8) a b ≡ amountIn (c .7) (c .8) a′ b′ → amountIn (c .10) (c .11) a b ≡ amountIn (c .10) (c .11) a′ b′ → amountIn (c .13) (c .14) a b ≡ amountIn (c .13) (c .14) a′ b′
-        → beneath put trees hide m (rowOf c .below) (a ∷ b ∷ []) st ≡ beneath put trees hide m (rowOf c .below) (a′ ∷ b′ ∷ []) st
-    beneath-same c a b a′ b′ st p q r =
-        groups-are a b c st
-        ∙ (λ i. times (child put trees hide m (sortAt (c .15))) (r i) (times (child put trees hide m (sortAt (c .12))) (q i) (times (child put trees hide m (sortAt (c .9))) (p i) st)))
-        ∙ sym (groups-are a′ b′ c st)
-
-    pub beneath-alone : (c : Code) (a b : ℕ) (st : State O) → Alone c → beneath put trees hide m (rowOf c .below) (a ∷ b ∷ []) st ≡ st
-    unfolding times
-    beneath-alone c a b st q = groups-are a b c st ∙ rw (q .first .0, q .first .1, q .second .0, q .second .1, q .third .0, q .third .1)
+    pub beneath-same : (c : Code) (a b a′ b′ : ℕ) → ((n k : ℕ) → counting c k ≡ true → amountIn n k a b ≡ amountIn n k a′ b′) → (k n : ℕ) → countsIn c k n ≡ true → (st : State O)
+        → beneath put trees hide m (groupsIn k n) (a ∷ b ∷ []) st ≡ beneath put trees hide m (groupsIn k n) (a′ ∷ b′ ∷ []) st
+    unfolding groupsIn countsIn
+    beneath-same c a b a′ b′ am zero n h st = nothing-more a b st ∙ sym (nothing-more a′ b′ st)
+    beneath-same c a b a′ b′ am (suc k) n h st =
+        group-next a b k n st
+        ∙ beneath-same c a b a′ b′ am k (n / 512) (and-right (counting c (n / 4 % 8)) (countsIn c k (n / 512)) h) _
+        ∙ ap (λ (i : ℕ). beneath put trees hide m (groupsIn k (n / 512)) (a′ ∷ b′ ∷ []) (times (child put trees hide m (sortAt (n / 32 % 16))) i st)) (am (n % 4) (n / 4 % 8) (and-left (counting c (n / 4 % 8)) (countsIn c k (n / 512)) h))
+        ∙ sym (group-next a′ b′ k n st)
 
     whole-row : (w : Bytes) (fs : List Bytes) (ls : List Line) (o : O) (s : Sort) → whole put trees s m ((w ∷ fs) ∷ ls) o ≡ beneath put trees (hides w) m (rowOr (rowFor s w) .below) (numberIn (getD fs 0 []) ∷ numberIn (getD fs 1 []) ∷ []) (state ls (put m (rowOr (rowFor s w)) w fs o))
     unfolding whole

@@ -1,5 +1,5 @@
 -- The descent and the walk: one after the other, and each way out of a line. Assumes nothing.
-use Prim.Native.Nat.{ℕ, zero, suc, _+_, _-_, _*_, _≤_, _<_}
+use Prim.Native.Nat.{ℕ, zero, suc, _+_, _-_, _*_, _/_, _%_, _≤_, _<_}
 use mathlib.Core.Path.{_≡_, refl, sym, _∙_, ap, ap₂, subst}
 use mathlib.Core.List.{List, [], _∷_, _++_}
 use mathlib.Core.Bool.{Bool, true, false, cond, not, _&&_}
@@ -16,10 +16,9 @@ use Rattle.algebra.specs.declared.Answer.the-variants as A
 use Rattle.algebra.specs.bridge.Table.{Sort, opens}
 use Rattle.algebra.specs.bridge.Machine.{Check}
 use Rattle.scoping.specs.bridge.Places.{Mark, visible, covered, silent, under}
-use Rattle.scoping.specs.bridge.Walk.{State, state, times, child, beneath, whole, tree}
+use Rattle.scoping.specs.bridge.Walk.{State, state, times as many, child, beneath, whole, tree}
 use Rattle.scoping.specs.bridge.Spots.{Spot, Trace, trace, spotLine}
-use Rattle.words.specs.declared.Row.{Row as Code}
-use Rattle.words.specs.bridge.Code.{sortAt, rowOf}
+use Rattle.words.specs.bridge.Code.{sortAt, groupsIn}
 use Rattle.names.specs.bridge.Names.{listing, Holds}
 use Rattle.lines.specs.declared.check.Place.{Place}
 use Rattle.lines.specs.declared.check.Taken.{Taken}
@@ -28,14 +27,14 @@ use Rattle.lines.specs.declared.check.Noting.the-variants as N
 use Rattle.lines.specs.declared.line.Asked.{Asked}
 use Rattle.lines.specs.declared.line.Line.{Line as Read}
 use Rattle.lines.specs.declared.line.Line.the-variants.{Asks}
-use Rattle.lines.specs.bridge.Below.{amountIn, Alone}
+use Rattle.lines.specs.bridge.Below.{amountIn}
 use Rattle.lines.specs.bridge.Says.{below}
 use Rattle.lines.specs.bridge.Run.{Told, Tells}
 use Rattle.lines.specs.bridge.Spotted.{markAt, spotsOf, Spotted}
 use Rattle.lines.specs.bridge.Stored.{Store, store, Keeps, LineNotes}
 use Rattle.lines.specs.bridge.Walks.{walkAt, storeAt, Walks, LineWalks, entryOf, markUnder, answerOf, Charts}
 use Rattle.lines.proofs.SlotLaw.{le-or-lt}
-use Rattle.lines.proofs.WalkLaw.{groups-are, beneath-alone, child-is, times-next, times-done}
+use Rattle.lines.proofs.WalkLaw.{group-next, group-none, child-is, times-next, times-done}
 
 -- ---- marks
 
@@ -63,24 +62,7 @@ module _ (sort flag mark : ℕ) (last : Bool) where
       go (suc zero) h = refl
       go (suc (suc k)) h = refl
 
--- ---- one after the other
-
 module _ (s : Bytes) where
-  pub walks-none : (A : Store) (p : Place) (f : State Trace → State Trace) → ((st : State Trace) → st ≡ f st) → Walks s A p A p f
-  unfolding Walks
-  walks-none A p f e xs k = (xs, k, e (walkAt s p xs))
-
-  pub walks-then : (A : Store) (p : Place) (B : Store) (q : Place) (C : Store) (r : Place) (f g h : State Trace → State Trace) → Walks s A p B q f → Walks s B q C r g → ((st : State Trace) → g (f st) ≡ h st) → Walks s A p C r h
-  unfolding Walks
-  walks-then A p B q C r f g h x y e xs k =
-      let u = x xs k in
-      let v = y (u .0) (u .1) in
-      (v .0, v .1, v .2 ∙ ap g (u .2) ∙ e (walkAt s p xs))
-
-  pub walks-as : (A : Store) (p : Place) (B : Store) (q : Place) (f h : State Trace → State Trace) → Walks s A p B q f → ((st : State Trace) → f st ≡ h st) → Walks s A p B q h
-  unfolding Walks
-  walks-as A p B q f h x e xs k = let u = x xs k in (u .0, u .1, u .2 ∙ e (walkAt s p xs))
-
   -- ---- a line
 
   pub line-walked : (a l : List ℕ) (w : List (List ℕ)) (a′ l′ : List ℕ) (w′ : List (List ℕ)) (p : Place) (sort mark : ℕ) (end : ℕ) → First 10 s (p .from) (length s) end → end < length s → (x : Asked) (line : Read) → line ≡ Asks x → (lines fault : ℕ)
@@ -93,13 +75,13 @@ module _ (s : Bytes) where
       (u .0, u .1, λ trees. u .2 trees (linesFrom s (end + 1)) ∙ ap (λ (ls : List Line). whole spotLine trees (sortAt sort) (markAt mark) ls (trace (p .from) xs)) (sym (lines-next s (p .from) end first ended)))
 
   module _ (A : Store) (p : Place) (B : Store) (level sort mark : ℕ) (t : Taken) (line : LineWalks s A p B sort mark t) where
-    pub entry-alone : Alone (t .row) → Walks s A p B (t .place) (entryOf level sort (markAt mark))
+    pub entry-alone : t .row .below ≡ 0 → Walks s A p B (t .place) (entryOf level sort (markAt mark))
     unfolding Walks LineWalks
     entry-alone al xs k =
         let u = line xs k in
-        (u .0, u .1, sym (beneath-alone spotLine (tree spotLine (below sort level)) (eqb (t .row .16) 1) (markAt mark) (t .row) (t .first) (t .second) (walkAt s (t .place) (u .0)) al) ∙ u .2 (tree spotLine (below sort level)))
+        (u .0, u .1, sym (ap (λ (n : ℕ). beneath spotLine (tree spotLine (below sort level)) (eqb (t .row .flag) 1) (markAt mark) (groupsIn 3 n) (t .first ∷ t .second ∷ []) (walkAt s (t .place) (u .0))) al ∙ group-none spotLine (tree spotLine (below sort level)) (eqb (t .row .flag) 1) (markAt mark) (t .first) (t .second) 3 (walkAt s (t .place) (u .0))) ∙ u .2 (tree spotLine (below sort level)))
 
-    pub entry-below : (d : ℕ) → d ≡ below sort level → (C : Store) (r : Place) → Walks s B (t .place) C r (beneath spotLine (tree spotLine d) (eqb (t .row .16) 1) (markAt mark) (rowOf (t .row) .below) (t .first ∷ t .second ∷ []))
+    pub entry-below : (d : ℕ) → d ≡ below sort level → (C : Store) (r : Place) → Walks s B (t .place) C r (beneath spotLine (tree spotLine d) (eqb (t .row .flag) 1) (markAt mark) (groupsIn 3 (t .row .below)) (t .first ∷ t .second ∷ []))
         → Walks s A p C r (entryOf level sort (markAt mark))
     unfolding Walks LineWalks
     entry-below d e C r f xs k =
@@ -109,23 +91,40 @@ module _ (s : Bytes) where
 
   -- ---- groups
 
-  pub three-groups : (A B C D : Store) (p q b r : Place) (level : ℕ) (c : Code) (m : Mark) (x y : ℕ) (k l n : ℕ) → k ≡ amountIn (c .7) (c .8) x y → l ≡ amountIn (c .10) (c .11) x y → n ≡ amountIn (c .13) (c .14) x y
-      → Walks s A p B q (times (child spotLine (tree spotLine level) (eqb (c .16) 1) m (sortAt (c .9))) k)
-      → Walks s B q C b (times (child spotLine (tree spotLine level) (eqb (c .16) 1) m (sortAt (c .12))) l)
-      → Walks s C b D r (times (child spotLine (tree spotLine level) (eqb (c .16) 1) m (sortAt (c .15))) n)
-      → Walks s A p D r (beneath spotLine (tree spotLine level) (eqb (c .16) 1) m (rowOf c .below) (x ∷ y ∷ []))
-  three-groups A B C D p q b r level c m x y k l n ek el en f g h =
-      let one = times (child spotLine (tree spotLine level) (eqb (c .16) 1) m (sortAt (c .9))) in
-      let two = times (child spotLine (tree spotLine level) (eqb (c .16) 1) m (sortAt (c .12))) in
-      let three = times (child spotLine (tree spotLine level) (eqb (c .16) 1) m (sortAt (c .15))) in
-      walks-then A p C b D r (λ st. two l (one k st)) (three n) _ (walks-then A p B q C b (one k) (two l) (λ st. two l (one k st)) f g (λ st. refl)) h
-      (λ st. (λ i. three (en i) (two (el i) (one (ek i) st))) ∙ sym (groups-are spotLine (tree spotLine level) (eqb (c .16) 1) m x y c st))
+  -- of what was to be walked from p on, g is left at q
+  unfoldable pub Rest : Store → Place → Store → Place → (State Trace → State Trace) → (State Trace → State Trace) → Type 0
+  Rest A p B q f g = (xs : List Spot) → Keeps s A (p .from) xs → (ys : List Spot) × Keeps s B (q .from) ys × (g (walkAt s q ys) ≡ f (walkAt s p xs))
+
+  pub rest-begin : (A : Store) (p : Place) (f : State Trace → State Trace) → Rest A p A p f f
+  unfolding Rest
+  rest-begin A p f xs k = (xs, k, refl)
+
+  module _ (A : Store) (p : Place) (B : Store) (q : Place) (f : State Trace → State Trace) (level : ℕ) (hide : Bool) (m : Mark) (x y k n : ℕ) where
+    -- the groups of a number are left: the first of them is next
+    pub rest-next : Rest A p B q f (beneath spotLine (tree spotLine level) hide m (groupsIn (suc k) n) (x ∷ y ∷ [])) → (times : ℕ) → times ≡ amountIn (n % 4) (n / 4 % 8) x y → (C : Store) (r : Place) → Walks s B q C r (many (child spotLine (tree spotLine level) hide m (sortAt (n / 32 % 16))) times)
+        → Rest A p C r f (beneath spotLine (tree spotLine level) hide m (groupsIn k (n / 512)) (x ∷ y ∷ []))
+    unfolding Rest Walks
+    rest-next g times e C r w xs kp =
+        let u = g xs kp in
+        let v = w (u .0) (u .1) in (
+          v .0,
+          v .1,
+          ap (beneath spotLine (tree spotLine level) hide m (groupsIn k (n / 512)) (x ∷ y ∷ [])) (v .2 ∙ ap (λ (i : ℕ). many (child spotLine (tree spotLine level) hide m (sortAt (n / 32 % 16))) i (walkAt s q (u .0))) e)
+              ∙ sym (group-next spotLine (tree spotLine level) hide m x y k n (walkAt s q (u .0)))
+              ∙ u .2,
+        )
+
+    pub rest-done : Rest A p B q f (beneath spotLine (tree spotLine level) hide m (groupsIn k n) (x ∷ y ∷ [])) → n ≡ 0 → Walks s A p B q f
+    unfolding Rest Walks
+    rest-done g e xs kp =
+        let u = g xs kp in
+        (u .0, u .1, sym (ap (λ (i : ℕ). beneath spotLine (tree spotLine level) hide m (groupsIn k i) (x ∷ y ∷ []) (walkAt s q (u .0))) e ∙ group-none spotLine (tree spotLine level) hide m x y k (walkAt s q (u .0))) ∙ u .2)
 
   -- ---- so many lines
 
   -- of n lines k are left
   unfoldable pub Left : Store → Place → Store → Place → (Bool → State Trace → State Trace) → ℕ → ℕ → Type 0
-  Left A p B q f n k = (xs : List Spot) → Keeps s A (p .from) xs → (ys : List Spot) × Keeps s B (q .from) ys × (times f k (walkAt s q ys) ≡ times f n (walkAt s p xs))
+  Left A p B q f n k = (xs : List Spot) → Keeps s A (p .from) xs → (ys : List Spot) × Keeps s B (q .from) ys × (many f k (walkAt s q ys) ≡ many f n (walkAt s p xs))
 
   pub left-begin : (A : Store) (p : Place) (f : Bool → State Trace → State Trace) (n : ℕ) → Left A p A p f n n
   unfolding Left
@@ -144,14 +143,11 @@ module _ (s : Bytes) where
       ∙ ap (λ (i : Mark). whole spotLine (tree spotLine (below sort level)) (sortAt sort) i (st .lines) (st .output)) em
       ∙ sym (child-is spotLine level (eqb flag 1) (markAt mark) last st sort low deep)
       ∙ ap (λ (i : Bool). child spotLine (tree spotLine level) (eqb flag 1) (markAt mark) (sortAt sort) i st) el in
-      (v .0, v .1, ap (times (child spotLine (tree spotLine level) (eqb flag 1) (markAt mark) (sortAt sort)) (k - 1)) one ∙ times-next spotLine (child spotLine (tree spotLine level) (eqb flag 1) (markAt mark) (sortAt sort)) k st some ∙ u .2)
+      (v .0, v .1, ap (many (child spotLine (tree spotLine level) (eqb flag 1) (markAt mark) (sortAt sort)) (k - 1)) one ∙ times-next spotLine (child spotLine (tree spotLine level) (eqb flag 1) (markAt mark) (sortAt sort)) k st some ∙ u .2)
 
-  pub left-done : (A : Store) (p : Place) (B : Store) (q : Place) (f : Bool → State Trace → State Trace) (n k : ℕ) → Left A p B q f n k → k ≤ 0 → Walks s A p B q (times f n)
+  pub left-done : (A : Store) (p : Place) (B : Store) (q : Place) (f : Bool → State Trace → State Trace) (n k : ℕ) → Left A p B q f n k → k ≤ 0 → Walks s A p B q (many f n)
   unfolding Walks Left
   left-done A p B q f n k g e xs kp = let u = g xs kp in (u .0, u .1, sym (times-done spotLine f k (walkAt s q (u .0)) e) ∙ u .2)
-
-  pub none-left : (A : Store) (p : Place) (f : Bool → State Trace → State Trace) (n : ℕ) → n ≡ 0 → Walks s A p A p (times f n)
-  none-left A p f n e = walks-none A p (times f n) (λ st. sym (times-done spotLine f n st (omega arith)))
 
 -- ---- the whole text
 

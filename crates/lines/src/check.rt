@@ -1,5 +1,4 @@
 // A text by descent: a line, then the groups of lines that it asks for, each line with what it asks for itself; then left-over lines.
-use crate::below::alone;
 use crate::below::amount;
 use crate::below::below_level;
 use crate::fields::Spot;
@@ -24,7 +23,7 @@ ghost use Rattle.algebra.specs.declared.Answer.the-variants.{Good as GoodOf};
 ghost use Rattle.scoping.specs.bridge.Walk.{times as many, child, beneath, tree};
 ghost use Rattle.scoping.specs.bridge.Spots.{spotLine};
 ghost use Rattle.scoping.specs.bridge.Places.{silent};
-ghost use Rattle.words.specs.bridge.Code.{sortAt, rowOf};
+ghost use Rattle.words.specs.bridge.Code.{sortAt, groupsIn, sortsIn};
 ghost use Rattle.lines.specs.bridge.Says.{below};
 ghost use Rattle.lines.specs.bridge.Below.{groups};
 ghost use Rattle.lines.specs.bridge.Run.{Ready, Stood, Went, Sound, Told, levelFor, Tells};
@@ -87,7 +86,12 @@ fn lost(fault: usize) -> Taken
     ensures { λ r. ⌜ r .place .fault ≡ fault ⌝ }
 {
     Taken {
-        row: Row(0, 0, 0, 0, 0, 0, 0, 0, 0, 0, 0, 0, 0, 0, 0, 0, 0),
+        row: Row {
+            fields: 0,
+            behind: 0,
+            flag: 0,
+            below: 0,
+        },
         first: 0,
         second: 0,
         place: stopped(fault),
@@ -108,7 +112,7 @@ fn take_line(
     spots: &mut [Spot],
 ) -> Taken
     requires { ⌜ (sort ≤ 11) × Ready (now s) p ⌝ }
-    ensures { λ r. ⌜ ((ρ : More) (ws : List Want) (m : Tally) → Stood (now (s .entry)) (now (starts .entry)) (now (sizes .entry)) (now (hints .entry)) p m → Went (now (s .entry)) (now (starts .exit)) (now (sizes .exit)) (now (hints .exit)) ρ (groups (r .row) (below sort level) (r .first) (r .second) ++ ws) (run bounds (linesFrom (now (s .entry)) (p .from)) ρ (want (sortAt sort) level width ∷ ws) m) (r .place)) ⌝ }
+    ensures { λ r. ⌜ ((ρ : More) (ws : List Want) (m : Tally) → Stood (now (s .entry)) (now (starts .entry)) (now (sizes .entry)) (now (hints .entry)) p m → Went (now (s .entry)) (now (starts .exit)) (now (sizes .exit)) (now (hints .exit)) ρ (groups 3 (r .row .below) (below sort level) (r .first) (r .second) ++ ws) (run bounds (linesFrom (now (s .entry)) (p .from)) ρ (want (sortAt sort) level width ∷ ws) m) (r .place)) ⌝ }
     ensures sound { λ r. ⌜ (r .place .fault ≡ 0 → Sound (now (s .entry)) p sort level r) ⌝ }
     ensures walks { λ r. ⌜ (r .place .fault ≡ 0 → sort ≤ 7 → LineWalks (now (s .entry)) (storeAt (now (starts .entry)) (now (sizes .entry)) (now (spots .entry)) p) p (storeAt (now (starts .exit)) (now (sizes .exit)) (now (spots .exit)) (r .place)) sort mark r) ⌝ }
 {
@@ -189,7 +193,7 @@ fn check_entry(
     if q.fault != 0 {
         return q;
     }
-    if alone(t.row) {
+    if t.row.below == 0 {
         return q;
     }
     let d = below_level(sort, level);
@@ -222,101 +226,35 @@ fn check_below(
     hints: &mut [u16; 4096],
     spots: &mut [Spot],
 ) -> Place
-    requires { ⌜ ((row .9 ≤ 11) × (row .12 ≤ 11) × (row .15 ≤ 11)) × (first < 4294967296) × (second < 4294967296) × Ready (now s) p ⌝ }
-    ensures { λ r. ⌜ ((ρ : More) (ws : List Want) (m : Tally) → Stood (now (s .entry)) (now (starts .entry)) (now (sizes .entry)) (now (hints .entry)) p m → Went (now (s .entry)) (now (starts .exit)) (now (sizes .exit)) (now (hints .exit)) ρ ws (run bounds (linesFrom (now (s .entry)) (p .from)) ρ (groups row level first second ++ ws) m) r) ⌝ }
+    requires { ⌜ (sortsIn 11 3 (row .below) ≡ true) × (first < 4294967296) × (second < 4294967296) × Ready (now s) p ⌝ }
+    ensures { λ r. ⌜ ((ρ : More) (ws : List Want) (m : Tally) → Stood (now (s .entry)) (now (starts .entry)) (now (sizes .entry)) (now (hints .entry)) p m → Went (now (s .entry)) (now (starts .exit)) (now (sizes .exit)) (now (hints .exit)) ρ ws (run bounds (linesFrom (now (s .entry)) (p .from)) ρ (groups 3 (row .below) level first second ++ ws) m) r) ⌝ }
     ensures ready { λ r. ⌜ (r .fault ≡ 0 → (p .from ≤ r .from) × Ready (now (s .entry)) r) ⌝ }
-    ensures walks { λ r. ⌜ (r .fault ≡ 0 → (row .9 ≤ 6) × (row .12 ≤ 6) × (row .15 ≤ 6) → Walks (now (s .entry)) (storeAt (now (starts .entry)) (now (sizes .entry)) (now (spots .entry)) p) p (storeAt (now (starts .exit)) (now (sizes .exit)) (now (spots .exit)) r) r (beneath spotLine (tree spotLine level) (eqb (row .16) 1) (markAt mark) (rowOf row .below) (first ∷ second ∷ []))) ⌝ }
+    ensures walks { λ r. ⌜ (r .fault ≡ 0 → sortsIn 6 3 (row .below) ≡ true → Walks (now (s .entry)) (storeAt (now (starts .entry)) (now (sizes .entry)) (now (spots .entry)) p) p (storeAt (now (starts .exit)) (now (sizes .exit)) (now (spots .exit)) r) r (beneath spotLine (tree spotLine level) (eqb (row .flag) 1) (markAt mark) (groupsIn 3 (row .below)) (first ∷ second ∷ []))) ⌝ }
 {
-    let k = amount(row.7, row.8, first, second);
-    let a = check_group(
-        p,
-        level,
-        row.9,
-        first,
-        k,
-        mark,
-        row.16,
-        s,
-        starts,
-        sizes,
-        hints,
-        spots,
-    );
-    if a.fault != 0 {
-        return a;
+    let mut q = p;
+    let mut code = row.below;
+    while code != 0 {
+        let times = amount(code, first, second);
+        q = check_lines(
+            q,
+            level,
+            (code / 32 % 16) as u8,
+            first,
+            times,
+            mark,
+            row.flag,
+            s,
+            starts,
+            sizes,
+            hints,
+            spots,
+        );
+        if q.fault != 0 {
+            return q;
+        }
+        code = code / 512;
     }
-    let l = amount(row.10, row.11, first, second);
-    let b = check_group(
-        a,
-        level,
-        row.12,
-        first,
-        l,
-        mark,
-        row.16,
-        s,
-        starts,
-        sizes,
-        hints,
-        spots,
-    );
-    if b.fault != 0 {
-        return b;
-    }
-    let x = amount(row.13, row.14, first, second);
-    check_group(
-        b,
-        level,
-        row.15,
-        first,
-        x,
-        mark,
-        row.16,
-        s,
-        starts,
-        sizes,
-        hints,
-        spots,
-    )
-}
-
-// So many lines of a sort, if any.
-fn check_group(
-    p: Place,
-    level: u8,
-    sort: u8,
-    width: usize,
-    times: u64,
-    mark: u8,
-    flag: u8,
-    s: &[u8],
-    starts: &mut [u16; 1024],
-    sizes: &mut [u16; 1024],
-    hints: &mut [u16; 4096],
-    spots: &mut [Spot],
-) -> Place
-    requires { ⌜ (sort ≤ 11) × Ready (now s) p ⌝ }
-    ensures { λ r. ⌜ ((ρ : More) (ws : List Want) (m : Tally) → Stood (now (s .entry)) (now (starts .entry)) (now (sizes .entry)) (now (hints .entry)) p m → Went (now (s .entry)) (now (starts .exit)) (now (sizes .exit)) (now (hints .exit)) ρ ws (run bounds (linesFrom (now (s .entry)) (p .from)) ρ (replicate times (want (sortAt sort) level width) ++ ws) m) r) ⌝ }
-    ensures ready { λ r. ⌜ (r .fault ≡ 0 → (p .from ≤ r .from) × Ready (now (s .entry)) r) ⌝ }
-    ensures walks { λ r. ⌜ (r .fault ≡ 0 → sort ≤ 6 → Walks (now (s .entry)) (storeAt (now (starts .entry)) (now (sizes .entry)) (now (spots .entry)) p) p (storeAt (now (starts .exit)) (now (sizes .exit)) (now (spots .exit)) r) r (many (child spotLine (tree spotLine level) (eqb flag 1) (markAt mark) (sortAt sort)) times)) ⌝ }
-{
-    if times == 0 {
-        return p;
-    }
-    check_lines(
-        p,
-        level,
-        sort,
-        width,
-        times,
-        mark,
-        flag,
-        s,
-        starts,
-        sizes,
-        hints,
-        spots,
-    )
+    q
 }
 
 // So many lines of a sort, each with all that it asks for.

@@ -256,6 +256,51 @@ pub fn value_fields(s: &[u8], c: Cursor, times: usize) -> Cursor
     d
 }
 
+// A variable, which goes into the table and is noted: a term that needs no look at its kind.
+fn variable_field(
+    s: &[u8],
+    c: Cursor,
+    mark: u8,
+    starts: &mut [u16; 1024],
+    sizes: &mut [u16; 1024],
+    hints: &mut [u16; 4096],
+    n: usize,
+    spots: &mut [Spot],
+    k: usize,
+) -> Noted
+    requires { ⌜ InLine (now s) c ⌝ }
+    ensures follows { λ r. ⌜ Follows (now (s .entry)) c (restOf (takeField (term variable) (leftAt (now (s .entry)) c))) (r .cursor) ⌝ }
+    ensures keeps { λ r. ⌜ ((want : List (List ℕ)) → Holds (now (s .entry)) (now (starts .entry)) (now (sizes .entry)) (now (hints .entry)) n want → Holds (now (s .entry)) (now (starts .exit)) (now (sizes .exit)) (now (hints .exit)) (r .names) (notes (termsOf (takeField (term variable) (leftAt (now (s .entry)) c))) want)) ⌝ }
+    ensures adds { λ r. ⌜ (r .cursor .at ≤ c .end + 1 → (ss : List Slot) → Adds (now (s .entry)) (store (now (starts .entry)) (now (sizes .entry)) n (now (spots .entry)) k) (c .at) (store (now (starts .exit)) (now (sizes .exit)) (r .names) (now (spots .exit)) (r .spots)) (r .cursor .at) (found (markAt mark) (term variable ∷ ss) (now (s .entry)) c) (found (markAt mark) ss (now (s .entry)) (r .cursor))) ⌝ }
+{
+    let at = c.at;
+    let field = c.next_field(s);
+    match field {
+        Field::At(e, next) => {
+            if is_var(&s[at..e]) {
+                let m = note_field(s, at, e - at, mark, starts, sizes, hints, n, spots, k);
+                return Noted {
+                    cursor: next,
+                    names: m.names,
+                    spots: m.spots,
+                };
+            }
+            return Noted {
+                cursor: c.failed(),
+                names: n,
+                spots: k,
+            };
+        }
+        Field::None => {
+            return Noted {
+                cursor: c.failed(),
+                names: n,
+                spots: k,
+            };
+        }
+    }
+}
+
 // So many variables, which go into the table and are noted.
 pub fn variable_fields(
     s: &[u8],
@@ -279,7 +324,7 @@ pub fn variable_fields(
     let mut j = k;
     let mut left = times;
     while 0 < left {
-        let t = term_field(s, d, 0, mark, starts, sizes, hints, m, spots, j);
+        let t = variable_field(s, d, mark, starts, sizes, hints, m, spots, j);
         d = t.cursor;
         if d.end + 1 < d.at {
             return t;

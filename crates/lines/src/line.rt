@@ -16,17 +16,17 @@ use words::lookup;
 ghost use mathlib.Core.Path.{_≡_};
 ghost use Prim.Native.Nat.{ℕ, _+_, _≤_, _<_};
 ghost use mathlib.Core.List.{List, [], _∷_};
-ghost use mathlib.Core.Bool.{cond};
+ghost use mathlib.Core.Bool.{cond, true};
 ghost use lib.ListN.{length, getD};
 ghost use lib.Dec.{eqb};
 ghost use Rattle.text.specs.bridge.Code.{kindAt};
 ghost use Rattle.algebra.specs.Tally.{notes, Tally};
 ghost use Rattle.algebra.specs.bridge.Table.{Slot, opens};
 ghost use Rattle.names.specs.bridge.Names.{Holds};
-ghost use Rattle.words.specs.bridge.Code.{tailOf, rowOf, sortAt};
+ghost use Rattle.words.specs.bridge.Code.{tailOf, rowOf, sortAt, oneSlot, slotsIn, fitsIn};
 ghost use Rattle.lines.specs.bridge.Line.{takeField, takeSlots, takeTail, takeLine, columnsOf};
 ghost use Rattle.lines.specs.bridge.Says.{Says, LineIs, Small};
-ghost use Rattle.lines.specs.bridge.Steps.{InLine, leftAt, Follows, restOf, restIn, termsOf, termsIn, numberTaken, numbersIn, oneSlot, TookSlots};
+ghost use Rattle.lines.specs.bridge.Steps.{InLine, leftAt, Follows, restOf, restIn, termsOf, termsIn, numberTaken, numbersIn, TookSlots};
 ghost use Rattle.lines.specs.bridge.Spotted.{markAt};
 ghost use Rattle.lines.specs.bridge.Stored.{store, Adds, found, LineNotes};
 
@@ -52,7 +52,7 @@ fn slot(
     spots: &mut [Spot],
     k: usize,
 ) -> Step
-    requires { ⌜ InLine (now s) c × (role ≡ 0 → ⊥) ⌝ }
+    requires { ⌜ InLine (now s) c ⌝ }
     ensures follows { λ r. ⌜ Follows (now (s .entry)) c (restOf (takeField (oneSlot role (kindAt kind)) (leftAt (now (s .entry)) c))) (r .cursor) × (numberTaken (takeField (oneSlot role (kindAt kind)) (leftAt (now (s .entry)) c)) ≡ r .number) × (r .number < 4294967296) ⌝ }
     ensures keeps { λ r. ⌜ ((want : List (List ℕ)) → Holds (now (s .entry)) (now (starts .entry)) (now (sizes .entry)) (now (hints .entry)) n want → Holds (now (s .entry)) (now (starts .exit)) (now (sizes .exit)) (now (hints .exit)) (r .names) (notes (termsOf (takeField (oneSlot role (kindAt kind)) (leftAt (now (s .entry)) c))) want)) ⌝ }
     ensures adds { λ r. ⌜ (r .cursor .at ≤ c .end + 1 → (ss : List Slot) → Adds (now (s .entry)) (store (now (starts .entry)) (now (sizes .entry)) n (now (spots .entry)) k) (c .at) (store (now (starts .exit)) (now (sizes .exit)) (r .names) (now (spots .exit)) (r .spots)) (r .cursor .at) (found (markAt mark) (oneSlot role (kindAt kind) ∷ ss) (now (s .entry)) c) (found (markAt mark) ss (now (s .entry)) (r .cursor))) ⌝ }
@@ -105,6 +105,27 @@ pub struct Filled {
     pub second: usize,
 }
 
+// The slots of a row: where columns stand behind them there are none.
+fn slots_of(row: Row) -> u64
+    requires { ⌜ fitsIn 3 (row .fields) ≡ true ⌝ }
+    ensures { λ r. ⌜ (slotsIn 3 r ≡ rowOf row .slots) × (fitsIn 3 r ≡ true) ⌝ }
+{
+    if row.behind == 1 {
+        return 0;
+    }
+    row.fields
+}
+
+// The number of a field that is the one at this place, or what there was.
+fn number_at(i: usize, place: usize, number: usize, old: usize) -> usize
+    ensures { λ r. ⌜ r ≡ cond (eqb i place) number old ⌝ }
+{
+    if i == place {
+        return number;
+    }
+    old
+}
+
 // The fields that the slots of a row take.
 fn slots(
     s: &[u8],
@@ -118,83 +139,46 @@ fn slots(
     spots: &mut [Spot],
     k: usize,
 ) -> Filled
-    requires { ⌜ InLine (now s) c × (c .at ≤ c .end + 1) ⌝ }
+    requires { ⌜ InLine (now s) c × (c .at ≤ c .end + 1) × (fitsIn 3 (row .fields) ≡ true) ⌝ }
     ensures { λ r. ⌜ TookSlots (now (s .entry)) c (takeSlots (rowOf row .slots) (leftAt (now (s .entry)) c)) (r .cursor) (r .first) (r .second) ⌝ }
     ensures keeps { λ r. ⌜ (r .cursor .at ≤ c .end + 1 → (want : List (List ℕ)) → Holds (now (s .entry)) (now (starts .entry)) (now (sizes .entry)) (now (hints .entry)) n want → Holds (now (s .entry)) (now (starts .exit)) (now (sizes .exit)) (now (hints .exit)) (r .names) (notes (termsIn (takeSlots (rowOf row .slots) (leftAt (now (s .entry)) c))) want)) ⌝ }
     ensures adds { λ r. ⌜ (r .cursor .at ≤ c .end + 1 → Adds (now (s .entry)) (store (now (starts .entry)) (now (sizes .entry)) n (now (spots .entry)) k) (c .at) (store (now (starts .exit)) (now (sizes .exit)) (r .names) (now (spots .exit)) (r .spots)) (r .cursor .at) (found (markAt mark) (rowOf row .slots) (now (s .entry)) c) (found (markAt mark) [] (now (s .entry)) (r .cursor))) ⌝ }
 {
-    if row.6 == 1 {
-        return Filled {
-            cursor: c,
-            names: n,
-            spots: k,
-            first: 0,
-            second: 0,
-        };
+    let mut d = c;
+    let mut m = n;
+    let mut j = k;
+    let mut first = 0;
+    let mut second = 0;
+    let mut i = 0;
+    let mut code = slots_of(row);
+    while code != 0 {
+        let t = slot(
+            s,
+            d,
+            (code % 16) as u8,
+            (code / 16 % 16) as u8,
+            mark,
+            starts,
+            sizes,
+            hints,
+            m,
+            spots,
+            j,
+        );
+        d = t.cursor;
+        m = t.names;
+        j = t.spots;
+        first = number_at(i, 0, t.number, first);
+        second = number_at(i, 1, t.number, second);
+        i += 1;
+        code = code / 256;
     }
-    if row.0 == 0 {
-        return Filled {
-            cursor: c,
-            names: n,
-            spots: k,
-            first: 0,
-            second: 0,
-        };
-    }
-    let a = slot(s, c, row.0, row.1, mark, starts, sizes, hints, n, spots, k);
-    let ca = a.cursor;
-    if row.2 == 0 {
-        return Filled {
-            cursor: ca,
-            names: a.names,
-            spots: a.spots,
-            first: a.number,
-            second: 0,
-        };
-    }
-    let b = slot(
-        s,
-        ca,
-        row.2,
-        row.3,
-        mark,
-        starts,
-        sizes,
-        hints,
-        a.names,
-        spots,
-        a.spots,
-    );
-    let cb = b.cursor;
-    if row.4 == 0 {
-        return Filled {
-            cursor: cb,
-            names: b.names,
-            spots: b.spots,
-            first: a.number,
-            second: b.number,
-        };
-    }
-    let d = slot(
-        s,
-        cb,
-        row.4,
-        row.5,
-        mark,
-        starts,
-        sizes,
-        hints,
-        b.names,
-        spots,
-        b.spots,
-    );
-    let cd = d.cursor;
     Filled {
-        cursor: cd,
-        names: d.names,
-        spots: d.spots,
-        first: a.number,
-        second: b.number,
+        cursor: d,
+        names: m,
+        spots: j,
+        first,
+        second,
     }
 }
 
@@ -290,10 +274,10 @@ fn fields(
     spots: &mut [Spot],
     k: usize,
 ) -> Said
-    requires { ⌜ InLine (now s) c × (c .at ≤ c .end + 1) ⌝ }
+    requires { ⌜ InLine (now s) c × (c .at ≤ c .end + 1) × (fitsIn 3 (row .fields) ≡ true) ⌝ }
     ensures says { λ r. ⌜ Says c (takeLine (rowOf row) width (leftAt (now (s .entry)) c)) (rowOf row .tail) (r .cursor) (r .first) (r .second) (r .columns) ⌝ }
     ensures keeps { λ r. ⌜ (r .cursor .at ≡ c .end + 1 → (want : List (List ℕ)) → Holds (now (s .entry)) (now (starts .entry)) (now (sizes .entry)) (now (hints .entry)) n want → Holds (now (s .entry)) (now (starts .exit)) (now (sizes .exit)) (now (hints .exit)) (r .names) (notes (termsIn (takeLine (rowOf row) width (leftAt (now (s .entry)) c))) want)) ⌝ }
-    ensures adds { λ r. ⌜ (r .cursor .at ≡ c .end + 1 → row .6 ≤ 3 → Adds (now (s .entry)) (store (now (starts .entry)) (now (sizes .entry)) n (now (spots .entry)) k) (c .at) (store (now (starts .exit)) (now (sizes .exit)) (r .names) (now (spots .exit)) (r .spots)) (r .cursor .at) (found (markAt mark) (rowOf row .slots) (now (s .entry)) c) (found (markAt mark) [] (now (s .entry)) (r .cursor))) ⌝ }
+    ensures adds { λ r. ⌜ (r .cursor .at ≡ c .end + 1 → row .behind ≤ 3 → Adds (now (s .entry)) (store (now (starts .entry)) (now (sizes .entry)) n (now (spots .entry)) k) (c .at) (store (now (starts .exit)) (now (sizes .exit)) (r .names) (now (spots .exit)) (r .spots)) (r .cursor .at) (found (markAt mark) (rowOf row .slots) (now (s .entry)) c) (found (markAt mark) [] (now (s .entry)) (r .cursor))) ⌝ }
 {
     let a = slots(s, c, row, mark, starts, sizes, hints, n, spots, k);
     let ca = a.cursor;
@@ -310,7 +294,7 @@ fn fields(
     let t = tail(
         s,
         ca,
-        row.6,
+        row.behind,
         width,
         mark,
         starts,
@@ -397,7 +381,7 @@ pub fn read_line(
                 Found::Is(row) => {
                     let f = fields(s, next, row, width, mark, starts, sizes, hints, n, spots, k);
                     let d = f.cursor;
-                    let j = spots_behind(row.16, k, f.spots);
+                    let j = spots_behind(row.flag, k, f.spots);
                     if d.at != d.end + 1 {
                         return Line::Malformed;
                     }

@@ -1,5 +1,5 @@
 -- Where a pattern ends: the row of a word whatever its sort, what is to come below a line, and the lines copied one by one. Assumes nothing.
-use Prim.Native.Nat.{ℕ, zero, suc, _+_, _-_, _*_, _≤_, _<_}
+use Prim.Native.Nat.{ℕ, zero, suc, _+_, _-_, _*_, _/_, _%_, _≤_, _<_}
 use mathlib.Core.Path.{_≡_, refl, sym, ap, ap₂, subst, _∙_}
 use mathlib.Core.Bool.{Bool, true, false, cond}
 use mathlib.Core.List.{List, [], _∷_, _++_, append-assoc}
@@ -16,16 +16,15 @@ use Rattle.algebra.specs.bridge.Table.{Sort, parts, Below, Row, Entry, sorts, r
 use Rattle.words.specs.declared.Row.{Row as Code}
 use Rattle.words.specs.declared.Found.{Found}
 use Rattle.words.specs.declared.Found.the-variants.{Is, None}
-use Rattle.words.specs.bridge.Code.{sortAt, groupOf, rowOf, rowFound, noCode, Tidy}
+use Rattle.words.specs.bridge.Code.{sortAt, groupOf, slotsIn, groupsIn, rowOf, rowFound, noCode}
 use Rattle.cursor.specs.bridge.Cursor.{left}
 use Rattle.parted.proofs.Laws.{part-join, part-line}
-use Rattle.lines.specs.bridge.Below.{amountIn, Alone}
+use Rattle.lines.specs.bridge.Below.{amountIn}
 use Rattle.scoping.specs.bridge.Walk.{rowOr, numberIn}
 use Rattle.walking.specs.bridge.Code.{LineEnd}
-use Rattle.walking.proofs.Laws.{tidy-is}
 use Rattle.filtering.specs.bridge.Copying.{plus, amounts, below, toCome, copying}
 use Rattle.filtering.proofs.Copying.{plus-is}
-use Rattle.placing.specs.bridge.Ends.{Small, EndsAt}
+use Rattle.placing.specs.bridge.Ends.{EndsAt}
 
 -- ---- the row of a word
 
@@ -71,11 +70,8 @@ module _ (f : Bytes) where
         sym (found-later (rowsOf (sortAt k)) (entriesOf (drop (k + 1) sorts)) r) ∙ ap (λ (l : List Entry). rowIn l f) (sym (sort-next k h)) ∙ so
 
   pub row-none : (k : ℕ) → 12 ≤ k → rowFrom k ≡ rowIn table f → rowOf noCode ≡ rowOr (rowIn table f)
-  unfolding rowIn
+  unfolding rowIn slotsIn groupsIn
   row-none k h so = ap rowOr (sym (ap (λ (l : List Sort). rowIn (entriesOf l) f) (drop-of-length-le sorts h)) ∙ so)
-
-pub row-small : (k : ℕ) (t : Found) (c : Code) → Tidy k t → t ≡ Is c → Small c
-row-small k t c d i = tidy-is k t c d i .1
 
 -- ---- what is to come below a line
 
@@ -95,22 +91,21 @@ group-amount n (suc (suc (suc zero))) s a b bs = amounts-cons _ bs (a ∷ b ∷ 
 group-amount n (suc (suc (suc (suc zero)))) s a b bs = amounts-cons _ bs (a ∷ b ∷ [])
 group-amount n (suc (suc (suc (suc (suc k))))) s a b bs = omega arith
 
-last-amount : (n k : ℕ) (s : Sort) (a b : ℕ) → amounts (groupOf n k s) (a ∷ b ∷ []) ≡ amountIn n k a b
-unfolding amounts
-last-amount zero zero s a b = refl
-last-amount (suc n) zero s a b = refl
-last-amount n (suc zero) s a b = refl
-last-amount n (suc (suc zero)) s a b = refl
-last-amount n (suc (suc (suc zero))) s a b = refl
-last-amount n (suc (suc (suc (suc zero)))) s a b = refl
-last-amount n (suc (suc (suc (suc (suc k))))) s a b = refl
+groups-amount : (k n a b : ℕ) → amounts (groupsIn (suc k) n) (a ∷ b ∷ []) ≡ amountIn (n % 4) (n / 4 % 8) a b + amounts (groupsIn k (n / 512)) (a ∷ b ∷ [])
+unfolding groupsIn
+groups-amount k n a b = group-amount (n % 4) (n / 4 % 8) (sortAt (n / 32 % 16)) a b (groupsIn k (n / 512))
 
-row-amount : (c : Code) (a b : ℕ) → amounts (rowOf c .below) (a ∷ b ∷ []) ≡ amountIn (c .7) (c .8) a b + amountIn (c .10) (c .11) a b + amountIn (c .13) (c .14) a b
-row-amount c a b =
-    let x = group-amount (c .7) (c .8) (sortAt (c .9)) a b (groupOf (c .10) (c .11) (sortAt (c .12)) ++ groupOf (c .13) (c .14) (sortAt (c .15))) in
-    let y = group-amount (c .10) (c .11) (sortAt (c .12)) a b (groupOf (c .13) (c .14) (sortAt (c .15))) in
-    let z = last-amount (c .13) (c .14) (sortAt (c .15)) a b in
-    omega arith
+no-groups : (n a b : ℕ) → amounts (groupsIn 0 n) (a ∷ b ∷ []) ≡ 0
+unfolding groupsIn amounts
+no-groups n a b = refl
+
+row-amount : (n a b : ℕ) → amounts (groupsIn 3 n) (a ∷ b ∷ []) ≡ amountIn (n % 4) (n / 4 % 8) a b + amountIn (n / 512 % 4) (n / 512 / 4 % 8) a b + amountIn (n / 512 / 512 % 4) (n / 512 / 512 / 4 % 8) a b
+row-amount n a b =
+    let x = groups-amount 2 n a b in
+    let y = groups-amount 1 (n / 512) a b in
+    let z = groups-amount 0 (n / 512 / 512) a b in
+    let e = no-groups (n / 512 / 512 / 512) a b in
+    omega (arith, x, y, z, e)
 
 below-row : (o : Option Row) → below o ≡ rowOr o .below
 below-row none = refl
@@ -118,33 +113,34 @@ below-row (some r) = refl
 
 pub come-is : (s : Bytes) (from end w a b : ℕ) (c : Code) (x y z : ℕ) → split 9 (part from end s) ≡ part from w s ∷ left s (w + 1) end → rowOf c ≡ rowOr (rowIn table (part from w s))
     → a ≡ numberIn (getD (left s (w + 1) end) 0 []) → b ≡ numberIn (getD (left s (w + 1) end) 1 [])
-    → x ≡ amountIn (c .7) (c .8) a b → y ≡ amountIn (c .10) (c .11) a b → z ≡ amountIn (c .13) (c .14) a b
+    → x ≡ amountIn (c .below % 4) (c .below / 4 % 8) a b → y ≡ amountIn (c .below / 512 % 4) (c .below / 512 / 4 % 8) a b → z ≡ amountIn (c .below / 512 / 512 % 4) (c .below / 512 / 512 / 4 % 8) a b
     → x + y + z ≡ toCome (split 9 (part from end s))
 unfolding toCome
 come-is s from end w a b c x y z l r p q i j k =
     ap₂ _+_ (ap₂ _+_ i j) k
-    ∙ sym (row-amount c a b)
+    ∙ sym (row-amount (c .below) a b)
     ∙ ap₂ (λ (g : List Below) (ns : List ℕ). amounts g ns) (ap (λ (o : Row). o .below) r ∙ sym (below-row (rowIn table (part from w s)))) (ap₂ (λ (m n : ℕ). m ∷ n ∷ []) p q)
     ∙ ap (λ (m : Line). amounts (below (rowIn table (getD m 0 []))) (numberIn (getD m 1 []) ∷ numberIn (getD m 2 []) ∷ [])) (sym l)
 
 -- a row that asks for no line
-no-amount : (n k a b : ℕ) → n ≡ 0 → k ≡ 0 → 0 ≡ amountIn n k a b
-no-amount n k a b p q = sym (ap₂ (λ (m f : ℕ). amountIn m f a b) p q)
-
-pub come-none : (s : Bytes) (from end w : ℕ) (c : Code) → split 9 (part from end s) ≡ part from w s ∷ left s (w + 1) end → rowOf c ≡ rowOr (rowIn table (part from w s)) → Alone c → 0 ≡ toCome (split 9 (part from end s))
+pub come-none : (s : Bytes) (from end w : ℕ) (c : Code) → split 9 (part from end s) ≡ part from w s ∷ left s (w + 1) end → rowOf c ≡ rowOr (rowIn table (part from w s)) → c .below ≡ 0 → 0 ≡ toCome (split 9 (part from end s))
 come-none s from end w c l r n =
     let a = numberIn (getD (left s (w + 1) end) 0 []) in
     let b = numberIn (getD (left s (w + 1) end) 1 []) in
-    come-is s from end w a b c 0 0 0 l r refl refl (no-amount (c .7) (c .8) a b (n .first .0) (n .first .1)) (no-amount (c .10) (c .11) a b (n .second .0) (n .second .1)) (no-amount (c .13) (c .14) a b (n .third .0) (n .third .1))
+    let none : (f : ℕ → ℕ) → f 0 ≡ 0 → 0 ≡ amountIn (f (c .below) % 4) (f (c .below) / 4 % 8) a b = λ f e. sym (ap (λ (i : ℕ). amountIn (i % 4) (i / 4 % 8) a b) (ap f n ∙ e)) in
+    come-is s from end w a b c 0 0 0 l r refl refl (none (λ i. i) refl) (none (λ i. i / 512) refl) (none (λ i. i / 512 / 512) refl)
 
 -- a group is small if the row and the numbers are
-pub amount-fits : (n k a b r : ℕ) → r ≡ amountIn n k a b → n ≤ 3 → a < 4294967296 → b < 4294967296 → r ≤ 4294967298
-amount-fits n zero a b r e h i j = omega arith
-amount-fits n (suc zero) a b r e h i j = omega arith
-amount-fits n (suc (suc zero)) a b r e h i j = omega arith
-amount-fits n (suc (suc (suc zero))) a b r e h i j = omega arith
-amount-fits n (suc (suc (suc (suc zero)))) a b r e h i j = omega arith
-amount-fits n (suc (suc (suc (suc (suc k))))) a b r e h i j = omega arith
+pub amount-fits : (n a b r : ℕ) → r ≡ amountIn (n % 4) (n / 4 % 8) a b → a < 4294967296 → b < 4294967296 → r ≤ 4294967298
+amount-fits n a b r e i j = go (n % 4) (n / 4 % 8) (omega arith) e
+  where
+    go : (m k : ℕ) → m ≤ 3 → r ≡ amountIn m k a b → r ≤ 4294967298
+    go m zero h e = omega arith
+    go m (suc zero) h e = omega arith
+    go m (suc (suc zero)) h e = omega arith
+    go m (suc (suc (suc zero))) h e = omega arith
+    go m (suc (suc (suc (suc zero)))) h e = omega arith
+    go m (suc (suc (suc (suc (suc k))))) h e = omega arith
 
 -- ---- line by line
 

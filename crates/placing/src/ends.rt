@@ -1,5 +1,4 @@
 // Where a pattern ends: line by line while something is to come, by the one table of words.
-use lines::below::alone;
 use lines::below::amount;
 use text::equal;
 use text::find;
@@ -20,11 +19,11 @@ ghost use Rattle.scoping.specs.bridge.Walk.{rowOr};
 ghost use Rattle.words.specs.bridge.Code.{rowOf};
 ghost use Rattle.negating.specs.bridge.Lines.{Projects};
 ghost use Rattle.filtering.specs.bridge.Copying.{toCome};
-ghost use Rattle.placing.specs.bridge.Ends.{Small, EndsAt, isBare, bareDown};
+ghost use Rattle.placing.specs.bridge.Ends.{EndsAt, isBare, bareDown};
 
 // The row of a word, whatever its sort; one without lines below where it is none.
 fn row_of(word: &[u8]) -> Row
-    ensures { λ r. ⌜ (rowOf r ≡ rowOr (rowIn table (now (word .entry)))) × Small r ⌝ }
+    ensures { λ r. ⌜ rowOf r ≡ rowOr (rowIn table (now (word .entry))) ⌝ }
 {
     let mut sort = 0;
     while sort < 12 {
@@ -33,7 +32,12 @@ fn row_of(word: &[u8]) -> Row
         }
         sort += 1;
     }
-    Row(0, 0, 0, 0, 0, 0, 0, 0, 0, 0, 0, 0, 0, 0, 0, 0, 0)
+    Row {
+        fields: 0,
+        behind: 0,
+        flag: 0,
+        below: 0,
+    }
 }
 
 // How many lines stand directly below a line.
@@ -43,14 +47,15 @@ fn lines_below(text: &[u8], from: usize, end: usize) -> u64
 {
     let word = find(text, from, end, 9);
     let row = row_of(&text[from..word]);
-    if alone(row) {
+    if row.below == 0 {
         return 0;
     }
     let a = count_at(text, word + 1, end);
     let b = count_at(text, a.next, end);
-    amount(row.7, row.8, a.number, b.number)
-        + amount(row.10, row.11, a.number, b.number)
-        + amount(row.13, row.14, a.number, b.number)
+    let next = row.below / 512;
+    amount(row.below, a.number, b.number)
+        + amount(next, a.number, b.number)
+        + amount(next / 512, a.number, b.number)
 }
 
 // Where the pattern that starts here ends.

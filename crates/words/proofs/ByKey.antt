@@ -14,7 +14,7 @@ use Rattle.text.proofs.Lists.{same-long}
 use Rattle.algebra.specs.bridge.Table.{Row, Entry, Sort, triples, columns, patterns, expressions, rows, orders, aggregates, heads, sets, positions, valueRows, parts, rowsOf, rowIn, rowFor}
 use Rattle.words.specs.declared.Found.{Found}
 use Rattle.words.specs.declared.Found.the-variants.{Is, None}
-use Rattle.words.specs.bridge.Code.{sortAt, rowOf, rowFound, Tidy, flagOf, Flags}
+use Rattle.words.specs.bridge.Code.{sortAt, rowOf, found, rowFound, Tidy, flagOf, Flags}
 use Rattle.words.specs.bridge.Key.{keyOf, rowBy, flagBy, Flagged}
 use Rattle.words.proofs.Keys.{Small, Told, same-by-key, all-small}
 
@@ -128,18 +128,22 @@ unfolding rowBy
 no-key k [] B h = refl
 no-key k (e ∷ es) B h = rw (ne-eqb k (keyOf 0 (e .word)) (before k es (B × (k ≡ keyOf 0 (e .word) → ⊥)) h .1)) (no-key k es (B × (k ≡ keyOf 0 (e .word) → ⊥)) h)
 
--- ---- the numbers of a row
+-- ---- a row by its key
 
-pub few : (n : ℕ) {a b c : ℕ} → (leb a n && (leb b n && leb c n)) ≡ true → (a ≤ n) × (b ≤ n) × (c ≤ n)
-few n {a} {b} {c} h =
-    let r = and-right (leb a n) (leb b n && leb c n) h in
-    (leb-true a n (and-left (leb a n) (leb b n && leb c n) h), leb-true b n (and-left (leb b n) (leb c n) r), leb-true c n (and-right (leb b n) (leb c n) r))
+abbrev pub Says : ℕ → List Entry → ℕ → ℕ → Type 0
+Says s es k code = (rowFound (found code) ≡ rowBy k es) × Flagged k es (found code) × Tidy s (found code)
+
+pub at-key : (es : List Entry) {k j : ℕ} → k ≡ j → rowBy j es ≡ rowBy k es
+at-key es e = ap (λ (i : ℕ). rowBy i es) (sym e)
+
+pub flag-at : (es : List Entry) {k j : ℕ} → k ≡ j → flagBy j es ≡ flagBy k es
+flag-at es e = ap (λ (i : ℕ). flagBy i es) (sym e)
 
 -- ---- the sorts by their numbers
 
 -- what holds of a sort's number holds of a number that is the same
-pub of-sort : (s n k : ℕ) (r : Found) → s ≡ n → (rowFound r ≡ rowBy k (rowsOf (sortAt n))) × Flagged k (rowsOf (sortAt n)) r × Tidy n r → (rowFound r ≡ rowBy k (rowsOf (sortAt s))) × Flagged k (rowsOf (sortAt s)) r × Tidy s r
-of-sort s n k r e h = subst (λ (m : ℕ). (rowFound r ≡ rowBy k (rowsOf (sortAt m))) × Flagged k (rowsOf (sortAt m)) r × Tidy m r) (sym e) h
+pub of-sort : (s n k code : ℕ) → s ≡ n → Says n (rowsOf (sortAt n)) k code → Says s (rowsOf (sortAt s)) k code
+of-sort s n k code e h = subst (λ (m : ℕ). Says m (rowsOf (sortAt m)) k code) (sym e) h
 
 -- s is none of the n numbers from i on, behind what is known already
 abbrev pub Past : ℕ → ℕ → ℕ → Type 0 → Type 0

@@ -1,4 +1,5 @@
 // The one table of words: the fields of a line that begins with each word, and the lines that come below it.
+mod codes;
 mod rows;
 
 use crate::rows::row_of;
@@ -8,31 +9,17 @@ ghost use Prim.Native.Nat.{ℕ, _<_};
 ghost use lib.ListN.{length, getD};
 ghost use Rattle.text.specs.Text.{same};
 ghost use Rattle.algebra.specs.bridge.Table.{rowFor};
-ghost use Rattle.words.specs.bridge.Code.{domainAt, rowFound, sortAt, Tidy, Flags, extraFound, extraOf, extras};
+ghost use Rattle.words.specs.bridge.Code.{domainAt, found, rowFound, sortAt, Tidy, Flags, extraFound, extraOf, extras};
 ghost use Rattle.words.specs.bridge.Key.{keyOf};
 
-// The role and the kind of each of up to three fields; what stands behind them; and of each of up to three groups of lines
-// below: so many, which number of the line counts more of them, and their sort; and what the word means for the names of its
-// line and of its last pattern. `specs/Code.antt` says what each number means.
-pub struct Row(
-    pub u8,
-    pub u8,
-    pub u8,
-    pub u8,
-    pub u8,
-    pub u8,
-    pub u8,
-    pub u8,
-    pub u8,
-    pub u8,
-    pub u8,
-    pub u8,
-    pub u8,
-    pub u8,
-    pub u8,
-    pub u8,
-    pub u8,
-);
+// What a word says of its line: its fields, a byte each, from the lowest on; what stands behind them; what it means for the names of its line
+// and of its last pattern; and the groups of lines below, nine bits each, from the lowest on. `specs/bridge/Code.antt` says what each number means.
+pub struct Row {
+    pub fields: u64,
+    pub behind: u8,
+    pub flag: u8,
+    pub below: u64,
+}
 
 pub enum Found {
     Is(Row),
@@ -91,6 +78,21 @@ fn key_of(f: &[u8]) -> u64
     k
 }
 
+// The row that a number of the table is.
+fn row_in(code: u64) -> Found
+    ensures { λ r. ⌜ r ≡ found code ⌝ }
+{
+    if code == 0 {
+        return Found::None;
+    }
+    Found::Is(Row {
+        fields: code % 0x100_0000,
+        behind: (code / 0x100_0000 % 16) as u8,
+        flag: (code / 0x1000_0000 % 16) as u8,
+        below: code / 0x1_0000_0000,
+    })
+}
+
 // The row of a word at the head of a line of a sort. No word is longer than eight bytes or begins with byte 0, so that its key tells it.
 pub fn lookup(sort: u8, f: &[u8]) -> Found
     requires { ⌜ sort < 12 ⌝ }
@@ -107,7 +109,7 @@ pub fn lookup(sort: u8, f: &[u8]) -> Found
     if f[0] == 0 {
         return Found::None;
     }
-    row_of(sort, key_of(f))
+    row_in(row_of(sort, key_of(f)))
 }
 
 // A field is the domain of a number. Each domain is a constant of its own: it is laid out only where it is compared.

@@ -11,7 +11,7 @@ use Rattle.algebra.specs.bridge.Machine.{Want, More, Check, good, bad, run}
 use Rattle.algebra.specs.declared.Answer.{Answer}
 use Rattle.algebra.specs.declared.Answer.the-variants as A
 use Rattle.algebra.specs.bridge.Table.{opens}
-use Rattle.words.specs.bridge.Code.{sortAt}
+use Rattle.words.specs.bridge.Code.{sortAt, sortsIn}
 use Rattle.names.specs.bridge.Names.{Holds}
 use Rattle.lines.specs.declared.check.Place.{Place}
 use Rattle.lines.specs.declared.check.Taken.{Taken}
@@ -39,8 +39,8 @@ pub record Sound (s : Bytes) (p : Place) (sort level : ℕ) (r : Taken) : Type 0
   pub inside : p .from < 16384
   pub behind : p .from < r .place .from
   pub ready : Ready s (r .place)
-  pub sorts : (r .row .9 ≤ 11) × (r .row .12 ≤ 11) × (r .row .15 ≤ 11)
-  pub trees : sort ≤ 7 → (r .row .9 ≤ 6) × (r .row .12 ≤ 6) × (r .row .15 ≤ 6)
+  pub sorts : sortsIn 11 3 (r .row .below) ≡ true
+  pub trees : sort ≤ 7 → sortsIn 6 3 (r .row .below) ≡ true
   pub deep : opens (sortAt sort) ≡ true → level ≡ 0 → ⊥
   pub small : (r .first < 4294967296) × (r .second < 4294967296)
 

@@ -8,8 +8,6 @@ use Rattle.text.specs.Text.{Bytes}
 use Rattle.cursor.specs.declared.Cursor.{Cursor}
 use Rattle.cursor.specs.bridge.Cursor.{left}
 use Rattle.words.specs.bridge.Code.{mapped}
-use Rattle.text.specs.Field.{Kind}
-use Rattle.algebra.specs.bridge.Table.{Slot, term, text, count, choice}
 use Rattle.lines.specs.bridge.Line.{Took, Fields}
 
 -- the cursor stands in a line of the text s, and no line end stands between it and the line's
@@ -53,10 +51,6 @@ termsIn (some t) = t .terms
 abbrev pub numbersIn : Option Fields → List ℕ
 numbersIn none = []
 numbersIn (some t) = t .numbers
-
--- the slot that a role other than 0 means
-unfoldable pub oneSlot : ℕ → Kind → Slot
-oneSlot r k = getD (choice ∷ term k ∷ text k ∷ count ∷ []) r choice
 
 -- what the slots of a row took: the cursor behind them, and the first two numbers
 unfoldable pub TookSlots : Bytes → Cursor → Option Fields → Cursor → ℕ → ℕ → Type 0

@@ -62,7 +62,7 @@ LineNotes s a l n p k a′ l′ p′ c sort mark (Asks q) =
     (xs : List Spot) → Keeps s (store a l n p k) (c .at) xs →
     (ys : List Spot) × Keeps s (store a′ l′ (q .names) p′ (q .spots)) (c .end + 1) ys
     × ((trees : Sort → Mark → State Trace → State Trace) (ls : List Line)
-    → beneath spotLine trees (eqb (q .row .16) 1) (markAt mark) (rowOf (q .row) .below) (q .first ∷ q .second ∷ []) (state ls (trace (c .end + 1) ys))
+    → beneath spotLine trees (eqb (q .row .flag) 1) (markAt mark) (rowOf (q .row) .below) (q .first ∷ q .second ∷ []) (state ls (trace (c .end + 1) ys))
     ≡ whole spotLine trees (sortAt sort) (markAt mark) (split 9 (part (c .at) (c .end) s) ∷ ls) (trace (c .at) xs))
 LineNotes s a l n p k a′ l′ p′ c sort mark Malformed = Unit {0}
 LineNotes s a l n p k a′ l′ p′ c sort mark OverBound = Unit {0}

@@ -37,7 +37,7 @@ Walks s A p B r f = (xs : List Spot) → Keeps s A (p .from) xs → (ys : List S
 unfoldable pub LineWalks : Bytes → Store → Place → Store → ℕ → ℕ → Taken → Type 0
 LineWalks s A p B sort mark r =
     (xs : List Spot) → Keeps s A (p .from) xs → (ys : List Spot) × Keeps s B (r .place .from) ys
-    × ((trees : Sort → Mark → State Trace → State Trace) → beneath spotLine trees (eqb (r .row .16) 1) (markAt mark) (rowOf (r .row) .below) (r .first ∷ r .second ∷ []) (walkAt s (r .place) ys)
+    × ((trees : Sort → Mark → State Trace → State Trace) → beneath spotLine trees (eqb (r .row .flag) 1) (markAt mark) (rowOf (r .row) .below) (r .first ∷ r .second ∷ []) (walkAt s (r .place) ys)
     ≡ whole spotLine trees (sortAt sort) (markAt mark) (linesFrom s (p .from)) (trace (p .from) xs))
 
 -- a line of a sort, with what stands below it

@@ -7,13 +7,8 @@ use lib.ListN.{length}
 use Rattle.text.specs.Text.{Bytes, Line, same, textOf, part, linesFrom}
 use Rattle.text.specs.Word.{bytes}
 use Rattle.text.proofs.Texts.{Ended}
-use Rattle.words.specs.declared.Row.{Row as Code}
 use Rattle.negating.specs.bridge.Lines.{word}
 use Rattle.filtering.specs.bridge.Copying.{copying}
-
--- the numbers of lines that a row says itself are small
-abbrev pub Small : Code → Type 0
-Small c = (c .7 ≤ 3) × (c .10 ≤ 3) × (c .13 ≤ 3)
 
 -- the bytes from one place to the other are those of the pattern's own lines, if all lines are ended
 pub record EndsAt (s : Bytes) (from to : ℕ) : Type 0 where

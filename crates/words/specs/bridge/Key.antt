@@ -29,5 +29,5 @@ flagBy k [] = 0
 flagBy k (e ∷ es) = cond (eqb k (keyOf 0 (e .word))) (flagOf (e .word)) (flagBy k es)
 
 abbrev pub Flagged : ℕ → List Entry → Found → Type 0
-Flagged k es (Is c) = c .16 ≡ flagBy k es
+Flagged k es (Is c) = c .flag ≡ flagBy k es
 Flagged k es None = Unit {0}

@@ -1,5 +1,6 @@
 -- `lines::below/amount` meets its contract. Assumes nothing.
 use borrow.Author.Needs.{needs}
+use Prim.Native.Nat.{_/_, _%_}
 use Rattle.lines.proofs.BelowLaw as P
 use Rattle.lines.proofs.below.amount.Statement.{statement}
 use Rattle.lines.proofs.below.amount.Tie as tie
@@ -8,11 +9,11 @@ pub amount-spec : {M : Type 1} → statement M
 amount-spec =
     tie.close
     (tie.spec
+    (λ c. let a = c .before .args in P.amount-by (a .code % 4) (a .code / 4 % 8) 0 (a .first) (a .second) (c .if1 .taken))
+    (λ c. let a = c .before .before .args in P.amount-by (a .code % 4) (a .code / 4 % 8) 1 (a .first) (a .second) (c .if2 .taken))
+    (λ c. let a = c .before .before .before .args in P.amount-by (a .code % 4) (a .code / 4 % 8) 2 (a .first) (a .second) (c .if3 .taken))
     (λ c. search needs)
+    (λ c. let a = c .before .before .before .before .args in P.amount-by (a .code % 4) (a .code / 4 % 8) 3 (a .first) (a .second) (c .if4 .taken))
     (λ c. search needs)
-    (λ c. search needs)
-    (λ c. search needs)
-    (λ c. P.amount-by (c .before .before .before .before .args .base) (c .before .before .before .before .args .from) 3 (c .before .before .before .before .args .first) (c .before .before .before .before .args .second) (c .if4 .taken))
-    (λ c. search needs)
-    (λ c. P.amount-by (c .before .before .before .before .before .args .base) (c .before .before .before .before .before .args .from) 4 (c .before .before .before .before .before .args .first) (c .before .before .before .before .before .args .second) (c .if5 .taken))
-    (λ c. P.amount-none (c .before .before .before .before .before .args .base) (c .before .before .before .before .before .args .from) (c .before .before .before .before .before .args .first) (c .before .before .before .before .before .args .second) (c .before .before .before .before .if1 .left) (c .before .before .before .if2 .left) (c .before .before .if3 .left) (c .before .if4 .left) (c .if5 .left)))
+    (λ c. let a = c .before .before .before .before .before .args in P.amount-by (a .code % 4) (a .code / 4 % 8) 4 (a .first) (a .second) (c .if5 .taken))
+    (λ c. let a = c .before .before .before .before .before .args in P.amount-none (a .code % 4) (a .code / 4 % 8) (a .first) (a .second) (c .before .before .before .before .if1 .left) (c .before .before .before .if2 .left) (c .before .before .if3 .left) (c .before .if4 .left) (c .if5 .left)))

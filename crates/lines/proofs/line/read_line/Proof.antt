@@ -23,7 +23,7 @@ read-line-spec =
     (λ c. let c3 = c .before .before .before in let c5 = c3 .before .before in let x = (C.reads-at _ _ _ _ _ (c3 .next-field .ensures) (c .before .field .given .1)) in let y = x .first .high in let z = c5 .pre .0 .ends in omega arith)
     (λ c κs. let c6 = c .before .before .before .before .before .before in let z = c6 .pre .2 in omega arith)
     (λ c. search needs)
-    (λ c κs. let c10 = c .before .before .before .before .before .before .before .before .before .before in let c12 = c10 .before .before in let c14 = c12 .before .before in let x = (C.reads-at _ _ _ _ _ (c12 .next-field .ensures) (c10 .field .given .1)) in let y = x .first .high in let u = x .at in let v = x .end in (S.in-line _ _ _ _ (c14 .pre .0) x, omega arith))
+    (λ c κs. let c5 = c .before .before .before .before .before in let c7 = c5 .before .before in let c10 = c7 .before .before .before in let c12 = c10 .before .before in let c14 = c12 .before .before in let x = (C.reads-at _ _ _ _ _ (c12 .next-field .ensures) (c10 .field .given .1)) in let y = x .first .high in let u = x .at in let v = x .end in (S.in-line _ _ _ _ (c14 .pre .0) x, omega arith, subst (Tidy (c14 .args .sort)) (c5 .found .given .1) (c7 .lookup .ensures .1 .0) .0))
     (λ c κs. search needs)
     (λ c. let c4 = c .before .before .before .before in let c15 = c4 .before .before .before .before .before .before .before .before .before .before .before in let c17 = c15 .before .before in let c19 = c17 .before .before in let e = c4 .fields .ensures .0 .along .0 in let x = (C.reads-at _ _ _ _ _ (c17 .next-field .ensures) (c15 .field .given .1)) .end in let y = c19 .pre .0 .ends in let z = c19 .pre .0 .short in omega arith)
     (λ c. search needs)

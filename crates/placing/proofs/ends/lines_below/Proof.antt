@@ -1,5 +1,6 @@
 -- `placing::ends/lines_below` meets its contract. Assumes nothing.
 use borrow.Author.Needs.{needs}
+use Prim.Native.Nat.{_/_}
 use mathlib.Core.Path.{_≡_, refl, sym, ap, _∙_}
 use native.Mathlib.Omega.{arith}
 use Rattle.walking.proofs.Laws as W
@@ -16,14 +17,13 @@ lines-below-spec =
     (λ c. search needs)
     (λ c. search needs)
     (λ c κs. search needs)
-    (λ c κs. search needs)
-    (λ c. (C.come-none (c .before .before .before .before .before .before .args .text .now) (c .before .before .before .before .before .before .args .from) (c .before .before .before .before .before .before .args .end) (c .before .before .before .before .find .result) (c .before .before .row-of .result) (W.line-split _ _ _ _ (c .before .before .before .before .before .before .pre .1) (c .before .before .before .before .before .before .pre .0) (c .before .before .before .before .find .ensures)) (c .before .before .row-of .ensures .0) (c .before .alone .ensures (c .if1 .taken)), omega arith))
+    (λ c. let c2 = c .before .before in let c4 = c2 .before .before in let c6 = c4 .before .before in (C.come-none (c6 .args .text .now) (c6 .args .from) (c6 .args .end) (c4 .find .result) (c2 .row-of .result) (W.line-split _ _ _ _ (c6 .pre .1) (c6 .pre .0) (c4 .find .ensures)) (c2 .row-of .ensures) (c .if1 .taken), omega arith))
     (λ c. search needs)
     (λ c κs. search needs)
     (λ c κs. search needs)
     (λ c κs. search needs)
     (λ c κs. search needs)
-    (λ c. let u = C.amount-fits (c .before .before .before .before .before .before .row-of .result .7) (c .before .before .before .before .before .before .row-of .result .8) _ _ _ (c .before .amount .ensures) (c .before .before .before .before .before .before .row-of .ensures .1 .0) (c .before .before .before .count-at .ensures .2) (c .before .before .count-at2 .ensures .2) in let v = C.amount-fits (c .before .before .before .before .before .before .row-of .result .10) (c .before .before .before .before .before .before .row-of .result .11) _ _ _ (c .amount2 .ensures) (c .before .before .before .before .before .before .row-of .ensures .1 .1) (c .before .before .before .count-at .ensures .2) (c .before .before .count-at2 .ensures .2) in omega arith)
+    (λ c. let c3 = c .before .before .before in let c4 = c3 .before in let c8 = c4 .before .before .before in let u = C.amount-fits (c8 .row-of .result .below) _ _ _ (c .before .amount .ensures) (c4 .count-at .ensures .2) (c3 .count-at2 .ensures .2) in let v = C.amount-fits (c8 .row-of .result .below / 512) _ _ _ (c .amount2 .ensures) (c4 .count-at .ensures .2) (c3 .count-at2 .ensures .2) in omega (arith, u, v))
     (λ c κs. search needs)
-    (λ c. let u = C.amount-fits (c .before .before .before .before .before .before .before .row-of .result .7) (c .before .before .before .before .before .before .before .row-of .result .8) _ _ _ (c .before .before .amount .ensures) (c .before .before .before .before .before .before .before .row-of .ensures .1 .0) (c .before .before .before .before .count-at .ensures .2) (c .before .before .before .count-at2 .ensures .2) in let v = C.amount-fits (c .before .before .before .before .before .before .before .row-of .result .10) (c .before .before .before .before .before .before .before .row-of .result .11) _ _ _ (c .before .amount2 .ensures) (c .before .before .before .before .before .before .before .row-of .ensures .1 .1) (c .before .before .before .before .count-at .ensures .2) (c .before .before .before .count-at2 .ensures .2) in let w = C.amount-fits (c .before .before .before .before .before .before .before .row-of .result .13) (c .before .before .before .before .before .before .before .row-of .result .14) _ _ _ (c .amount3 .ensures) (c .before .before .before .before .before .before .before .row-of .ensures .1 .2) (c .before .before .before .before .count-at .ensures .2) (c .before .before .before .count-at2 .ensures .2) in omega arith)
-    (λ c. let u = C.amount-fits (c .before .before .before .before .before .before .before .row-of .result .7) (c .before .before .before .before .before .before .before .row-of .result .8) _ _ _ (c .before .before .amount .ensures) (c .before .before .before .before .before .before .before .row-of .ensures .1 .0) (c .before .before .before .before .count-at .ensures .2) (c .before .before .before .count-at2 .ensures .2) in let v = C.amount-fits (c .before .before .before .before .before .before .before .row-of .result .10) (c .before .before .before .before .before .before .before .row-of .result .11) _ _ _ (c .before .amount2 .ensures) (c .before .before .before .before .before .before .before .row-of .ensures .1 .1) (c .before .before .before .before .count-at .ensures .2) (c .before .before .before .count-at2 .ensures .2) in let w = C.amount-fits (c .before .before .before .before .before .before .before .row-of .result .13) (c .before .before .before .before .before .before .before .row-of .result .14) _ _ _ (c .amount3 .ensures) (c .before .before .before .before .before .before .before .row-of .ensures .1 .2) (c .before .before .before .before .count-at .ensures .2) (c .before .before .before .count-at2 .ensures .2) in (C.come-is _ _ _ _ _ _ (c .before .before .before .before .before .before .before .row-of .result) _ _ _ (W.line-split _ _ _ _ (c .before .before .before .before .before .before .before .before .before .before .before .pre .1) (c .before .before .before .before .before .before .before .before .before .before .before .pre .0) (c .before .before .before .before .before .before .before .before .before .find .ensures)) (c .before .before .before .before .before .before .before .row-of .ensures .0) (c .before .before .before .before .count-at .ensures .0) (W.second-number _ _ _ _ _ (c .before .before .before .before .count-at .ensures .1) (c .before .before .before .count-at2 .ensures .0)) (c .before .before .amount .ensures) (c .before .amount2 .ensures) (c .amount3 .ensures), omega arith)))
+    (λ c. let c4 = c .before .before .before .before in let c5 = c4 .before in let c8 = c5 .before .before .before in let u = C.amount-fits (c8 .row-of .result .below) _ _ _ (c .before .before .amount .ensures) (c5 .count-at .ensures .2) (c4 .count-at2 .ensures .2) in let v = C.amount-fits (c8 .row-of .result .below / 512) _ _ _ (c .before .amount2 .ensures) (c5 .count-at .ensures .2) (c4 .count-at2 .ensures .2) in let w = C.amount-fits (c8 .row-of .result .below / 512 / 512) _ _ _ (c .amount3 .ensures) (c5 .count-at .ensures .2) (c4 .count-at2 .ensures .2) in omega (arith, u, v, w))
+    (λ c. let c4 = c .before .before .before .before in let c5 = c4 .before in let c8 = c5 .before .before .before in let u = C.amount-fits (c8 .row-of .result .below) _ _ _ (c .before .before .amount .ensures) (c5 .count-at .ensures .2) (c4 .count-at2 .ensures .2) in let v = C.amount-fits (c8 .row-of .result .below / 512) _ _ _ (c .before .amount2 .ensures) (c5 .count-at .ensures .2) (c4 .count-at2 .ensures .2) in let w = C.amount-fits (c8 .row-of .result .below / 512 / 512) _ _ _ (c .amount3 .ensures) (c5 .count-at .ensures .2) (c4 .count-at2 .ensures .2) in let c10 = c8 .before .before in let c12 = c10 .before .before in (C.come-is _ _ _ _ _ _ (c8 .row-of .result) _ _ _ (W.line-split _ _ _ _ (c12 .pre .1) (c12 .pre .0) (c10 .find .ensures)) (c8 .row-of .ensures) (c5 .count-at .ensures .0) (W.second-number _ _ _ _ _ (c5 .count-at .ensures .1) (c4 .count-at2 .ensures .0)) (c .before .before .amount .ensures) (c .before .amount2 .ensures) (c .amount3 .ensures), omega (arith, u, v, w))))

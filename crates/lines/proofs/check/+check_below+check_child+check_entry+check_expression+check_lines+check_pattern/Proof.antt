@@ -6,7 +6,7 @@ use Rattle.algebra.specs.bridge.Machine.{want}
 use Rattle.words.specs.bridge.Code.{sortAt}
 use Rattle.lines.specs.bridge.Says.{below}
 use mathlib.Core.Path.{_≡_, refl, sym, _∙_}
-use lib.ListN.{length}
+use lib.ListN.{length, replicate}
 use lib.Dec.{eqb}
 use Rattle.scoping.specs.bridge.Walk.{child, tree}
 use Rattle.scoping.specs.bridge.Spots.{spotLine}
@@ -15,37 +15,34 @@ use Rattle.lines.specs.bridge.Spotted.{markAt}
 use Rattle.lines.specs.bridge.Walks.{storeAt}
 use Rattle.lines.proofs.WalksLaw as W
 use Rattle.lines.proofs.DescentLaw as D
+use Rattle.lines.proofs.GroupsLaw as G
 use Prim.Native.Nat.{ℕ, _<_}
 use borrow.Fn.Kinds.{In}
 use borrow.Fn.PlainCycle.{Measures, is, falls, and}
 use Rattle.lines.proofs.check.check_below.Reads as check-below
 use Rattle.lines.proofs.check.check_below.Kinds as check-below-kinds
-use Rattle.lines.proofs.check.+check_below+check_child+check_entry+check_expression+check_group+check_lines+check_pattern.Lts-check_below as check-below-lts
+use Rattle.lines.proofs.check.+check_below+check_child+check_entry+check_expression+check_lines+check_pattern.Lts-check_below as check-below-lts
 use Rattle.lines.proofs.check.check_child.Reads as check-child
 use Rattle.lines.proofs.check.check_child.Kinds as check-child-kinds
-use Rattle.lines.proofs.check.+check_below+check_child+check_entry+check_expression+check_group+check_lines+check_pattern.Lts-check_child as check-child-lts
+use Rattle.lines.proofs.check.+check_below+check_child+check_entry+check_expression+check_lines+check_pattern.Lts-check_child as check-child-lts
 use Rattle.lines.proofs.check.check_entry.Reads as check-entry
 use Rattle.lines.proofs.check.check_entry.Kinds as check-entry-kinds
-use Rattle.lines.proofs.check.+check_below+check_child+check_entry+check_expression+check_group+check_lines+check_pattern.Lts-check_entry as check-entry-lts
+use Rattle.lines.proofs.check.+check_below+check_child+check_entry+check_expression+check_lines+check_pattern.Lts-check_entry as check-entry-lts
 use Rattle.lines.proofs.check.check_expression.Reads as check-expression
 use Rattle.lines.proofs.check.check_expression.Kinds as check-expression-kinds
-use Rattle.lines.proofs.check.+check_below+check_child+check_entry+check_expression+check_group+check_lines+check_pattern.Lts-check_expression as check-expression-lts
-use Rattle.lines.proofs.check.check_group.Reads as check-group
-use Rattle.lines.proofs.check.check_group.Kinds as check-group-kinds
-use Rattle.lines.proofs.check.+check_below+check_child+check_entry+check_expression+check_group+check_lines+check_pattern.Lts-check_group as check-group-lts
+use Rattle.lines.proofs.check.+check_below+check_child+check_entry+check_expression+check_lines+check_pattern.Lts-check_expression as check-expression-lts
 use Rattle.lines.proofs.check.check_lines.Reads as check-lines
 use Rattle.lines.proofs.check.check_lines.Kinds as check-lines-kinds
-use Rattle.lines.proofs.check.+check_below+check_child+check_entry+check_expression+check_group+check_lines+check_pattern.Lts-check_lines as check-lines-lts
+use Rattle.lines.proofs.check.+check_below+check_child+check_entry+check_expression+check_lines+check_pattern.Lts-check_lines as check-lines-lts
 use Rattle.lines.proofs.check.check_pattern.Reads as check-pattern
 use Rattle.lines.proofs.check.check_pattern.Kinds as check-pattern-kinds
-use Rattle.lines.proofs.check.+check_below+check_child+check_entry+check_expression+check_group+check_lines+check_pattern.Lts-check_pattern as check-pattern-lts
-use Rattle.lines.proofs.below.alone.Reads as alone-reads
+use Rattle.lines.proofs.check.+check_below+check_child+check_entry+check_expression+check_lines+check_pattern.Lts-check_pattern as check-pattern-lts
 use Rattle.lines.proofs.below.amount.Reads as amount-reads
 use Rattle.lines.proofs.below.below_level.Reads as below-level-reads
 use Rattle.lines.proofs.check.take_line.Reads as take-line-reads
 use Rattle.lines.proofs.check.mark_below.Reads as mark-below-reads
-use Rattle.lines.proofs.check.+check_below+check_child+check_entry+check_expression+check_group+check_lines+check_pattern.{statement}
-use Rattle.lines.proofs.check.+check_below+check_child+check_entry+check_expression+check_group+check_lines+check_pattern.Tie.{close}
+use Rattle.lines.proofs.check.+check_below+check_child+check_entry+check_expression+check_lines+check_pattern.{statement}
+use Rattle.lines.proofs.check.+check_below+check_child+check_entry+check_expression+check_lines+check_pattern.Tie.{close}
 
 abbrev μ-check-below : Measures 5 check-below-kinds.ps ℕ
 μ-check-below κs a = 8 * (16385 - a .0 .from) + 5
@@ -58,9 +55,6 @@ abbrev μ-check-entry : Measures 5 check-entry-kinds.ps ℕ
 
 abbrev μ-check-expression : Measures 5 check-expression-kinds.ps ℕ
 μ-check-expression κs a = 8 * (16385 - a .0 .from) + 1
-
-abbrev μ-check-group : Measures 5 check-group-kinds.ps ℕ
-μ-check-group κs a = 8 * (16385 - a .0 .from) + 4
 
 abbrev μ-check-lines : Measures 5 check-lines-kinds.ps ℕ
 μ-check-lines κs a = 8 * (16385 - a .0 .from) + 3
@@ -100,14 +94,6 @@ abbrev check-expression-below : ℕ → In 5 check-expression-kinds.ps
 check-expression-below t =
     and 5 check-expression-kinds.ps (falls 5 check-expression-kinds.ps _<_ μ-check-expression t) check-expression.Pre
 
-abbrev check-group-at : ℕ → In 5 check-group-kinds.ps
-check-group-at t =
-    and 5 check-group-kinds.ps (is 5 check-group-kinds.ps μ-check-group t) check-group.Pre
-
-abbrev check-group-below : ℕ → In 5 check-group-kinds.ps
-check-group-below t =
-    and 5 check-group-kinds.ps (falls 5 check-group-kinds.ps _<_ μ-check-group t) check-group.Pre
-
 abbrev check-lines-at : ℕ → In 5 check-lines-kinds.ps
 check-lines-at t =
     and 5 check-lines-kinds.ps (is 5 check-lines-kinds.ps μ-check-lines t) check-lines.Pre
@@ -124,6 +110,13 @@ abbrev check-pattern-below : ℕ → In 5 check-pattern-kinds.ps
 check-pattern-below t =
     and 5 check-pattern-kinds.ps (falls 5 check-pattern-kinds.ps _<_ μ-check-pattern t) check-pattern.Pre
 
+abbrev check-below-Inv-loop : check-below-lts.InvT-loop
+check-below-Inv-loop level row first second mark s starts₀ sizes₀ hints₀ spots₀ q₀ code₀ starts sizes hints spots q code =
+    Ready s q × (q₀ .from ≤ q .from) × (length spots ≡ length spots₀) × G.Left s level first second (row .flag) mark (row .below) starts₀ sizes₀ hints₀ spots₀ q₀ starts sizes hints spots q code
+
+abbrev check-below-μ-loop : check-below-lts.MeasureT-loop
+check-below-μ-loop level row first second mark s starts₀ sizes₀ hints₀ spots₀ q₀ code₀ starts sizes hints spots q code = code
+
 abbrev check-lines-Inv-loop : check-lines-lts.InvT-loop
 check-lines-Inv-loop level sort width times mark flag s starts₀ sizes₀ hints₀ spots₀ q₀ left₀ starts sizes hints spots q left =
     Ready s q × (q₀ .from ≤ q .from) × D.Lines s starts₀ sizes₀ hints₀ q₀ starts sizes hints (want (sortAt sort) level width) left₀ left q
@@ -133,28 +126,28 @@ check-lines-Inv-loop level sort width times mark flag s starts₀ sizes₀ hints
 abbrev check-lines-μ-loop : check-lines-lts.MeasureT-loop
 check-lines-μ-loop level sort width times mark flag s starts₀ sizes₀ hints₀ spots₀ q₀ left₀ starts sizes hints spots q left = left
 
-pub +check-below+check-child+check-entry+check-expression+check-group+check-lines+check-pattern-spec : {M : Type 1} → statement M
-+check-below+check-child+check-entry+check-expression+check-group+check-lines+check-pattern-spec =
-    close μ-check-below μ-check-child μ-check-entry μ-check-expression μ-check-group μ-check-lines μ-check-pattern (λ t. check-below-lts.spec (
+pub +check-below+check-child+check-entry+check-expression+check-lines+check-pattern-spec : {M : Type 1} → statement M
++check-below+check-child+check-entry+check-expression+check-lines+check-pattern-spec =
+    close μ-check-below μ-check-child μ-check-entry μ-check-expression μ-check-lines μ-check-pattern (λ t. check-below-lts.spec (
       amount-reads.Asked,
       amount-reads.Learnt,
-      check-group-below t,
-      check-group.Post,
+      check-lines-below t,
+      check-lines.Post,
     )
     (check-below-at t)
     check-below.Post
-    (λ c κs. (c .before .pre .1 .1, c .before .pre .1 .2))
-    (λ c κs. let c6 = c .before .before .before .before .before .before in (let p = c6 .pre .0 in omega (arith, p), (c6 .pre .1 .0 .0, c6 .pre .1 .3)))
-    (λ c. search needs)
-    (λ c. let c3 = c .before .before .before in let c8 = c3 .before .before .before .before .before in let c10 = c8 .before .before in (D.below-first _ (c10 .args .row) (c10 .args .level) (c10 .args .first) (c10 .args .second) _ _ _ _ _ (c8 .amount .ensures) _ _ _ _ (c3 .check-group .ensures .0) (c .if1 .taken), (λ z. absurd (c .if1 .taken z), λ z. absurd (c .if1 .taken z))))
-    (λ c κs. let c10 = c .before .before .before .before .before .before .before .before .before .before in (c10 .pre .1 .1, c10 .pre .1 .2))
-    (λ c κs. let c5 = c .before .before .before .before .before in let c8 = c5 .before .before .before in let c15 = c8 .before .before .before .before .before .before .before in (let p = c15 .pre .0 in let x = c8 .check-group .ensures .1 .0 (c5 .if1 .left) .0 in omega (arith, p, x), (c15 .pre .1 .0 .1, c8 .check-group .ensures .1 .0 (c5 .if1 .left) .1)))
-    (λ c. search needs)
-    (λ c. let c3 = c .before .before .before in let c8 = c3 .before .before .before .before .before in let c9 = c8 .before in let c12 = c9 .before .before .before in let c17 = c12 .before .before .before .before .before in let c19 = c17 .before .before in (D.below-second _ (c19 .args .row) (c19 .args .level) (c19 .args .first) (c19 .args .second) _ _ _ _ _ (c17 .amount .ensures) _ _ _ _ (c12 .check-group .ensures .0) (c9 .if1 .left) _ (c8 .amount2 .ensures) _ _ _ _ (c3 .check-group2 .ensures .0) (c .if2 .taken), (λ z. absurd (c .if2 .taken z), λ z. absurd (c .if2 .taken z))))
-    (λ c κs. let c19 = c .before .before .before .before .before .before .before .before .before .before .before .before .before .before .before .before .before .before .before in (c19 .pre .1 .1, c19 .pre .1 .2))
-    (λ c κs. let c5 = c .before .before .before .before .before in let c8 = c5 .before .before .before in let c14 = c8 .before .before .before .before .before .before in let c17 = c14 .before .before .before in let c24 = c17 .before .before .before .before .before .before .before in (let p = c24 .pre .0 in let x = c17 .check-group .ensures .1 .0 (c14 .if1 .left) .0 in let y = c8 .check-group2 .ensures .1 .0 (c5 .if2 .left) .0 in omega (arith, p, x, y), (c24 .pre .1 .0 .2, c8 .check-group2 .ensures .1 .0 (c5 .if2 .left) .1)))
-    (λ c. let c10 = c .before .before .before .before .before .before .before .before .before .before in let c19 = c10 .before .before .before .before .before .before .before .before .before in c .before .check-group3 .kept .1 .1 .1 .1 .1 .1 .1 .1 .1 .1 .1 .0 ∙ (c10 .check-group2 .kept .1 .1 .1 .1 .1 .1 .1 .1 .1 .1 .1 .0 ∙ c19 .check-group .kept .1 .1 .1 .1 .1 .1 .1 .1 .1 .1 .1 .0))
-    (λ c. let c6 = c .before .before .before .before .before .before in let c7 = c6 .before in let c10 = c7 .before .before .before in let c15 = c10 .before .before .before .before .before in let c16 = c15 .before in let c19 = c16 .before .before .before in let c24 = c19 .before .before .before .before .before in let c26 = c24 .before .before in (D.below-third _ (c26 .args .row) (c26 .args .level) (c26 .args .first) (c26 .args .second) _ _ _ _ _ (c24 .amount .ensures) _ _ _ _ (c19 .check-group .ensures .0) (c16 .if1 .left) _ (c15 .amount2 .ensures) _ _ _ _ (c10 .check-group2 .ensures .0) (c7 .if2 .left) _ (c6 .amount3 .ensures) _ _ _ _ (c .before .check-group3 .ensures .0), (λ z. let x = c19 .check-group .ensures .1 .0 (c16 .if1 .left) .0 in let y = c10 .check-group2 .ensures .1 .0 (c7 .if2 .left) .0 in let w = c .before .check-group3 .ensures .1 .0 z in let v = w .0 in (omega (arith, x, y, v), w .1), λ z low. W.three-groups _ _ _ _ _ _ _ _ _ (c26 .args .level) (c26 .args .row) _ (c26 .args .first) (c26 .args .second) _ _ _ (c24 .amount .ensures) (c15 .amount2 .ensures) (c6 .amount3 .ensures) (c19 .check-group .ensures .1 .1 (c16 .if1 .left) (low .0)) (c10 .check-group2 .ensures .1 .1 (c7 .if2 .left) (low .1)) (c .before .check-group3 .ensures .1 .1 z (low .2))))))
+    check-below-Inv-loop
+    check-below-μ-loop
+    (λ c. let c1 = c .before in (c1 .pre .1 .3, omega arith, refl, G.left-begin _ (c1 .args .level) (c1 .args .first) (c1 .args .second) (c1 .args .row .flag) (c1 .args .mark) (c1 .args .row .below) _ _ _ _ _ (c1 .pre .1 .3 .going) (c1 .pre .1 .0)))
+    (λ c κs. let c3 = c .before .before .before in (c3 .pre .1 .1, c3 .pre .1 .2))
+    (λ c. omega arith)
+    (λ c κs. let c5 = c .before .before .before .before .before in let c6 = c5 .before in let c8 = c6 .before .before in (let p = c8 .pre .0 in let x = c6 .loop .inv .1 in omega (arith, p, x), (G.left-sort _ _ _ _ _ _ _ _ _ _ _ _ _ _ _ _ _ _ (c6 .loop .inv .3) (c5 .loop-test .taken), c6 .loop .inv .0)))
+    (λ c. let c3 = c .before .before .before in let c10 = c3 .before .before .before .before .before .before .before in c3 .check-lines .kept .1 .1 .1 .1 .1 .1 .1 .1 .1 .1 .1 .0 ∙ c10 .loop .inv .2)
+    (λ c. let c3 = c .before .before .before in let c8 = c3 .before .before .before .before .before in let c9 = c8 .before in let c10 = c9 .before in (G.left-stop _ _ _ _ _ _ _ _ _ _ _ _ _ _ _ _ _ _ (c10 .loop .inv .3) (c9 .loop-test .taken) (c10 .loop .inv .0 .going) _ (c8 .amount .ensures) _ _ _ _ (c3 .check-lines .ensures .0) (c .if1 .taken), (λ z. absurd (c .if1 .taken z), λ z. absurd (c .if1 .taken z))))
+    (λ c. let c9 = c .before .before .before .before .before .before .before .before .before in let z = c9 .loop-test .taken in omega (arith, z))
+    (λ c. let c3 = c .before .before .before in let c8 = c3 .before .before .before .before .before in let c9 = c8 .before in let c10 = c9 .before in let e = c3 .check-lines .ensures in let u = e .1 .0 (c .if1 .left) in (u .1, (let v = u .0 in let x = c10 .loop .inv .1 in omega (arith, v, x)), c3 .check-lines .kept .1 .1 .1 .1 .1 .1 .1 .1 .1 .1 .1 .0 ∙ c10 .loop .inv .2, G.left-next _ _ _ _ _ _ _ _ _ _ _ _ _ _ _ _ _ _ (c10 .loop .inv .3) (c9 .loop-test .taken) (c10 .loop .inv .0 .going) _ (c8 .amount .ensures) _ _ _ _ (e .0) _ (e .1 .1 (c .if1 .left))))
+    (λ c. c .before .loop .inv .2)
+    (λ c. let v = c .before .loop .inv in (G.left-went _ _ _ _ _ _ _ _ _ _ _ _ _ _ _ _ _ _ (v .3) (c .loop-test .left), (λ z. (v .1, v .0), λ z low. G.left-walked _ _ _ _ _ _ _ _ _ _ _ _ _ _ _ _ _ _ (v .3) (c .loop-test .left) low))))
     (λ t. check-child-lts.spec (
       check-pattern-below t,
       check-pattern.Post,
@@ -177,8 +170,6 @@ pub +check-below+check-child+check-entry+check-expression+check-group+check-line
     (λ t. check-entry-lts.spec (
       take-line-reads.Asked,
       take-line-reads.Learnt,
-      alone-reads.Asked,
-      alone-reads.Learnt,
       below-level-reads.Asked,
       below-level-reads.Learnt,
       check-below-below t,
@@ -189,13 +180,12 @@ pub +check-below+check-child+check-entry+check-expression+check-group+check-line
     (λ c κs. let c5 = c .before .before .before .before .before in c5 .pre .1)
     (λ c. search needs)
     (λ c. let c4 = c .before .before .before .before in (λ ρ ws m st. D.went-stop _ ρ _ _ _ _ ws _ _ (c4 .take-line .ensures .0 ρ ws m st) (c .if1 .taken), (λ z. absurd (c .if1 .taken z), (λ z. absurd (c .if1 .taken z), λ z. absurd (c .if1 .taken z)))))
-    (λ c κs. search needs)
     (λ c. search needs)
-    (λ c. let c6 = c .before .before .before .before .before .before in let c12 = c6 .before .before .before .before .before .before in (λ ρ ws m st. D.alone-went _ ρ ws _ (c6 .take-line .result .row) (below (c12 .args .sort) (c12 .args .level)) (c6 .take-line .result .first) (c6 .take-line .result .second) _ _ _ _ (c .before .alone .ensures (c .if2 .taken)) (c6 .take-line .ensures .0 ρ ws m st), (λ z. let k = c6 .take-line .ensures .1 .0 z in let b = k .behind in (omega (arith, b), k .ready), (λ z low. W.entry-alone _ _ _ _ (c12 .args .level) (c12 .args .sort) (c12 .args .mark) (c6 .take-line .result) (c6 .take-line .ensures .1 .1 z low) (c .before .alone .ensures (c .if2 .taken)), λ z. c6 .take-line .ensures .1 .0 z .deep))))
+    (λ c. let c6 = c .before .before .before .before .before .before in let c12 = c6 .before .before .before .before .before .before in (λ ρ ws m st. D.alone-went _ ρ ws _ (c6 .take-line .result .row .below) (below (c12 .args .sort) (c12 .args .level)) (c6 .take-line .result .first) (c6 .take-line .result .second) _ _ _ _ (c .if2 .taken) (c6 .take-line .ensures .0 ρ ws m st), (λ z. let k = c6 .take-line .ensures .1 .0 z in let b = k .behind in (omega (arith, b), k .ready), (λ z low. W.entry-alone _ _ _ _ (c12 .args .level) (c12 .args .sort) (c12 .args .mark) (c6 .take-line .result) (c6 .take-line .ensures .1 .1 z low) (c .if2 .taken), λ z. c6 .take-line .ensures .1 .0 z .deep))))
     (λ c κs. let c12 = c .before .before .before .before .before .before .before .before .before .before .before .before in c12 .pre .1 .0)
     (λ c κs. let c7 = c .before .before .before .before .before .before .before in let c11 = c7 .before .before .before .before in let c17 = c11 .before .before .before .before .before .before in let k = c11 .take-line .ensures .1 .0 (c7 .if1 .left) in (let p = c17 .pre .0 in let i = k .inside in let b = k .behind in omega (arith, p, i, b), (k .sorts, k .small .0, k .small .1, k .ready)))
     (λ c. search needs)
-    (λ c. let c6 = c .before .before .before .before .before .before in let c9 = c6 .before .before .before in let c13 = c9 .before .before .before .before in let c19 = c13 .before .before .before .before .before .before in (λ ρ ws m st. D.below-went _ ρ ws _ (c13 .take-line .result .row) (below (c19 .args .sort) (c19 .args .level)) (c13 .take-line .result .first) (c13 .take-line .result .second) _ _ _ _ _ _ _ _ _ (c6 .below-level .ensures) (c13 .take-line .ensures .0 ρ ws m st) (c9 .if1 .left) (c .before .check-below .ensures .0), (λ z. let b = c13 .take-line .ensures .1 .0 (c9 .if1 .left) .behind in let w = c .before .check-below .ensures .1 .0 z in let v = w .0 in (omega (arith, b, v), w .1), (λ z low. W.entry-below _ _ _ _ (c19 .args .level) (c19 .args .sort) (c19 .args .mark) (c13 .take-line .result) (c13 .take-line .ensures .1 .1 (c9 .if1 .left) low) _ (c6 .below-level .ensures) _ _ (c .before .check-below .ensures .1 .1 z (c13 .take-line .ensures .1 .0 (c9 .if1 .left) .trees low)), λ z. c13 .take-line .ensures .1 .0 (c9 .if1 .left) .deep)))))
+    (λ c. let c6 = c .before .before .before .before .before .before in let c9 = c6 .before .before .before in let c13 = c9 .before .before .before .before in let c19 = c13 .before .before .before .before .before .before in (λ ρ ws m st. D.below-went _ ρ ws _ (c13 .take-line .result .row .below) (below (c19 .args .sort) (c19 .args .level)) (c13 .take-line .result .first) (c13 .take-line .result .second) _ _ _ _ _ _ _ _ _ (c6 .below-level .ensures) (c13 .take-line .ensures .0 ρ ws m st) (c9 .if1 .left) (c .before .check-below .ensures .0), (λ z. let b = c13 .take-line .ensures .1 .0 (c9 .if1 .left) .behind in let w = c .before .check-below .ensures .1 .0 z in let v = w .0 in (omega (arith, b, v), w .1), (λ z low. W.entry-below _ _ _ _ (c19 .args .level) (c19 .args .sort) (c19 .args .mark) (c13 .take-line .result) (c13 .take-line .ensures .1 .1 (c9 .if1 .left) low) _ (c6 .below-level .ensures) _ _ (c .before .check-below .ensures .1 .1 z (c13 .take-line .ensures .1 .0 (c9 .if1 .left) .trees low)), λ z. c13 .take-line .ensures .1 .0 (c9 .if1 .left) .deep)))))
     (λ t. check-expression-lts.spec
     (check-entry-below t, check-entry.Post)
     (check-expression-at t)
@@ -203,14 +193,6 @@ pub +check-below+check-child+check-entry+check-expression+check-group+check-line
     (λ c κs. let c5 = c .before .before .before .before .before in (let p = c5 .pre .0 in omega (arith, p), (omega arith, c5 .pre .1)))
     (λ c. search needs)
     (λ c. let e = c .before .check-entry .ensures in (e .0, (e .1 .0, (λ z. e .1 .1 .0 z (omega arith), e .1 .1 .1)))))
-    (λ t. check-group-lts.spec
-    (check-lines-below t, check-lines.Post)
-    (check-group-at t)
-    check-group.Post
-    (λ c. let c2 = c .before .before in (D.goes-none _ _ _ _ _ (want (sortAt (c2 .args .sort)) (c2 .args .level) (c2 .args .width)) (c2 .args .times) (c .if1 .taken) (c2 .pre .1 .1 .going), (λ z. (omega arith, c2 .pre .1 .1), λ z low. W.none-left _ _ _ (child spotLine (tree spotLine (c2 .args .level)) (eqb (c2 .args .flag) 1) (markAt (c2 .args .mark)) (sortAt (c2 .args .sort))) (c2 .args .times) (c .if1 .taken))))
-    (λ c κs. let c6 = c .before .before .before .before .before .before in (let p = c6 .pre .0 in omega (arith, p), c6 .pre .1))
-    (λ c. search needs)
-    (λ c. c .before .check-lines .ensures))
     (λ t. check-lines-lts.spec (
       mark-below-reads.Asked,
       mark-below-reads.Learnt,
@@ -221,7 +203,7 @@ pub +check-below+check-child+check-entry+check-expression+check-group+check-line
     check-lines.Post
     check-lines-Inv-loop
     check-lines-μ-loop
-    (λ c. (c .before .pre .1 .1, omega arith, D.lines-begin _ _ _ _ _ (want (sortAt (c .before .args .sort)) (c .before .args .level) (c .before .args .width)) (c .before .args .times) (c .before .pre .1 .1 .going), refl, λ low. W.left-begin _ _ _ (child spotLine (tree spotLine (c .before .args .level)) (eqb (c .before .args .flag) 1) (markAt (c .before .args .mark)) (sortAt (c .before .args .sort))) (c .before .args .times)))
+    (λ c. (c .before .pre .1 .1, omega arith, D.rest-begin _ _ _ _ _ (replicate (c .before .args .times) (want (sortAt (c .before .args .sort)) (c .before .args .level) (c .before .args .width))) (c .before .pre .1 .1 .going), refl, λ low. W.left-begin _ _ _ (child spotLine (tree spotLine (c .before .args .level)) (eqb (c .before .args .flag) 1) (markAt (c .before .args .mark)) (sortAt (c .before .args .sort))) (c .before .args .times)))
     (λ c. search needs)
     (λ c κs. search needs)
     (λ c κs. let c6 = c .before .before .before .before .before .before in let c8 = c6 .before .before in (let p = c8 .pre .0 in let x = c6 .loop .inv .1 in omega (arith, p, x), ((c8 .pre .1 .0, λ e. c .before .before .before .before .mark-below .ensures ∙ sym (W.mark-silent (c8 .args .sort) (c8 .args .flag) (c8 .args .mark) _ e)), c6 .loop .inv .0)))
