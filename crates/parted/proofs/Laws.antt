@@ -1,13 +1,13 @@
 -- The texts of an input by places in it. Assumes nothing.
 use Prim.Native.Nat.{ℕ, zero, suc, _+_, _-_, _≤_, _<_}
-use mathlib.Core.Path.{_≡_, refl, sym, _∙_, ap, ap₂, subst}
+use mathlib.Core.Path.{_≡_, refl, sym, _∙_, ap, ap₂}
 use mathlib.Core.List.{List, [], _∷_, _++_, append-assoc, append-nil}
 use mathlib.Core.Bool.{Bool, true, false, cond}
 use native.Mathlib.Nat.{le-refl, sub-zero}
 use native.Mathlib.Omega.{arith}
 use lib.ListN.{length, getD, take, drop, length-take, length-drop}
 use lib.Seq.{take-length, take-add, drop-drop, drop-cons}
-use lib.Dec.{eqb, ltb}
+use lib.Dec.{eqb}
 use borrow.Author.Tests.{lt-ltb, le-ltb}
 use Rattle.text.specs.Text.{Bytes, same, onto, split, part, First}
 use Rattle.text.proofs.Basics.{same-eq}
@@ -87,23 +87,11 @@ from-line s at e f h q =
 from-bar : (s : Bytes) (at e : ℕ) → First 10 s at (length s) e → e < length s → same (part at e s) bar ≡ true → textsFrom s at ≡ [] ∷ textsFrom s (e + 1)
 from-bar s at e f h q = from-here s at e f h ∙ rw q
 
-from-end : (s : Bytes) (at : ℕ) → length s ≤ at → textsFrom s at ≡ [] ∷ []
-unfolding textsFrom textsIn split
-from-end s at h = let z : length s - at ≡ 0 = omega arith in rw z
-
-bar-long : (s : Bytes) (at e : ℕ) → at ≤ e → e ≤ length s → same (part at e s) bar ≡ true → e ≡ at + 2
+pub bar-long : (s : Bytes) (at e : ℕ) → at ≤ e → e ≤ length s → same (part at e s) bar ≡ true → e ≡ at + 2
 bar-long s at e h k q =
     let l : length (part at e s) ≡ e - at = simp (length-take, length-drop) (omega arith) in
     let b : length (part at e s) ≡ 2 = ap length (same-eq (part at e s) bar q) in
     omega arith
-
--- a line of another size is none
-pub no-bar : (s : Bytes) (at e : ℕ) → at ≤ e → e ≤ length s → (e - at ≡ 2 → ⊥) → false ≡ same (part at e s) bar
-no-bar s at e h k n = go (same (part at e s) bar) refl
-  where
-    go : (b : Bool) → same (part at e s) bar ≡ b → false ≡ b
-    go false q = refl
-    go true q = absurd (let two : e ≡ at + 2 = bar-long s at e h k q in n (omega arith))
 
 -- ---- what stands behind a text
 
@@ -134,7 +122,7 @@ within-line s from at e w l f h q =
     ∙ before-join (part from at s) (part at (e + 1) s) (textsFrom s (e + 1))
     ∙ ap (λ (b : Bytes). before b (textsFrom s (e + 1))) (part-join s from at (e + 1) l (omega arith))
 
--- its three ways out: no line end is left, a line `--`, the end of the input
+-- its two ways out: no line end is left, a line `--`
 pub ends-open : (s : Bytes) (from at e : ℕ) → Within s from at → from ≤ at → First 10 s at (length s) e → length s ≤ e → Ends s from e
 ends-open s from at e w l f h =
     let m : at ≤ e = f .low in
@@ -146,25 +134,14 @@ ends-open s from at e w l f h =
       first = w ∙ ap (before (part from at s)) (from-open s at e f (omega arith)) ∙ before-first (part from at s) (part at e s) [] ∙ ap₂ _∷_ (part-join s from at e l m) (sym (after-none s e h));
     }
 
-pub ends-bar : (s : Bytes) (from at e : ℕ) → Within s from at → from ≤ at → First 10 s at (length s) e → e < length s → same (part at e s) bar ≡ true → Ends s from at
-ends-bar s from at e w l f h q =
-    let m : at ≤ e = f .low in
-    let two : e ≡ at + 2 = bar-long s at e m (f .high) q in
-    let three : e + 1 ≡ at + 3 = omega arith in
+pub ends-bar : (s : Bytes) (from at : ℕ) → Within s from at → from ≤ at → First 10 s at (length s) (at + 2) → at + 2 < length s → same (part at (at + 2) s) bar ≡ true → Ends s from at
+ends-bar s from at w l f h q =
+    let three : at + 2 + 1 ≡ at + 3 = omega arith in
     record {
       low = l;
       high = omega arith;
       room = λ r. omega arith;
-      first = w ∙ ap (before (part from at s)) (from-bar s at e f h q) ∙ before-first (part from at s) [] (textsFrom s (e + 1)) ∙ ap₂ _∷_ (append-nil (part from at s)) (ap (textsFrom s) three ∙ sym (after-bar s at (omega arith)));
-    }
-
-pub ends-end : (s : Bytes) (from at : ℕ) → Within s from at → from ≤ at → at ≤ length s → length s ≤ at → Ends s from at
-ends-end s from at w l k h =
-    record {
-      low = l;
-      high = k;
-      room = λ r. absurd (omega arith);
-      first = w ∙ ap (before (part from at s)) (from-end s at h) ∙ before-first (part from at s) [] [] ∙ ap₂ _∷_ (append-nil (part from at s)) (sym (after-none s at h));
+      first = w ∙ ap (before (part from at s)) (from-bar s at (at + 2) f h q) ∙ before-first (part from at s) [] (textsFrom s (at + 2 + 1)) ∙ ap₂ _∷_ (append-nil (part from at s)) (ap (textsFrom s) three ∙ sym (after-bar s at (omega arith)));
     }
 
 -- ---- counting the texts

@@ -1,26 +1,28 @@
 // The texts of an input, parted by lines `--`, as parts of the lent slice.
-use text::equal;
 use text::find;
-use text::piece;
 ghost use mathlib.Core.Path.{_≡_};
 ghost use mathlib.Core.List.{[]};
+ghost use mathlib.Core.Bool.{true, false};
 ghost use Prim.Native.Nat.{_+_, _-_, _≤_, _<_};
 ghost use lib.ListN.{length, getD};
-ghost use Rattle.text.specs.Text.{same, part};
-ghost use Rattle.parted.specs.Parted.{bar, texts};
-ghost use Rattle.parted.specs.bridge.Code.{Ends, startOf, Parted};
+ghost use Rattle.parted.specs.Parted.{texts};
+ghost use Rattle.parted.specs.bridge.Code.{BarAt, Ends, startOf, Parted};
 
-const BAR: [u8; 2] = *b"--";
-
-// The line from one place to another is `--`.
-fn is_bar(s: &[u8], from: usize, to: usize) -> bool
-    requires { ⌜ (from ≤ to) × (to ≤ length (now s)) ⌝ }
-    ensures { λ r. ⌜ r ≡ same (part from to (now (s .entry))) bar ⌝ }
+// A line `--` of the text that starts at `from` stands at this dash.
+fn is_bar(s: &[u8], from: usize, at: usize) -> bool
+    requires { ⌜ (from ≤ at) × (at + 3 ≤ length (now s)) × (getD (now s) at 0 ≡ 45) ⌝ }
+    ensures { λ r. ⌜ (r ≡ true → BarAt (now (s .entry)) from at) × (r ≡ false → BarAt (now (s .entry)) from at → ⊥) ⌝ }
 {
-    if to - from != 2 {
+    if s[at + 1] != 45 {
         return false;
     }
-    equal(piece(s, from, to - from), &BAR)
+    if s[at + 2] != 10 {
+        return false;
+    }
+    if at == from {
+        return true;
+    }
+    s[at - 1] == 10
 }
 
 // Where the text that starts here ends: at the next line `--`, or with the input.
@@ -30,16 +32,16 @@ fn text_end(s: &[u8], from: usize) -> usize
 {
     let mut at = from;
     while at < s.len() {
-        let end = find(s, at, s.len(), 10);
-        if end == s.len() {
-            return end;
+        let dash = find(s, at, s.len(), 45);
+        if s.len() - dash < 3 {
+            return s.len();
         }
-        if is_bar(s, at, end) {
-            return at;
+        if is_bar(s, from, dash) {
+            return dash;
         }
-        at = end + 1;
+        at = dash + 1;
     }
-    at
+    s.len()
 }
 
 // The texts' ends, of the first five, and how many lines `--` the input has.

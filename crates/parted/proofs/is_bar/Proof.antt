@@ -1,7 +1,7 @@
 -- `parted::is_bar` meets its contract. Assumes nothing.
 use borrow.Author.Needs.{needs}
-use native.Mathlib.Omega.{arith}
-use Rattle.parted.proofs.Laws.{no-bar}
+use mathlib.Core.Bool.{false≢true, true≢false}
+use Rattle.parted.proofs.Bars.{bar-here, bar-behind}
 use Rattle.parted.proofs.is_bar.Statement.{statement}
 use Rattle.parted.proofs.is_bar.Tie as tie
 
@@ -10,9 +10,14 @@ is-bar-spec =
     tie.close
     (tie.spec
     (λ c. search needs)
-    (λ c. let b = c .before .before in no-bar _ _ _ (b .pre .0) (b .pre .1) (c .if1 .taken))
     (λ c. search needs)
-    (λ c κs. search needs)
+    (λ c. (λ e. absurd (false≢true e), λ e b. c .if1 .taken (b .again)))
     (λ c. search needs)
-    (λ c κs. search needs)
-    (λ c. cc))
+    (λ c. search needs)
+    (λ c. (λ e. absurd (false≢true e), λ e b. c .if2 .taken (b .over)))
+    (λ c. let p = c .before .before .before .before .before .pre in
+    (λ e. bar-here _ _ _ (p .1) (p .2) (c .before .before .before .if1 .left) (c .before .if2 .left) (λ z. absurd (z (c .if3 .taken))), λ e. absurd (true≢false e)))
+    (λ c. search needs)
+    (λ c. search needs)
+    (λ c. let p = c .before .before .before .before .before .before .pre in
+    bar-behind _ _ _ (p .1) (p .2) (c .before .before .before .before .if1 .left) (c .before .before .if2 .left) (c .before .if3 .left)))

@@ -1,5 +1,5 @@
 -- The texts of an input by places in it. Assumes nothing.
-use Prim.Native.Nat.{ℕ, zero, suc, _+_, _≤_, _<_}
+use Prim.Native.Nat.{ℕ, zero, suc, _+_, _-_, _≤_, _<_}
 use mathlib.Core.Path.{_≡_}
 use mathlib.Core.List.{List, [], _∷_}
 use mathlib.Core.Bool.{cond}
@@ -24,6 +24,14 @@ pub record Ends (s : Bytes) (from r : ℕ) : Type 0 where
   pub high : r ≤ length s
   pub room : r < length s → r + 3 ≤ length s
   pub first : textsFrom s from ≡ part from r s ∷ after s r
+
+-- a line `--` stands at a place of the text that starts at `from`
+pub record BarAt (s : Bytes) (from at : ℕ) : Type 0 where
+  pub start : (at ≡ from → ⊥) → getD s (at - 1) 0 ≡ 10
+  pub fits : at + 3 ≤ length s
+  pub dash : getD s at 0 ≡ 45
+  pub again : getD s (at + 1) 0 ≡ 45
+  pub over : getD s (at + 2) 0 ≡ 10
 
 -- where the text of a number starts: at the beginning, or behind the line `--` that ends the one before
 abbrev pub startOf : List ℕ → ℕ → ℕ
