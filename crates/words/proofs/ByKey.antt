@@ -1,22 +1,24 @@
 -- A row by the key of its word is the row of the word. Assumes nothing.
-use Prim.Native.Nat.{ℕ, zero, suc, _+_, _≤_, _<_, zero-le}
+use Prim.Native.Nat.{ℕ, zero, suc, _+_, _-_, _≤_, _<_, zero-le}
 use mathlib.Core.Path.{_≡_, refl, sym, _∙_, ap, subst}
 use mathlib.Core.Bool.{Bool, true, false, cond, not, _&&_, false≢true, true≢false}
 use mathlib.Core.List.{List, [], _∷_}
 use mathlib.Core.Option.{Option, none, some}
 use native.Mathlib.Omega.{arith}
 use lib.Dec.{eqb, leb, ltb}
-use lib.ListN.{length, getD}
+use lib.ListN.{length, getD, drop, length-take, length-drop}
+use lib.Seq.{getD-take, getD-drop}
 use borrow.Author.Tests.{leb-true, ltb-true, eqb-false, ne-eqb, not-true}
-use Rattle.text.specs.Text.{Bytes, same}
+use Rattle.text.specs.Text.{Bytes, same, part}
 use Rattle.text.proofs.Basics.{and-left, and-right, same-eq}
 use Rattle.text.proofs.Lists.{same-long}
 use Rattle.algebra.specs.bridge.Table.{Row, Entry, Sort, triples, columns, patterns, expressions, rows, orders, aggregates, heads, sets, positions, valueRows, parts, rowsOf, rowIn, rowFor}
+use Rattle.words.specs.declared.Word.{Word}
 use Rattle.words.specs.declared.Found.{Found}
 use Rattle.words.specs.declared.Found.the-variants.{Is, None}
 use Rattle.words.specs.bridge.Code.{sortAt, rowOf, found, rowFound, Tidy, flagOf, Flags}
-use Rattle.words.specs.bridge.Key.{keyOf, rowBy, flagBy, Flagged}
-use Rattle.words.proofs.Keys.{Small, Told, same-by-key, all-small}
+use Rattle.words.specs.bridge.Key.{keyOf, Small, Spells, rowBy, flagBy, Flagged}
+use Rattle.words.proofs.Keys.{Told, same-by-key}
 
 -- ---- every word of the table is one that a key tells
 
@@ -75,11 +77,9 @@ unfolding allTell rowIn
 no-row [] f h n = refl
 no-row (e ∷ es) f h n = rw (n (e .word) (told (e .word) (and-left (tells (e .word)) (allTell es) h))) (no-row es f (and-right (tells (e .word)) (allTell es) h) n)
 
--- a field of eight bytes at most, of which the first is not 0, and its key
-pub row-by-key : (s : ℕ) (f : Bytes) (k : ℕ) → length f ≤ 8 → (getD f 0 0 ≡ 0 → ⊥) → k ≡ keyOf 0 f → ((i : ℕ) → i < length f → getD f i 0 < 256) → rowBy k (rowsOf (sortAt s)) ≡ rowFor (sortAt s) f
-row-by-key s f k l n e b =
-    let t : Told f = record { first = n; long = l; small = all-small f b } in
-    ap (λ (j : ℕ). rowBy j (rowsOf (sortAt s))) e ∙ sym (by-key (rowsOf (sortAt s)) f (words-tell (sortAt s)) t)
+-- a field that a key tells, and its key
+pub row-by-key : (s : ℕ) (f : Bytes) (k : ℕ) → Told f → k ≡ keyOf 0 f → rowBy k (rowsOf (sortAt s)) ≡ rowFor (sortAt s) f
+row-by-key s f k t e = ap (λ (j : ℕ). rowBy j (rowsOf (sortAt s))) e ∙ sym (by-key (rowsOf (sortAt s)) f (words-tell (sortAt s)) t)
 
 -- what the key tells of the names is what the word does
 flag-is : (es : List Entry) (f : Bytes) (r : Row) → allTell es ≡ true → Told f → some r ≡ rowBy (keyOf 0 f) es → flagBy (keyOf 0 f) es ≡ flagOf f
@@ -91,26 +91,49 @@ flag-is (e ∷ es) f r h t q = go (eqb (keyOf 0 f) (keyOf 0 (e .word))) refl (λ
     go true p on w = ap flagOf (sym (same-eq f (e .word) (same-by-key f (e .word) t (told (e .word) (and-left (tells (e .word)) (allTell es) h)) ∙ p)))
     go false p on w = on w
 
-pub flag-by-key : (s : ℕ) (f : Bytes) (k : ℕ) (r : Found) → length f ≤ 8 → (getD f 0 0 ≡ 0 → ⊥) → k ≡ keyOf 0 f → ((i : ℕ) → i < length f → getD f i 0 < 256) → rowFound r ≡ rowBy k (rowsOf (sortAt s)) → Flagged k (rowsOf (sortAt s)) r → Flags f r
-flag-by-key s f k (Is c) l n e b w q =
-    let t : Told f = record { first = n; long = l; small = all-small f b } in
+pub flag-by-key : (s : ℕ) (f : Bytes) (k : ℕ) (r : Found) → Told f → k ≡ keyOf 0 f → rowFound r ≡ rowBy k (rowsOf (sortAt s)) → Flagged k (rowsOf (sortAt s)) r → Flags f r
+flag-by-key s f k (Is c) t e w q =
     q ∙ ap (λ (j : ℕ). flagBy j (rowsOf (sortAt s))) e ∙ flag-is (rowsOf (sortAt s)) f (rowOf c) (words-tell (sortAt s)) t (w ∙ ap (λ (j : ℕ). rowBy j (rowsOf (sortAt s))) e)
-flag-by-key s f k None l n e b w q = tt
+flag-by-key s f k None t e w q = tt
 
-pub too-long : (s : ℕ) (f : Bytes) → 8 < length f → none ≡ rowFor (sortAt s) f
+too-long : (s : ℕ) (f : Bytes) → 8 < length f → none ≡ rowFor (sortAt s) f
 too-long s f h = sym (no-row (rowsOf (sortAt s)) f (words-tell (sortAt s)) (λ w t. let k = t .long in same-long f w (λ e. omega arith)))
 
 -- no word begins with byte 0, or is empty
-pub no-first : (s : ℕ) (f : Bytes) → getD f 0 0 ≡ 0 → none ≡ rowFor (sortAt s) f
+no-first : (s : ℕ) (f : Bytes) → getD f 0 0 ≡ 0 → none ≡ rowFor (sortAt s) f
 no-first s f h = sym (no-row (rowsOf (sortAt s)) f (words-tell (sortAt s)) λ w t. go w t (same f w) refl)
   where
     go : (w : Bytes) → Told w → (b : Bool) → same f w ≡ b → b ≡ false
     go w t true e = absurd (t .first (ap (λ (l : Bytes). getD l 0 0) (sym (same-eq f w e)) ∙ h))
     go w t false e = refl
 
-pub no-bytes : (f : Bytes) → length f ≡ 0 → getD f 0 0 ≡ 0
+no-bytes : (f : Bytes) → length f ≡ 0 → getD f 0 0 ≡ 0
 no-bytes [] h = refl
 no-bytes (x ∷ xs) h = absurd (omega arith)
+
+-- ---- a word that was read at a place, by what the code tests
+
+module _ (s : Bytes) (from : ℕ) (w : Word) (low : from ≤ w .end) (high : w .end ≤ length s) where
+  word-long : length (part from (w .end) s) ≡ w .end - from
+  word-long = simp (length-take, length-drop) (omega arith)
+
+  word-first : from < w .end → getD (part from (w .end) s) 0 0 ≡ getD s from 0
+  word-first h =
+      let e : from + 0 ≡ from = omega arith in
+      getD-take (w .end - from) (drop from s) 0 0 (omega arith) ∙ getD-drop from s 0 0 ∙ ap (λ (i : ℕ). getD s i 0) e
+
+  pub word-too-long : (sort : ℕ) → 8 < w .end - from → none ≡ rowFor (sortAt sort) (part from (w .end) s)
+  word-too-long sort h = too-long sort _ (rw word-long h)
+
+  pub word-empty : (sort : ℕ) → w .end - from ≡ 0 → none ≡ rowFor (sortAt sort) (part from (w .end) s)
+  word-empty sort h = no-first sort _ (no-bytes (part from (w .end) s) (word-long ∙ h))
+
+  module _ (some : w .end - from ≡ 0 → ⊥) where
+    pub word-zero : (sort : ℕ) → getD s from 0 ≡ 0 → none ≡ rowFor (sortAt sort) (part from (w .end) s)
+    word-zero sort h = no-first sort _ (word-first (omega arith) ∙ h)
+
+    pub word-told : w .end - from ≤ 8 → (getD s from 0 ≡ 0 → ⊥) → Spells s from w → Told (part from (w .end) s)
+    word-told l n p = record { first = λ e. n (sym (word-first (omega arith)) ∙ e); long = rw word-long l; small = p .small }
 
 -- ---- a key that is none of the words'
 

@@ -1,27 +1,45 @@
 -- A key of eight bytes at most, of which the first is not 0, tells its bytes. Assumes nothing.
 use Prim.Native.Nat.{ℕ, zero, suc, _+_, _-_, _*_, _%_, _/_, _≤_, _<_}
-use mathlib.Core.Path.{_≡_, refl, sym, _∙_, ap, ap₂}
+use mathlib.Core.Path.{_≡_, refl, sym, _∙_, ap, ap₂, subst}
 use mathlib.Core.Bool.{Bool, true, false, false≢true}
 use mathlib.Core.List.{List, [], _∷_, _++_}
-use native.Mathlib.Numerals.{add-one}
 use native.Mathlib.Omega.{arith}
 use lib.Dec.{eqb, leb, lit≤}
-use lib.ListN.{length, getD, drop, drop-of-length-le, replicate}
-use lib.Seq.{drop-cons}
+use lib.ListN.{length, getD, take, drop, length-drop, replicate}
+use lib.Seq.{take-suc, getD-drop}
 use borrow.Author.Tests.{leb-true, leb-false, eq-eqb, ne-eqb}
-use Rattle.text.specs.Text.{Bytes, same}
+use Rattle.text.specs.Text.{Bytes, same, part}
 use Rattle.text.proofs.Basics.{same-eq, same-refl}
-use Rattle.words.specs.bridge.Key.{keyOf}
+use Rattle.words.specs.bridge.Key.{keyOf, Small, Spells}
 
 -- ---- how the code makes a key
 
-pub key-next : (f : Bytes) (i k b : ℕ) → i < length f → b ≡ getD f i 0 → keyOf k (drop i f) ≡ keyOf (k % 72057594037927936 * 256 + b) (drop (i + 1) f)
+-- no byte yet
+pub spells-none : (s : Bytes) (from : ℕ) → Spells s from (record { end = from; key = 0 })
 unfolding keyOf
-key-next f i k b l e = rw (e, add-one, drop-cons f i 0 l)
+spells-none s from = let z : from - from ≡ 0 = omega arith in record { key = rw z; small = rw z tt }
 
-pub key-end : (f : Bytes) (i k : ℕ) → length f ≤ i → keyOf k (drop i f) ≡ k
+key-more : (k x : ℕ) (xs : Bytes) → keyOf k (xs ++ (x ∷ [])) ≡ keyOf k xs % 72057594037927936 * 256 + x
 unfolding keyOf
-key-end f i k l = rw (drop-of-length-le f l)
+key-more k x [] = refl
+key-more k x (y ∷ ys) = key-more (k % 72057594037927936 * 256 + y) x ys
+
+small-more : (x : ℕ) (xs : Bytes) → x < 256 → Small xs → Small (xs ++ (x ∷ []))
+small-more x [] h s = (h, tt)
+small-more x (y ∷ ys) h s = (s .0, small-more x ys h (s .1))
+
+part-more : (s : Bytes) (from i : ℕ) → from ≤ i → i < length s → part from (i + 1) s ≡ part from i s ++ (getD s i 0 ∷ [])
+part-more s from i l h =
+    let e : i + 1 - from ≡ suc (i - from) = omega arith in
+    let f : from + (i - from) ≡ i = omega arith in
+    let n : i - from < length (drop from s) = rw length-drop (omega arith) in
+    ap (λ (n : ℕ). take n (drop from s)) e ∙ take-suc (drop from s) (i - from) 0 n ∙ ap (λ (x : ℕ). part from i s ++ (x ∷ [])) (getD-drop from s (i - from) 0 ∙ ap (λ (j : ℕ). getD s j 0) f)
+
+-- one more
+pub spells-more : (s : Bytes) (from i k b : ℕ) → from ≤ i → i < length s → b ≡ getD s i 0 → b < 256 → Spells s from (record { end = i; key = k }) → Spells s from (record { end = i + 1; key = k % 72057594037927936 * 256 + b })
+spells-more s from i k b l h e r w =
+    let p : part from (i + 1) s ≡ part from i s ++ (b ∷ []) = part-more s from i l h ∙ ap (λ (x : ℕ). part from i s ++ (x ∷ [])) (sym e) in
+    record { key = ap (λ (j : ℕ). j % 72057594037927936 * 256 + b) (w .key) ∙ sym (ap (keyOf 0) p ∙ key-more 0 b (part from i s)); small = subst Small (sym p) (small-more b (part from i s) r (w .small)) }
 
 -- ---- bytes back from a key
 
@@ -36,11 +54,6 @@ step p = record { left = p .left / 256; bytes = p .left % 256 ∷ p .bytes }
 peel : ℕ → ℕ → Peeled
 peel zero k = record { left = k; bytes = [] }
 peel (suc n) k = step (peel n k)
-
--- each is a byte
-abbrev pub Small : Bytes → Type 0
-Small [] = Unit {0}
-Small (x ∷ xs) = (x < 256) × Small xs
 
 -- what may stand before so many bytes in 64 bits
 room : ℕ → ℕ
@@ -135,8 +148,3 @@ same-by-key f g tf tg = go (same f g) refl
     go : (b : Bool) → same f g ≡ b → b ≡ eqb (keyOf 0 f) (keyOf 0 g)
     go true h = sym (eq-eqb (keyOf 0 f) (keyOf 0 g) (ap (keyOf 0) (same-eq f g h)))
     go false h = sym (ne-eqb (keyOf 0 f) (keyOf 0 g) (λ e. false≢true (sym h ∙ ap (same f) (sym (key-tells f g tf tg e)) ∙ same-refl f)))
-
--- bytes below 256, place by place
-pub all-small : (f : Bytes) → ((i : ℕ) → i < length f → getD f i 0 < 256) → Small f
-all-small [] h = tt
-all-small (x ∷ xs) h = (h 0 (omega arith), all-small xs (λ i k. h (suc i) (omega arith)))

@@ -5,12 +5,12 @@ mod rows;
 use crate::rows::row_of;
 use text::equal;
 ghost use mathlib.Core.Path.{_≡_};
-ghost use Prim.Native.Nat.{ℕ, _<_};
+ghost use Prim.Native.Nat.{_≤_, _<_};
 ghost use lib.ListN.{length, getD};
-ghost use Rattle.text.specs.Text.{same};
+ghost use Rattle.text.specs.Text.{same, part, First};
 ghost use Rattle.algebra.specs.bridge.Table.{rowFor};
 ghost use Rattle.words.specs.bridge.Code.{domainAt, found, rowFound, sortAt, Tidy, Flags, extraFound, extraOf, extras};
-ghost use Rattle.words.specs.bridge.Key.{keyOf};
+ghost use Rattle.words.specs.bridge.Key.{Spells};
 
 // What a word says of its line: its fields, a byte each, from the lowest on; what stands behind them; what it means for the names of its line
 // and of its last pattern; and the groups of lines below, nine bits each, from the lowest on. `specs/bridge/Code.antt` says what each number means.
@@ -65,17 +65,27 @@ fn wide(x: u8) -> u64
     x as u64
 }
 
-// A word's bytes as one number; of more than eight the last eight.
-fn key_of(f: &[u8]) -> u64
-    ensures { λ r. ⌜ (r ≡ keyOf 0 (now (f .entry))) × ((i : ℕ) → i < length (now (f .entry)) → getD (now (f .entry)) i 0 < 256) ⌝ }
+// A word at the head of a line: where it ends, and its bytes as one number, of more than eight the last eight.
+pub struct Word {
+    pub end: usize,
+    pub key: u64,
+}
+
+// The word that starts at a place, up to a tab or where its line ends.
+pub fn word_at(s: &[u8], from: usize, to: usize) -> Word
+    requires { ⌜ (from ≤ to) × (to ≤ length (now s)) ⌝ }
+    ensures { λ r. ⌜ First 9 (now (s .entry)) from to (r .end) × Spells (now (s .entry)) from r ⌝ }
 {
     let mut k: u64 = 0;
-    let mut i = 0;
-    while i < f.len() {
-        k = k % 0x100_0000_0000_0000 * 256 + wide(f[i]);
+    let mut i = from;
+    while i < to {
+        if s[i] == 9 {
+            return Word { end: i, key: k };
+        }
+        k = k % 0x100_0000_0000_0000 * 256 + wide(s[i]);
         i += 1;
     }
-    k
+    Word { end: i, key: k }
 }
 
 // The row that a number of the table is.
@@ -93,23 +103,25 @@ fn row_in(code: u64) -> Found
     })
 }
 
-// The row of a word at the head of a line of a sort. No word is longer than eight bytes or begins with byte 0, so that its key tells it.
-pub fn lookup(sort: u8, f: &[u8]) -> Found
-    requires { ⌜ sort < 12 ⌝ }
-    ensures { λ r. ⌜ rowFound r ≡ rowFor (sortAt sort) (now (f .entry)) ⌝ }
+// The row of a word that was read at a place, at the head of a line of a sort. No word is longer than eight bytes or begins with byte 0, so that its
+// key tells it.
+pub fn row_at(sort: u8, s: &[u8], from: usize, w: Word) -> Found
+    requires { ⌜ (sort < 12) × (from ≤ w .end) × (w .end ≤ length (now s)) × Spells (now s) from w ⌝ }
+    ensures { λ r. ⌜ rowFound r ≡ rowFor (sortAt sort) (part from (w .end) (now (s .entry))) ⌝ }
     ensures tidy { λ r. ⌜ Tidy sort r ⌝ }
-    ensures flags { λ r. ⌜ Flags (now (f .entry)) r ⌝ }
+    ensures flags { λ r. ⌜ Flags (part from (w .end) (now (s .entry))) r ⌝ }
 {
-    if 8 < f.len() {
+    let size = w.end - from;
+    if 8 < size {
         return Found::None;
     }
-    if f.len() == 0 {
+    if size == 0 {
         return Found::None;
     }
-    if f[0] == 0 {
+    if s[from] == 0 {
         return Found::None;
     }
-    row_in(row_of(sort, key_of(f)))
+    row_in(row_of(sort, w.key))
 }
 
 // A field is the domain of a number. Each domain is a constant of its own: it is laid out only where it is compared.

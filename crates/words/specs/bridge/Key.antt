@@ -1,12 +1,13 @@
 -- A word as one number, by which the code finds its row. Assumes nothing.
-use Prim.Native.Nat.{ℕ, _+_, _*_, _%_}
+use Prim.Native.Nat.{ℕ, _+_, _*_, _%_, _<_}
 use mathlib.Core.Path.{_≡_}
 use mathlib.Core.Bool.{cond}
 use mathlib.Core.List.{List, [], _∷_}
 use mathlib.Core.Option.{Option, none, some}
 use lib.Dec.{eqb}
-use Rattle.text.specs.Text.{Bytes}
+use Rattle.text.specs.Text.{Bytes, part}
 use Rattle.algebra.specs.bridge.Table.{Row, Entry}
+use Rattle.words.specs.declared.Word.{Word}
 use Rattle.words.specs.declared.Found.{Found}
 use Rattle.words.specs.declared.Found.the-variants.{Is, None}
 use Rattle.words.specs.bridge.Code.{flagOf}
@@ -15,6 +16,16 @@ use Rattle.words.specs.bridge.Code.{flagOf}
 unfoldable pub keyOf : ℕ → Bytes → ℕ
 keyOf k [] = k
 keyOf k (x ∷ xs) = keyOf (k % 72057594037927936 * 256 + x) xs
+
+-- each is a byte
+abbrev pub Small : Bytes → Type 0
+Small [] = Unit {0}
+Small (x ∷ xs) = (x < 256) × Small xs
+
+-- the bytes of a text from a place up to a word's end are those that its key is made of
+pub record Spells (s : Bytes) (from : ℕ) (w : Word) : Type 0 where
+  pub key : w .key ≡ keyOf 0 (part from (w .end) s)
+  pub small : Small (part from (w .end) s)
 
 -- the first row whose word has this key
 unfoldable pub rowBy : ℕ → List Entry → Option Row
