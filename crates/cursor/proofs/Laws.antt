@@ -52,12 +52,15 @@ pub record Next (s : Bytes) (c : Cursor) (e : ℕ) (d : Cursor) : Type 0 where
   pub end : d .end ≡ c .end
   pub height : d .height ≡ c .height
 
+pub next-at : (s : Bytes) (c : Cursor) (e : ℕ) (d : Cursor) → First 9 s (c .at) (c .end) e → (d .at ≡ e + 1) × (d .end ≡ c .end) × (d .height ≡ c .height) → Next s c e d
+next-at s c e d f h = record { first = f; at = h .0; end = h .1; height = h .2 }
+
 pub reads-at : (s : Bytes) (c : Cursor) (r : Field) (e : ℕ) (d : Cursor) → Reads s c r → r ≡ At e d → Next s c e d
 unfolding Reads
 reads-at s c r e d h q = taken (subst (Reads s c) q h)
   where
     taken : Reads s c (At e d) → Next s c e d
-    taken h = record { first = h .0; at = h .1; end = h .2; height = h .3 }
+    taken h = next-at s c e d (h .0) (h .1, h .2, h .3)
 
 pub reads-none : (s : Bytes) (c : Cursor) (r : Field) → Reads s c r → r ≡ None → c .end < c .at
 unfolding Reads

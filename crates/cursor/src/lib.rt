@@ -66,6 +66,18 @@ impl Cursor {
         )
     }
 
+    // Behind a field that ends at a place of the line.
+    pub fn behind(self, e: usize) -> Self
+        requires { ⌜ (e ≤ self .end) × (self .end ≤ 16384) ⌝ }
+        ensures { λ r. ⌜ (r .at ≡ e + 1) × (r .end ≡ self .end) × (r .height ≡ self .height) ⌝ }
+    {
+        Cursor {
+            at: e + 1,
+            end: self.end,
+            height: self.height,
+        }
+    }
+
     // A field was missing or not what it should be.
     pub fn failed(self) -> Self
         requires { ⌜ self .end ≤ 16384 ⌝ }

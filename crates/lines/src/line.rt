@@ -9,10 +9,10 @@ use crate::fields::text_fields;
 use crate::fields::value_fields;
 use crate::fields::variable_fields;
 use cursor::Cursor;
-use cursor::Field;
 use words::Found;
 use words::Row;
-use words::lookup;
+use words::row_at;
+use words::word_at;
 ghost use mathlib.Core.Path.{_≡_};
 ghost use Prim.Native.Nat.{ℕ, _+_, _≤_, _<_};
 ghost use mathlib.Core.List.{List, [], _∷_};
@@ -372,47 +372,51 @@ pub fn read_line(
     ensures small { λ r. ⌜ Small sort level r ⌝ }
     ensures notes { λ r. ⌜ (sort ≤ 7 → LineNotes (now (s .entry)) (now (starts .entry)) (now (sizes .entry)) n (now (spots .entry)) k (now (starts .exit)) (now (sizes .exit)) (now (spots .exit)) c sort mark r) ⌝ }
 {
-    let at = c.at;
-    let field = c.next_field(s);
-    match field {
-        Field::At(e, next) => {
-            let found = lookup(sort, &s[at..e]);
-            match found {
-                Found::Is(row) => {
-                    let f = fields(s, next, row, width, mark, starts, sizes, hints, n, spots, k);
-                    let d = f.cursor;
-                    let j = spots_behind(row.flag, k, f.spots);
-                    if d.at != d.end + 1 {
-                        return Line::Malformed;
-                    }
-                    if 2048 <= lines {
-                        return Line::OverBound;
-                    }
-                    if 64 < f.columns {
-                        return Line::OverBound;
-                    }
-                    if 1024 < f.names {
-                        return Line::OverBound;
-                    }
-                    if level == 0 {
-                        if opens_level(sort) {
-                            return Line::OverBound;
-                        }
-                    }
-                    return Line::Asks(Asked {
-                        row,
-                        first: f.first,
-                        second: f.second,
-                        names: f.names,
-                        spots: j,
-                    });
-                }
-                Found::None => {
-                    return Line::Malformed;
+    let w = word_at(s, c.at, c.end);
+    let found = row_at(sort, s, c.at, w);
+    match found {
+        Found::Is(row) => {
+            let f = fields(
+                s,
+                c.behind(w.end),
+                row,
+                width,
+                mark,
+                starts,
+                sizes,
+                hints,
+                n,
+                spots,
+                k,
+            );
+            let d = f.cursor;
+            let j = spots_behind(row.flag, k, f.spots);
+            if d.at != d.end + 1 {
+                return Line::Malformed;
+            }
+            if 2048 <= lines {
+                return Line::OverBound;
+            }
+            if 64 < f.columns {
+                return Line::OverBound;
+            }
+            if 1024 < f.names {
+                return Line::OverBound;
+            }
+            if level == 0 {
+                if opens_level(sort) {
+                    return Line::OverBound;
                 }
             }
+            return Line::Asks(Asked {
+                row,
+                first: f.first,
+                second: f.second,
+                names: f.names,
+                spots: j,
+            });
         }
-        Field::None => {
+        Found::None => {
             return Line::Malformed;
         }
     }
