@@ -6,7 +6,9 @@ use walking::line::count_at;
 use walking::line::line_end;
 use words::Found;
 use words::Row;
-use words::lookup;
+use words::Word;
+use words::row_at;
+use words::word_at;
 ghost use mathlib.Core.Path.{_≡_};
 ghost use Prim.Native.Nat.{ℕ, _+_, _≤_, _<_};
 ghost use lib.ListN.{length};
@@ -17,17 +19,19 @@ ghost use Rattle.algebra.specs.Texts.{readTree};
 ghost use Rattle.algebra.specs.bridge.Table.{table, rowIn};
 ghost use Rattle.scoping.specs.bridge.Walk.{rowOr};
 ghost use Rattle.words.specs.bridge.Code.{rowOf};
+ghost use Rattle.words.specs.bridge.Key.{Spells};
 ghost use Rattle.negating.specs.bridge.Lines.{Projects};
 ghost use Rattle.filtering.specs.bridge.Copying.{toCome};
 ghost use Rattle.placing.specs.bridge.Ends.{EndsAt, isBare, bareDown};
 
-// The row of a word, whatever its sort; one without lines below where it is none.
-fn row_of(word: &[u8]) -> Row
-    ensures { λ r. ⌜ rowOf r ≡ rowOr (rowIn table (now (word .entry))) ⌝ }
+// The row of a word that was read at a place, whatever its sort; one without lines below where it is none.
+fn row_of(text: &[u8], from: usize, w: Word) -> Row
+    requires { ⌜ (from ≤ w .end) × (w .end ≤ length (now text)) × Spells (now text) from w ⌝ }
+    ensures { λ r. ⌜ rowOf r ≡ rowOr (rowIn table (part from (w .end) (now (text .entry)))) ⌝ }
 {
     let mut sort = 0;
     while sort < 12 {
-        if let Found::Is(row) = lookup(sort, word) {
+        if let Found::Is(row) = row_at(sort, text, from, w) {
             return row;
         }
         sort += 1;
@@ -45,12 +49,12 @@ fn lines_below(text: &[u8], from: usize, end: usize) -> u64
     requires { ⌜ (from ≤ end) × (end < length (now text)) ⌝ }
     ensures { λ r. ⌜ (r ≡ toCome (split 9 (part from end (now (text .entry))))) × (r ≤ 17179869183) ⌝ }
 {
-    let word = find(text, from, end, 9);
-    let row = row_of(&text[from..word]);
+    let w = word_at(text, from, end);
+    let row = row_of(text, from, w);
     if row.below == 0 {
         return 0;
     }
-    let a = count_at(text, word + 1, end);
+    let a = count_at(text, w.end + 1, end);
     let b = count_at(text, a.next, end);
     let next = row.below / 512;
     amount(row.below, a.number, b.number)
