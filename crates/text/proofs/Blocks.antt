@@ -28,12 +28,15 @@ module _ (b : ℕ) (s : Bytes) (i : ℕ) where
   lacks-more n t f h k u l =
       below-more (λ (k : ℕ). i ≤ k → getD s k 0 ≡ b → ⊥) (i + n) (f (and-left t _ h)) (λ _. eqb-false _ _ (not-true _ (and-right t _ h))) k (omega arith) l
 
-  pub lacks-eight : (((((((not (eqb (getD s i 0) b) && test 1) && test 2) && test 3) && test 4) && test 5) && test 6) && test 7) ≡ true → Lacks b s i 8
-  lacks-eight = lacks-more 7 _ (lacks-more 6 _ (lacks-more 5 _ (lacks-more 4 _ (lacks-more 3 _ (lacks-more 2 _ (lacks-more 1 _ lacks-one))))))
+  pub lacks-four : (((not (eqb (getD s i 0) b) && test 1) && test 2) && test 3) ≡ true → Lacks b s i 4
+  lacks-four = lacks-more 3 _ (lacks-more 2 _ (lacks-more 1 _ lacks-one))
 
--- none before i, and none in the eight bytes from there on
-pub eight-more : (b : ℕ) (s : Bytes) (from i : ℕ) → ((k : ℕ) → k < i → from ≤ k → getD s k 0 ≡ b → ⊥) → Lacks b s i 8 → (k : ℕ) → k < i + 8 → from ≤ k → getD s k 0 ≡ b → ⊥
-eight-more b s from i f a k u l = go (ltb k i) refl
+  pub lacks-eight : (((((((not (eqb (getD s i 0) b) && test 1) && test 2) && test 3) && test 4) && test 5) && test 6) && test 7) ≡ true → Lacks b s i 8
+  lacks-eight = lacks-more 7 _ (lacks-more 6 _ (lacks-more 5 _ (lacks-more 4 _ lacks-four)))
+
+-- none before i, and none in the n bytes from there on
+pub block-more : (b : ℕ) (s : Bytes) (from i n : ℕ) → ((k : ℕ) → k < i → from ≤ k → getD s k 0 ≡ b → ⊥) → Lacks b s i n → (k : ℕ) → k < i + n → from ≤ k → getD s k 0 ≡ b → ⊥
+block-more b s from i n f a k u l = go (ltb k i) refl
   where
     go : (t : Bool) → ltb k i ≡ t → getD s k 0 ≡ b → ⊥
     go true e = f k (ltb-true k i e) l

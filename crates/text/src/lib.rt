@@ -22,6 +22,14 @@ fn lacks_eight(s: &[u8], i: usize, b: u8) -> bool
         & (s[i + 7] != b)
 }
 
+// Nor is one of the four from there on.
+fn lacks_four(s: &[u8], i: usize, b: u8) -> bool
+    requires { ⌜ i + 4 ≤ length (now s) ⌝ }
+    ensures { λ r. ⌜ (r ≡ true → (k : ℕ) → k < i + 4 → i ≤ k → getD (now (s .entry)) k 0 ≡ b → ⊥) ⌝ }
+{
+    (s[i] != b) & (s[i + 1] != b) & (s[i + 2] != b) & (s[i + 3] != b)
+}
+
 // The first place from `from` up to `to` at which `b` stands, or `to`.
 pub fn find(s: &[u8], from: usize, to: usize, b: u8) -> usize
     requires { ⌜ (from ≤ to) × (to ≤ length (now s)) ⌝ }
@@ -33,6 +41,11 @@ pub fn find(s: &[u8], from: usize, to: usize, b: u8) -> usize
             break;
         }
         i += 8;
+    }
+    if 4 <= to - i {
+        if lacks_four(s, i, b) {
+            i += 4;
+        }
     }
     while i < to {
         if s[i] == b {
