@@ -72,11 +72,9 @@ fn merge_trees(
 fn check_terms(left_constants: &[u8], right_constants: &[u8]) -> Check
     ensures { λ r. ⌜ TermsChecked (now («left_constants» .entry)) (now («right_constants» .entry)) r ⌝ }
 {
-    let mut starts = [0u16; 1024];
-    let mut sizes = [0u16; 1024];
-    let mut hints = [0u16; 4096];
-    match check_constants(left_constants, &mut starts, &mut sizes, &mut hints) {
-        Check::Good(_) => check_constants(right_constants, &mut starts, &mut sizes, &mut hints),
+    let mut keys = [[0u16; 4]; 64];
+    match check_constants(left_constants, &mut keys) {
+        Check::Good(_) => check_constants(right_constants, &mut keys),
         Check::Malformed => Check::Malformed,
         Check::OverBound => Check::OverBound,
     }
@@ -86,10 +84,8 @@ fn check_terms(left_constants: &[u8], right_constants: &[u8]) -> Check
 fn check_lists(pairs: &[u8], left_constants: &[u8], right_constants: &[u8]) -> Check
     ensures { λ r. ⌜ ListsChecked (now (pairs .entry)) (now («left_constants» .entry)) (now («right_constants» .entry)) r ⌝ }
 {
-    let mut starts = [0u16; 1024];
-    let mut sizes = [0u16; 1024];
-    let mut hints = [0u16; 4096];
-    match check_joins(pairs, &mut starts, &mut sizes, &mut hints) {
+    let mut keys = [[0u16; 4]; 64];
+    match check_joins(pairs, &mut keys) {
         Check::Good(_) => check_terms(left_constants, right_constants),
         Check::Malformed => Check::Malformed,
         Check::OverBound => Check::OverBound,

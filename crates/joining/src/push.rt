@@ -50,10 +50,8 @@ fn push_by(
     requires { ⌜ KnownText (now query) (now starts) (now sizes) n (now spots) ⌝ }
     ensures { λ r. ⌜ Answered (pushConstantsOutcome (now (query .entry)) (now (constants .entry))) (now (out .entry)) (now (out .exit)) r ⌝ }
 {
-    let mut key_starts = [0u16; 1024];
-    let mut key_sizes = [0u16; 1024];
-    let mut key_hints = [0u16; 4096];
-    match check_constants(constants, &mut key_starts, &mut key_sizes, &mut key_hints) {
+    let mut keys = [[0u16; 4]; 64];
+    match check_constants(constants, &mut keys) {
         Check::Good(_) => push_of(query, starts, sizes, n, spots, constants, out),
         Check::Malformed => Answer::Malformed,
         Check::OverBound => Answer::OverBound,

@@ -1,8 +1,8 @@
 pub mod Lines
-pub mod Outcomes
+pub mod Counts
 pub mod Reading
 pub mod Fields
 pub mod Keys
-pub mod Counts
 pub mod Going
 pub mod Turns
+pub mod Said

@@ -1,22 +1,21 @@
-// The check of the three lists of pairs: join list, constant list and mapping. Each is read line by line into a table of first fields.
+// The check of the three lists of pairs: join list, constant list and mapping. Each is read line by line into an array of its pairs.
 use algebra::Answer;
 use cursor::Cursor;
 use cursor::Field;
-use names::add_name;
-use names::find_name;
-use names::no_names;
+use text::equal;
 use text::is_kind;
+use text::piece;
 ghost use mathlib.Core.Path.{_≡_};
-ghost use Prim.Native.Nat.{ℕ, _+_, _≤_, _<_};
-ghost use mathlib.Core.List.{List};
-ghost use lib.ListN.{length};
-ghost use Rattle.text.specs.Text.{part};
+ghost use Prim.Native.Nat.{_≤_, _<_};
+ghost use mathlib.Core.Bool.{true};
+ghost use lib.ListN.{length, set};
+ghost use Rattle.text.specs.Text.{part, piece as pieceOf};
 ghost use Rattle.text.specs.bridge.Code.{kindAt};
 ghost use Rattle.algebra.specs.Query.{PairList, joins, constants, mapping};
-ghost use Rattle.algebra.specs.Texts.{readPairs};
-ghost use Rattle.names.specs.bridge.Names.{Holds};
-ghost use Rattle.names.specs.bridge.Checked.{Checked};
-ghost use Rattle.lists.specs.bridge.Pairs.{keysOf, Stands, Finds, fresh, keptIn};
+ghost use Rattle.lists.specs.bridge.Pairs.{Stands, Finds, firsts, fresh, entryOf, pairsIn, PairsChecked};
+
+// A pair of a list: where its first field starts and how long it is, and the same of its second.
+pub type Entry = [u16; 4];
 
 // A line of two fields of these kinds: the end of the first, and the cursor behind the line.
 fn pair_at(text: &[u8], c: Cursor, first: u8, second: u8) -> Field
@@ -43,119 +42,111 @@ fn pair_at(text: &[u8], c: Cursor, first: u8, second: u8) -> Field
     Field::At(to, behind)
 }
 
-// A first field may stand here: it is not among those kept so far, or it may be repeated.
-fn is_fresh(
-    text: &[u8],
-    from: usize,
-    to: usize,
-    unique: bool,
-    starts: &[u16; 1024],
-    sizes: &[u16; 1024],
-    hints: &[u16; 4096],
-    n: usize,
-) -> bool
-    requires { ⌜ (from ≤ to) × (to ≤ length (now text)) × (n ≤ 1024) ⌝ }
-    ensures { λ r. ⌜ ((ns : List (List ℕ)) → Holds (now (text .entry)) (now (starts .entry)) (now (sizes .entry)) (now (hints .entry)) n ns → r ≡ fresh unique (part from to (now (text .entry))) ns) ⌝ }
+// The field that two numbers of an entry tell.
+pub fn field_at(text: &[u8], start: u16, size: u16) -> &[u8]
+    ensures { λ r. ⌜ now r ≡ pieceOf start size (now (text .entry)) ⌝ }
+{
+    piece(text, start as usize, size as usize)
+}
+
+// A first field may stand here: it is none of the first n entries', or it may be repeated.
+fn is_fresh(text: &[u8], from: usize, to: usize, unique: bool, keys: &[Entry; 64], n: usize) -> bool
+    requires { ⌜ (from ≤ to) × (to ≤ length (now text)) × (n ≤ 64) × (length (now keys) ≡ 64) ⌝ }
+    ensures { λ r. ⌜ r ≡ fresh unique (part from to (now (text .entry))) (firsts (pairsIn (now (text .entry)) (now (keys .entry)) n)) ⌝ }
 {
     if !unique {
         return true;
     }
-    n <= find_name(&text[from..to], text, starts, sizes, hints, n)
+    let field = &text[from..to];
+    let mut i = 0;
+    while i < n {
+        let e = keys[i];
+        if equal(field, field_at(text, e[0], e[1])) {
+            return false;
+        }
+        i += 1;
+    }
+    true
 }
 
-// Keeps a first field where it may not be repeated.
-fn keep(
-    text: &[u8],
-    from: usize,
-    to: usize,
-    unique: bool,
-    starts: &mut [u16; 1024],
-    sizes: &mut [u16; 1024],
-    hints: &mut [u16; 4096],
-    n: usize,
-) -> usize
-    requires { ⌜ (from ≤ to) × (to ≤ 16384) ⌝ }
-    ensures { λ r. ⌜ ((ns : List (List ℕ)) → Holds (now (text .entry)) (now (starts .entry)) (now (sizes .entry)) (now (hints .entry)) n ns → Holds (now (text .entry)) (now (starts .exit)) (now (sizes .exit)) (now (hints .exit)) r (keptIn unique (part from to (now (text .entry))) ns)) ⌝ }
+fn has_places(keys: &[Entry], n: usize) -> bool
+    ensures { λ r. ⌜ (r ≡ true → length (now (keys .entry)) ≡ n) ⌝ }
 {
-    if !unique {
-        return n;
+    keys.len() == n
+}
+
+// An array without pairs. The test is one of types, and the compiled code has none.
+fn no_pairs(keys: &mut [Entry; 64])
+    ensures { λ _. ⌜ length (now (keys .exit)) ≡ 64 ⌝ }
+{
+    if has_places(keys, 64) {
+        return;
     }
-    add_name(text, from, to - from, starts, sizes, hints, n)
+    *keys = [[0; 4]; 64];
+}
+
+// Keeps a pair whose fields stand from `from` to `to`, and behind that up to `end`.
+fn keep(keys: &mut [Entry; 64], n: usize, from: usize, to: usize, end: usize)
+    requires { ⌜ (n < 64) × (from ≤ to) × (to < end) × (end ≤ 16384) ⌝ }
+    ensures { λ _. ⌜ now (keys .exit) ≡ set (now (keys .entry)) n (entryOf from to end) ⌝ }
+{
+    let second = to + 1;
+    keys[n] = [
+        from as u16,
+        (to - from) as u16,
+        second as u16,
+        (end - second) as u16,
+    ];
 }
 
 // A list of lines of two fields of these kinds, the first of which may not be repeated if `unique`.
-fn check_pairs(
-    text: &[u8],
-    first: u8,
-    second: u8,
-    unique: bool,
-    starts: &mut [u16; 1024],
-    sizes: &mut [u16; 1024],
-    hints: &mut [u16; 4096],
-) -> Answer
-    ensures { λ r. ⌜ ((κ : PairList) → Stands κ first second unique → Checked (keysOf κ) (now (text .entry)) (now (starts .exit)) (now (sizes .exit)) (now (hints .exit)) (readPairs κ (now (text .entry))) r) ⌝ }
+fn check_pairs(text: &[u8], first: u8, second: u8, unique: bool, keys: &mut [Entry; 64]) -> Answer
+    ensures { λ r. ⌜ ((κ : PairList) → Stands κ first second unique → PairsChecked κ (now (text .entry)) (now (keys .exit)) r) ⌝ }
 {
-    no_names(starts, sizes, hints);
+    no_pairs(keys);
     if 16384 < text.len() {
         return Answer::OverBound;
     }
     let mut c = Cursor::new(0);
-    let mut lines: usize = 0;
     let mut n: usize = 0;
     while c.at < text.len() {
         let l = c.next_line(text);
         if l.end == text.len() {
             return Answer::Malformed;
         }
-        let from = l.at;
         let Field::At(to, d) = pair_at(text, l, first, second) else {
             return Answer::Malformed;
         };
-        if !is_fresh(text, from, to, unique, starts, sizes, hints, n) {
+        if !is_fresh(text, l.at, to, unique, keys, n) {
             return Answer::Malformed;
         }
-        if lines == 64 {
+        if n == 64 {
             return Answer::OverBound;
         }
-        n = keep(text, from, to, unique, starts, sizes, hints, n);
-        lines += 1;
+        keep(keys, n, l.at, to, l.end);
+        n += 1;
         c = d;
     }
     Answer::Good(n)
 }
 
 // A join list: lines of a left and a right position.
-pub fn check_joins(
-    text: &[u8],
-    starts: &mut [u16; 1024],
-    sizes: &mut [u16; 1024],
-    hints: &mut [u16; 4096],
-) -> Answer
-    ensures { λ r. ⌜ Checked (keysOf joins) (now (text .entry)) (now (starts .exit)) (now (sizes .exit)) (now (hints .exit)) (readPairs joins (now (text .entry))) r ⌝ }
+pub fn check_joins(text: &[u8], keys: &mut [Entry; 64]) -> Answer
+    ensures { λ r. ⌜ PairsChecked joins (now (text .entry)) (now (keys .exit)) r ⌝ }
 {
-    check_pairs(text, 6, 6, false, starts, sizes, hints)
+    check_pairs(text, 6, 6, false, keys)
 }
 
 // A constant list: lines of a position, which is not repeated, and a term.
-pub fn check_constants(
-    text: &[u8],
-    starts: &mut [u16; 1024],
-    sizes: &mut [u16; 1024],
-    hints: &mut [u16; 4096],
-) -> Answer
-    ensures { λ r. ⌜ Checked (keysOf constants) (now (text .entry)) (now (starts .exit)) (now (sizes .exit)) (now (hints .exit)) (readPairs constants (now (text .entry))) r ⌝ }
+pub fn check_constants(text: &[u8], keys: &mut [Entry; 64]) -> Answer
+    ensures { λ r. ⌜ PairsChecked constants (now (text .entry)) (now (keys .exit)) r ⌝ }
 {
-    check_pairs(text, 6, 4, true, starts, sizes, hints)
+    check_pairs(text, 6, 4, true, keys)
 }
 
 // A mapping: lines of a name, which is not repeated, and the name that it becomes.
-pub fn check_mapping(
-    text: &[u8],
-    starts: &mut [u16; 1024],
-    sizes: &mut [u16; 1024],
-    hints: &mut [u16; 4096],
-) -> Answer
-    ensures { λ r. ⌜ Checked (keysOf mapping) (now (text .entry)) (now (starts .exit)) (now (sizes .exit)) (now (hints .exit)) (readPairs mapping (now (text .entry))) r ⌝ }
+pub fn check_mapping(text: &[u8], keys: &mut [Entry; 64]) -> Answer
+    ensures { λ r. ⌜ PairsChecked mapping (now (text .entry)) (now (keys .exit)) r ⌝ }
 {
-    check_pairs(text, 0, 0, true, starts, sizes, hints)
+    check_pairs(text, 0, 0, true, keys)
 }

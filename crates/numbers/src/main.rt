@@ -32,9 +32,9 @@ fn check(
     match kind {
         0 => check_tree(text, starts, sizes, hints),
         1 => check_query(text, starts, sizes, hints),
-        2 => check_joins(text, starts, sizes, hints),
-        3 => check_constants(text, starts, sizes, hints),
-        4 => check_mapping(text, starts, sizes, hints),
+        2 => check_joins(text, &mut [[0u16; 4]; 64]),
+        3 => check_constants(text, &mut [[0u16; 4]; 64]),
+        4 => check_mapping(text, &mut [[0u16; 4]; 64]),
         5 => check_sets(text, starts, sizes, hints),
         _ => check_filters(text, starts, sizes, hints),
     }

@@ -23,11 +23,10 @@ use Rattle.algebra.proofs.Theorem.{tree-exactly, query-exactly, pairs-exactly}
 use Rattle.algebra.proofs.Grow.{In, counts, in-bounds, grow}
 use Rattle.reading.specs.bridge.Variables.{treeNames, queryNames}
 use Rattle.reading.specs.bridge.Charted.{Charted, treeStart, queryStart}
-use Rattle.reading.proofs.Said.{said-good}
 use Rattle.reading.proofs.ChartSaid.{Good-chart, chart-good}
 use Rattle.names.specs.bridge.Names.{listing}
-use Rattle.names.specs.bridge.Checked.{Checked}
-use Rattle.lists.specs.bridge.Pairs.{keysOf}
+use Rattle.lists.specs.bridge.Pairs.{pairsIn, PairsChecked}
+use Rattle.lists.proofs.Said.{said-good}
 use Rattle.scoping.specs.Premises.{differentPositions}
 use Rattle.scoping.specs.Numbering.{byPlace}
 use Rattle.scoping.specs.bridge.Spots.{Spot}
@@ -172,14 +171,15 @@ module _ (κ : PairList) (s : Bytes) (xs : List Pair) (e : readPairs κ s ≡ re
     short = subst (λ (b : Bytes). length b ≤ 16384) (is-pairs .0) (is-pairs .2 .bytes);
   }
 
-pub good-terms : (s : Bytes) (a l h : List ℕ) (r : Check) (n : ℕ) → Checked (keysOf constants) s a l h (readPairs constants s) r → r ≡ C.Good n → KnownTerms s
+pub good-terms : (s : Bytes) (keys : List (List ℕ)) (r : Check) (n : ℕ) → PairsChecked constants s keys r → r ≡ C.Good n → KnownTerms s
 unfolding readConstants
-good-terms s a l h r n c q =
-    let g = said-good (keysOf constants) s a l h r (readPairs constants s) n c q in
+good-terms s keys r n c q =
+    let xs = pairsIn s keys n in
+    let read = said-good constants s keys r c n q .1 in
     record {
-      list = g .value;
-      terms = record { listed = pairs-listed constants s (g .value) (g .read); different = ap differentPositions (sym (positions-are (g .value))) ∙ positions-different [] (g .value) (is-pairs constants s (g .value) (g .read) .1) };
-      read = ap (made (λ xs. byPosition (constantsIn xs))) (g .read);
+      list = xs;
+      terms = record { listed = pairs-listed constants s xs read; different = ap differentPositions (sym (positions-are xs)) ∙ positions-different [] xs (is-pairs constants s xs read .1) };
+      read = ap (made (λ ys. byPosition (constantsIn ys))) read;
     }
 
 -- a join list that was checked
@@ -188,9 +188,9 @@ pub record KnownJoins (s : Bytes) : Type 0 where
   pub listed : Listed s list
   pub read : readJoins s ≡ reads (joinPositions list)
 
-pub good-joins : (s : Bytes) (a l h : List ℕ) (r : Check) (n : ℕ) → Checked (keysOf joins) s a l h (readPairs joins s) r → r ≡ C.Good n → KnownJoins s
+pub good-joins : (s : Bytes) (keys : List (List ℕ)) (r : Check) (n : ℕ) → PairsChecked joins s keys r → r ≡ C.Good n → KnownJoins s
 unfolding readJoins
-good-joins s a l h r n c q = let g = said-good (keysOf joins) s a l h r (readPairs joins s) n c q in record { list = g .value; listed = pairs-listed joins s (g .value) (g .read); read = ap (made joinPositions) (g .read) }
+good-joins s keys r n c q = let read = said-good joins s keys r c n q .1 in record { list = pairsIn s keys n; listed = pairs-listed joins s (pairsIn s keys n) read; read = ap (made joinPositions) read }
 
 -- a tree that is a project stands as one
 pub stands-as : (s : Bytes) (at : ℕ) (a l : List ℕ) (n : ℕ) (v : List (List ℕ)) (p q : Pattern) → p ≡ q → Stands s at a l n v p → Stands s at a l n v q

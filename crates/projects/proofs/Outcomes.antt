@@ -20,9 +20,8 @@ use Rattle.algebra.specs.declared.Answer.the-variants as C
 use Rattle.answers.specs.Outcome.{Outcome, refused, written, Reported, Answered, orRefused, refusedUnless}
 use Rattle.answers.specs.declared.Answer.{Answer}
 use Rattle.answers.specs.declared.Answer.the-variants.{Outside, NotProject}
-use Rattle.names.specs.bridge.Checked.{Checked}
-use Rattle.lists.specs.bridge.Pairs.{keysOf}
-use Rattle.reading.proofs.Said.{said-malformed, said-over}
+use Rattle.lists.specs.bridge.Pairs.{PairsChecked}
+use Rattle.lists.proofs.Said.{said-malformed, said-over}
 use Rattle.scoping.specs.Sets.{all}
 use Rattle.scoping.specs.Premises.{inside}
 use Rattle.merging.specs.Sides.{Constant}
@@ -57,11 +56,11 @@ module _ (a b : Bytes) where
   unfolding TermsChecked readConstants
   second-over t e k = rw (t .read, e)
 
-  pub terms-second : (s l h : List ℕ) (r : Check) → KnownTerms a → Checked (keysOf constants) b s l h (readPairs constants b) r → TermsChecked a b r
+  pub terms-second : (keys : List (List ℕ)) (r : Check) → KnownTerms a → PairsChecked constants b keys r → TermsChecked a b r
   unfolding TermsChecked
-  terms-second s l h (C.Good n) t c = (t, good-terms b s l h (C.Good n) n c refl)
-  terms-second s l h C.Malformed t c = second-malformed t (said-malformed (keysOf constants) b s l h C.Malformed (readPairs constants b) c refl)
-  terms-second s l h C.OverBound t c = second-over t (said-over (keysOf constants) b s l h C.OverBound (readPairs constants b) c refl)
+  terms-second keys (C.Good n) t c = (t, good-terms b keys (C.Good n) n c refl)
+  terms-second keys C.Malformed t c = second-malformed t (said-malformed constants b keys C.Malformed c refl)
+  terms-second keys C.OverBound t c = second-over t (said-over constants b keys C.OverBound c refl)
 
   module _ (pairs : Bytes) where
     pub lists-malformed : readPairs joins pairs ≡ refuses malformed → ListsChecked pairs a b C.Malformed

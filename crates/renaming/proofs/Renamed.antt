@@ -19,11 +19,10 @@ use Rattle.algebra.specs.declared.Answer.{Answer as Check}
 use Rattle.algebra.specs.declared.Answer.the-variants.{Good}
 use Rattle.algebra.proofs.Neat.{pairs-neat}
 use Rattle.algebra.proofs.Theorem.{pairs-exactly}
-use Rattle.lists.specs.bridge.Pairs.{keysOf}
+use Rattle.lists.specs.bridge.Pairs.{pairsIn, PairsChecked}
 use Rattle.emit.specs.bridge.Emit.{em, last, puts}
 use Rattle.emit.proofs.Laws.{puts-nil}
 use Rattle.names.specs.bridge.Names.{listing}
-use Rattle.names.specs.bridge.Checked.{Checked}
 use Rattle.names.proofs.Laws.{listing-long}
 use Rattle.scoping.specs.bridge.Places.{visible, places, namesOf}
 use Rattle.scoping.specs.Rename.{renameInGraphPattern}
@@ -42,7 +41,7 @@ use Rattle.renaming.specs.Rename.{becomes, renameOutcome}
 use Rattle.heads.specs.bridge.Known.{Known}
 use Rattle.renaming.specs.bridge.Code.{Surveyed, KnownPairs, Targets, lookLast}
 use Rattle.renaming.proofs.Tables.{known-valid, known-depth, known-names, known-lines}
-use Rattle.reading.proofs.Said.{said-good}
+use Rattle.lists.proofs.Said.{said-good}
 use Rattle.scoping.proofs.Alike.{rename-alike}
 use Rattle.renaming.proofs.Mapping.{look-becomes}
 use Rattle.answers.proofs.Answers.{too-short, all-written, answered}
@@ -66,8 +65,8 @@ module _ (pairs : Bytes) (m : KnownPairs pairs) where
   pairs-become : (f : Bytes) → lookLast (linesOf pairs) f f ≡ becomes (m .list) f
   pairs-become f = ap (λ (ls : List Line). lookLast ls f f) pairs-lines ∙ look-becomes (m .list) (is-pairs .1) f
 
-pub good-pairs : (s : Bytes) (a l h : List ℕ) (r : Check) (n : ℕ) → Checked (keysOf mapping) s a l h (readPairs mapping s) r → r ≡ Good n → KnownPairs s
-good-pairs s a l h r n c q = let g = said-good (keysOf mapping) s a l h r (readPairs mapping s) n c q in record { list = g .value; read = g .read }
+pub good-pairs : (s : Bytes) (keys : List (List ℕ)) (r : Check) (n : ℕ) → PairsChecked mapping s keys r → r ≡ Good n → KnownPairs s
+good-pairs s keys r n c q = record { list = pairsIn s keys n; read = said-good mapping s keys r c n q .1 }
 
 -- ---- the names
 

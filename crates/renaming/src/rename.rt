@@ -201,10 +201,8 @@ fn rename_by(
     requires { ⌜ Known (now tree) (now starts) (now sizes) (now hints) n × Noted (now tree) 0 (listing (now tree) (now starts) (now sizes) n) (now spots) k ⌝ }
     ensures { λ r. ⌜ Answered (renameOutcome (now (tree .entry)) (now (mapping .entry))) (now (out .entry)) (now (out .exit)) r ⌝ }
 {
-    let mut key_starts = [0u16; 1024];
-    let mut key_sizes = [0u16; 1024];
-    let mut key_hints = [0u16; 4096];
-    match check_mapping(mapping, &mut key_starts, &mut key_sizes, &mut key_hints) {
+    let mut keys = [[0u16; 4]; 64];
+    match check_mapping(mapping, &mut keys) {
         Check::Good(_) => rename_of(tree, starts, sizes, hints, n, spots, k, mapping, out),
         Check::Malformed => Answer::Malformed,
         Check::OverBound => Answer::OverBound,

@@ -9,10 +9,10 @@ use Rattle.lists.proofs.check_pairs.Statement.{statement}
 use Rattle.lists.proofs.check_pairs.Tie as tie
 
 abbrev Inv-loop : tie.InvT-loop
-Inv-loop text first second unique starts₀ sizes₀ hints₀ c₀ lines₀ n₀ starts sizes hints c lines n = G.Going text first second unique starts sizes hints (c .at) lines n
+Inv-loop text first second unique keys₀ c₀ n₀ keys c n = G.Going text first second unique keys (c .at) n
 
 abbrev μ-loop : tie.MeasureT-loop
-μ-loop text first second unique starts₀ sizes₀ hints₀ c₀ lines₀ n₀ starts sizes hints c lines n = length text - c .at
+μ-loop text first second unique keys₀ c₀ n₀ keys c n = length text - c .at
 
 pub check-pairs-spec : {M : Type 1} → statement M
 check-pairs-spec =
@@ -21,20 +21,20 @@ check-pairs-spec =
     Inv-loop
     μ-loop
     (λ c κs. search needs)
-    (λ c. G.too-long _ _ _ _ _ _ _ (omega (arith, c .if1 .taken)))
+    (λ c. G.too-long _ _ _ _ _ (omega (arith, c .if1 .taken)))
     (λ c κs. search needs)
-    (λ c. G.going-start _ _ _ _ _ _ _ _ (c .new .ensures .0) (omega (arith, c .before .if1 .left)) (c .before .before .no-names .ensures .0, c .before .before .no-names .ensures .1, c .before .before .no-names .ensures .2))
+    (λ c. G.going-start _ _ _ _ _ _ (c .new .ensures .0) (omega (arith, c .before .if1 .left)) (c .before .before .no-pairs .ensures))
     (λ c κs. search needs)
-    (λ c. T.done-open _ _ _ _ _ _ _ _ _ _ (c .before .before .before .before .before .loop .inv) (c .before .before .next-line .result) (c .before .before .next-line .ensures .0) (c .before .before .next-line .ensures .2) _ _ _ (c .before .before .before .if2 .taken) (omega (arith, c .before .before .next-line .ensures .2 .high, c .if3 .taken)))
+    (λ c. T.done-open _ _ _ _ _ _ _ (c .before .before .before .before .before .loop .inv) (c .before .before .next-line .result) (c .before .before .next-line .ensures .0) (c .before .before .next-line .ensures .2) _ (c .before .before .before .if2 .taken) (omega (arith, c .before .before .next-line .ensures .2 .high, c .if3 .taken)))
     (λ c κs. search needs)
     (λ c. search needs)
     (λ c. search needs)
-    (λ c. T.done-bad _ _ _ _ _ _ _ _ _ _ (c .before .before .before .before .before .before .before .before .loop .inv) _ (c .before .before .before .before .before .next-line .ensures .0) (c .before .before .before .before .before .next-line .ensures .2) _ (c .before .before .pair-at .ensures) (c .before .before .before .if3 .left) _ _ _ (c .enum-told .given .1))
-    (λ c κs. let at = T.found _ _ _ _ _ _ _ _ _ _ (c .before .before .before .before .before .before .before .before .before .before .before .before .loop .inv) _ (c .before .before .before .before .before .before .before .before .before .next-line .ensures .0) (c .before .before .before .before .before .before .before .before .before .next-line .ensures .2) _ (c .before .before .before .before .before .before .pair-at .ensures) (c .before .before .before .before .before .before .before .if3 .left) _ _ (c .before .before .before .before .to .given .1) in let high = c .before .before .before .before .before .before .before .before .before .next-line .ensures .2 .high in (at .0, omega arith, G.going-room _ _ _ _ _ _ _ _ _ _ (c .before .before .before .before .before .before .before .before .before .before .before .before .loop .inv)))
-    (λ c. T.done-twice _ _ _ _ _ _ _ _ _ _ (c .before .before .before .before .before .before .before .before .before .before .before .before .before .before .loop .inv) _ (c .before .before .before .before .before .before .before .before .before .before .before .next-line .ensures .0) (c .before .before .before .before .before .before .before .before .before .before .before .next-line .ensures .2) _ (c .before .before .before .before .before .before .before .before .pair-at .ensures) (c .before .before .before .before .before .before .before .before .before .if3 .left) _ _ (c .before .before .before .before .before .before .to .given .1) _ (c .before .is-fresh .ensures) _ _ _ (c .if4 .taken))
-    (λ c. T.done-over _ _ _ _ _ _ _ _ _ _ (c .before .before .before .before .before .before .before .before .before .before .before .before .before .before .before .loop .inv) _ (c .before .before .before .before .before .before .before .before .before .before .before .before .next-line .ensures .0) (c .before .before .before .before .before .before .before .before .before .before .before .before .next-line .ensures .2) _ (c .before .before .before .before .before .before .before .before .before .pair-at .ensures) (c .before .before .before .before .before .before .before .before .before .before .if3 .left) _ _ (c .before .before .before .before .before .before .before .to .given .1) _ (c .before .before .is-fresh .ensures) (c .before .if4 .left) _ _ _ (omega (arith, c .before .before .before .before .before .before .before .before .before .before .before .before .before .before .before .loop .inv .most, c .if5 .taken)))
-    (λ c κs. let at = T.found _ _ _ _ _ _ _ _ _ _ (c .before .before .before .before .before .before .before .before .before .before .before .before .before .before .before .before .before .before .loop .inv) _ (c .before .before .before .before .before .before .before .before .before .before .before .before .before .before .before .next-line .ensures .0) (c .before .before .before .before .before .before .before .before .before .before .before .before .before .before .before .next-line .ensures .2) _ (c .before .before .before .before .before .before .before .before .before .before .before .before .pair-at .ensures) (c .before .before .before .before .before .before .before .before .before .before .before .before .before .if3 .left) _ _ (c .before .before .before .before .before .before .before .before .before .before .to .given .1) in let high = c .before .before .before .before .before .before .before .before .before .before .before .before .before .before .before .next-line .ensures .2 .high in (at .0, omega (arith, c .before .before .before .before .before .before .before .before .before .before .before .before .before .before .before .before .before .before .before .before .if1 .left)))
-    (λ c. let most = c .before .before .before .before .before .before .before .before .before .before .before .before .before .before .before .before .before .before .before .loop .inv .most in omega arith)
-    (λ c. let at = T.found _ _ _ _ _ _ _ _ _ _ (c .before .before .before .before .before .before .before .before .before .before .before .before .before .before .before .before .before .before .before .loop .inv) _ (c .before .before .before .before .before .before .before .before .before .before .before .before .before .before .before .before .next-line .ensures .0) (c .before .before .before .before .before .before .before .before .before .before .before .before .before .before .before .before .next-line .ensures .2) _ (c .before .before .before .before .before .before .before .before .before .before .before .before .before .pair-at .ensures) (c .before .before .before .before .before .before .before .before .before .before .before .before .before .before .if3 .left) _ _ (c .before .before .before .before .before .before .before .before .before .before .before .to .given .1) in let low = c .before .before .before .before .before .before .before .before .before .before .before .before .before .before .before .before .next-line .ensures .2 .low in let high = c .before .before .before .before .before .before .before .before .before .before .before .before .before .before .before .before .next-line .ensures .2 .high in omega (arith, c .before .before .before .before .before .before .before .before .before .before .before .before .before .before .before .before .before .if2 .taken))
-    (λ c. T.going-next _ _ _ _ _ _ _ _ _ _ (c .before .before .before .before .before .before .before .before .before .before .before .before .before .before .before .before .before .before .before .loop .inv) _ (c .before .before .before .before .before .before .before .before .before .before .before .before .before .before .before .before .next-line .ensures .0) (c .before .before .before .before .before .before .before .before .before .before .before .before .before .before .before .before .next-line .ensures .2) _ (c .before .before .before .before .before .before .before .before .before .before .before .before .before .pair-at .ensures) (c .before .before .before .before .before .before .before .before .before .before .before .before .before .before .if3 .left) _ _ (c .before .before .before .before .before .before .before .before .before .before .before .to .given .1) _ (c .before .before .before .before .before .before .is-fresh .ensures) (c .before .before .before .before .before .if4 .left) _ _ _ _ (omega (arith, c .before .before .before .before .before .before .before .before .before .before .before .before .before .before .before .before .before .before .before .loop .inv .most, c .before .before .before .before .if5 .left)) (c .keep .ensures))
-    (λ c. G.done-end _ _ _ _ _ _ _ _ _ _ (c .before .before .loop .inv) (c .if2 .left)))
+    (λ c. T.done-bad _ _ _ _ _ _ _ (c .before .before .before .before .before .before .before .before .loop .inv) _ (c .before .before .before .before .before .next-line .ensures .0) (c .before .before .before .before .before .next-line .ensures .2) _ (c .before .before .pair-at .ensures) (c .before .before .before .if3 .left) _ (c .enum-told .given .1))
+    (λ c κs. let at = T.found _ _ _ _ _ _ _ (c .before .before .before .before .before .before .before .before .before .before .loop .inv) _ (c .before .before .before .before .before .before .before .next-line .ensures .0) (c .before .before .before .before .before .before .before .next-line .ensures .2) _ (c .before .before .before .before .pair-at .ensures) (c .before .before .before .before .before .if3 .left) _ _ (c .before .before .to .given .1) in let high = c .before .before .before .before .before .before .before .next-line .ensures .2 .high in (at .0, omega arith, c .before .before .before .before .before .before .before .before .before .before .loop .inv .most, c .before .before .before .before .before .before .before .before .before .before .loop .inv .room))
+    (λ c. T.done-twice _ _ _ _ _ _ _ (c .before .before .before .before .before .before .before .before .before .before .before .before .loop .inv) _ (c .before .before .before .before .before .before .before .before .before .next-line .ensures .0) (c .before .before .before .before .before .before .before .before .before .next-line .ensures .2) _ (c .before .before .before .before .before .before .pair-at .ensures) (c .before .before .before .before .before .before .before .if3 .left) _ _ (c .before .before .before .before .to .given .1) _ (c .before .is-fresh .ensures) _ (c .if4 .taken))
+    (λ c. T.done-over _ _ _ _ _ _ _ (c .before .before .before .before .before .before .before .before .before .before .before .before .before .loop .inv) _ (c .before .before .before .before .before .before .before .before .before .before .next-line .ensures .0) (c .before .before .before .before .before .before .before .before .before .before .next-line .ensures .2) _ (c .before .before .before .before .before .before .before .pair-at .ensures) (c .before .before .before .before .before .before .before .before .if3 .left) _ _ (c .before .before .before .before .before .to .given .1) _ (c .before .before .is-fresh .ensures) (c .before .if4 .left) _ (omega (arith, c .before .before .before .before .before .before .before .before .before .before .before .before .before .loop .inv .most, c .if5 .taken)))
+    (λ c κs. let at = T.found _ _ _ _ _ _ _ (c .before .before .before .before .before .before .before .before .before .before .before .before .before .before .loop .inv) _ (c .before .before .before .before .before .before .before .before .before .before .before .next-line .ensures .0) (c .before .before .before .before .before .before .before .before .before .before .before .next-line .ensures .2) _ (c .before .before .before .before .before .before .before .before .pair-at .ensures) (c .before .before .before .before .before .before .before .before .before .if3 .left) _ _ (c .before .before .before .before .before .before .to .given .1) in let high = c .before .before .before .before .before .before .before .before .before .before .before .next-line .ensures .2 .high in let most = c .before .before .before .before .before .before .before .before .before .before .before .before .before .before .loop .inv .most in (omega (arith, c .before .if5 .left), at .0, at .1, omega (arith, c .before .before .before .before .before .before .before .before .before .before .before .before .before .before .before .before .if1 .left)))
+    (λ c. let most = c .before .before .before .before .before .before .before .before .before .before .before .before .before .before .before .loop .inv .most in omega arith)
+    (λ c. let at = T.found _ _ _ _ _ _ _ (c .before .before .before .before .before .before .before .before .before .before .before .before .before .before .before .loop .inv) _ (c .before .before .before .before .before .before .before .before .before .before .before .before .next-line .ensures .0) (c .before .before .before .before .before .before .before .before .before .before .before .before .next-line .ensures .2) _ (c .before .before .before .before .before .before .before .before .before .pair-at .ensures) (c .before .before .before .before .before .before .before .before .before .before .if3 .left) _ _ (c .before .before .before .before .before .before .before .to .given .1) in let low = c .before .before .before .before .before .before .before .before .before .before .before .before .next-line .ensures .2 .low in let high = c .before .before .before .before .before .before .before .before .before .before .before .before .next-line .ensures .2 .high in omega (arith, c .before .before .before .before .before .before .before .before .before .before .before .before .before .if2 .taken))
+    (λ c. T.going-next _ _ _ _ _ _ _ (c .before .before .before .before .before .before .before .before .before .before .before .before .before .before .before .loop .inv) _ (c .before .before .before .before .before .before .before .before .before .before .before .before .next-line .ensures .0) (c .before .before .before .before .before .before .before .before .before .before .before .before .next-line .ensures .2) _ (c .before .before .before .before .before .before .before .before .before .pair-at .ensures) (c .before .before .before .before .before .before .before .before .before .before .if3 .left) _ _ (c .before .before .before .before .before .before .before .to .given .1) _ (c .before .before .before .before .is-fresh .ensures) (c .before .before .before .if4 .left) _ (omega (arith, c .before .before .before .before .before .before .before .before .before .before .before .before .before .before .before .loop .inv .most, c .before .before .if5 .left)) (c .keep .ensures))
+    (λ c. G.done-end _ _ _ _ _ _ _ (c .before .before .loop .inv) (c .if2 .left)))

@@ -1,8 +1,6 @@
 -- `joining::merge/check_terms` meets its contract. Assumes nothing.
 use borrow.Author.Needs.{needs}
-use Rattle.algebra.specs.Query.{joins, constants}
-use Rattle.lists.specs.bridge.Pairs.{keysOf}
-use Rattle.reading.proofs.Said as Said
+use Rattle.lists.proofs.Said as Said
 use Rattle.projects.proofs.Known as K
 use Rattle.projects.proofs.Outcomes as O
 use Rattle.joining.proofs.merge.check_terms.Statement.{statement}
@@ -17,6 +15,6 @@ check-terms-spec =
     (λ c κs. search needs)
     (λ c. search needs)
     (λ c. search needs)
-    (λ c. O.terms-second _ _ _ _ _ _ (K.good-terms _ _ _ _ _ _ (c .before .before .before .before .before .before .check-constants .ensures) (c .before .before .before .before .enum-told .given .1)) (c .check-constants2 .ensures))
-    (λ c. O.terms-malformed _ _ (Said.said-malformed (keysOf constants) _ _ _ _ _ _ (c .before .before .check-constants .ensures) (c .enum-told2 .given .1)))
-    (λ c. O.terms-over _ _ (Said.said-over (keysOf constants) _ _ _ _ _ _ (c .before .before .check-constants .ensures) (c .enum-told3 .given .1))))
+    (λ c. O.terms-second _ _ _ _ (K.good-terms _ _ _ _ (c .before .before .before .before .check-constants .ensures) (c .before .before .enum-told .given .1)) (c .check-constants2 .ensures))
+    (λ c. O.terms-malformed _ _ (Said.said-malformed _ _ _ _ (c .before .before .check-constants .ensures) (c .enum-told2 .given .1)))
+    (λ c. O.terms-over _ _ (Said.said-over _ _ _ _ (c .before .before .check-constants .ensures) (c .enum-told3 .given .1))))

@@ -1,10 +1,8 @@
 -- `joining::push/push_by` meets its contract. Assumes nothing.
 use borrow.Author.Needs.{needs}
 use Rattle.projects.proofs.Known as K
-use Rattle.reading.proofs.Said as Said
+use Rattle.lists.proofs.Said as Said
 use Rattle.joining.proofs.Calls as Calls
-use Rattle.algebra.specs.Query.{constants}
-use Rattle.lists.specs.bridge.Pairs.{keysOf}
 use Rattle.joining.proofs.push.push_by.Statement.{statement}
 use Rattle.joining.proofs.push.push_by.Tie as tie
 
@@ -14,10 +12,10 @@ push-by-spec =
     (tie.spec
     (λ c κs. search needs)
     (λ c. search needs)
-    (λ c κs. (c .before .before .before .before .before .before .before .before .before .before .pre, K.good-terms _ _ _ _ _ _ (c .before .before .before .check-constants .ensures) (c .before .enum-told .given .1)))
+    (λ c κs. (c .before .before .before .before .before .before .before .before .pre, K.good-terms _ _ _ _ (c .before .before .before .check-constants .ensures) (c .before .enum-told .given .1)))
     (λ c. search needs)
     (λ c. search needs)
     (λ c. search needs)
     (λ c. c .before .before .push-of .ensures)
-    (λ c. Calls.terms-malformed _ _ _ _ (c .before .before .before .before .before .before .before .before .before .pre .read) (Said.said-malformed (keysOf constants) _ _ _ _ _ _ (c .before .before .check-constants .ensures) (c .enum-told2 .given .1)))
-    (λ c. Calls.terms-over _ _ _ _ (c .before .before .before .before .before .before .before .before .before .pre .read) (Said.said-over (keysOf constants) _ _ _ _ _ _ (c .before .before .check-constants .ensures) (c .enum-told3 .given .1))))
+    (λ c. Calls.terms-malformed _ _ _ _ (c .before .before .before .before .before .before .before .pre .read) (Said.said-malformed _ _ _ _ (c .before .before .check-constants .ensures) (c .enum-told2 .given .1)))
+    (λ c. Calls.terms-over _ _ _ _ (c .before .before .before .before .before .before .before .pre .read) (Said.said-over _ _ _ _ (c .before .before .check-constants .ensures) (c .enum-told3 .given .1))))
