@@ -46,5 +46,4 @@ going-start s first second apart keys at z k e =
 -- no line is left
 pub done-end : (s : Bytes) (first second : ℕ) (apart : Bool) (keys : List (List ℕ)) (at n : ℕ) → Going s first second apart keys at n → length s ≤ at → Done s first second apart keys (Good n)
 unfolding PairsChecked
-done-end s first second apart keys at n g e κ st =
-    (let r = g .room in let m = g .most in omega arith, g .so κ st ∙ rw (lines-end s at e) (told-end κ (64 - n) (pairsIn s keys n)))
+done-end s first second apart keys at n g e κ st = record { room = g .room; few = g .most; read = g .so κ st ∙ rw (lines-end s at e) (told-end κ (64 - n) (pairsIn s keys n)) }

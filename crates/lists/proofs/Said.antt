@@ -1,18 +1,17 @@
 -- What a check's answer says of the list. Assumes nothing.
-use Prim.Native.Nat.{ℕ, _≤_}
+use Prim.Native.Nat.{ℕ}
 use mathlib.Core.Path.{_≡_, subst}
 use mathlib.Core.List.{List}
-use lib.ListN.{length}
 use Rattle.text.specs.Text.{Bytes}
 use Rattle.algebra.specs.Query.{PairList}
-use Rattle.algebra.specs.Reader.{reads, refuses, malformed, overBound}
+use Rattle.algebra.specs.Reader.{refuses, malformed, overBound}
 use Rattle.algebra.specs.Texts.{readPairs}
 use Rattle.algebra.specs.declared.Answer.{Answer}
 use Rattle.algebra.specs.declared.Answer.the-variants.{Good, Malformed, OverBound}
-use Rattle.lists.specs.bridge.Pairs.{pairsIn, PairsChecked}
+use Rattle.lists.specs.bridge.Pairs.{PairsTold, PairsChecked}
 
 module _ (κ : PairList) (s : Bytes) (keys : List (List ℕ)) (r : Answer) (c : PairsChecked κ s keys r) where
-  pub said-good : (n : ℕ) → r ≡ Good n → (n ≤ length keys) × (readPairs κ s ≡ reads (pairsIn s keys n))
+  pub said-good : (n : ℕ) → r ≡ Good n → PairsTold κ s keys n
   unfolding PairsChecked
   said-good n q = subst (PairsChecked κ s keys) q c
 

@@ -175,7 +175,7 @@ pub good-terms : (s : Bytes) (keys : List (List ℕ)) (r : Check) (n : ℕ) → 
 unfolding readConstants
 good-terms s keys r n c q =
     let xs = pairsIn s keys n in
-    let read = said-good constants s keys r c n q .1 in
+    let read = said-good constants s keys r c n q .read in
     record {
       list = xs;
       terms = record { listed = pairs-listed constants s xs read; different = ap differentPositions (sym (positions-are xs)) ∙ positions-different [] xs (is-pairs constants s xs read .1) };
@@ -190,7 +190,7 @@ pub record KnownJoins (s : Bytes) : Type 0 where
 
 pub good-joins : (s : Bytes) (keys : List (List ℕ)) (r : Check) (n : ℕ) → PairsChecked joins s keys r → r ≡ C.Good n → KnownJoins s
 unfolding readJoins
-good-joins s keys r n c q = let read = said-good joins s keys r c n q .1 in record { list = pairsIn s keys n; listed = pairs-listed joins s (pairsIn s keys n) read; read = ap (made joinPositions) read }
+good-joins s keys r n c q = let read = said-good joins s keys r c n q .read in record { list = pairsIn s keys n; listed = pairs-listed joins s (pairsIn s keys n) read; read = ap (made joinPositions) read }
 
 -- a tree that is a project stands as one
 pub stands-as : (s : Bytes) (at : ℕ) (a l : List ℕ) (n : ℕ) (v : List (List ℕ)) (p q : Pattern) → p ≡ q → Stands s at a l n v p → Stands s at a l n v q

@@ -5,21 +5,13 @@ use mathlib.Core.List.{List, []}
 use mathlib.Core.Bool.{true, false}
 use native.Mathlib.Nat.{le-refl}
 use lib.ListN.{length, drop}
-use Rattle.text.specs.Text.{Bytes, Line, textOf, linesOf}
-use Rattle.text.proofs.Texts.{lines-back}
+use Rattle.text.specs.Text.{Bytes, textOf}
 use Rattle.algebra.specs.Tree.{Pattern}
 use Rattle.algebra.specs.Query.{mapping}
 use Rattle.algebra.specs.Valid.{mem}
-use Rattle.algebra.specs.Layout.{putPairs, layout}
-use Rattle.algebra.specs.Bounded.{IsPairs, layoutPairs}
-use Rattle.algebra.specs.Tally.{bounds}
+use Rattle.algebra.specs.Layout.{layout}
 use Rattle.algebra.specs.Reader.{refuses, malformed, overBound}
 use Rattle.algebra.specs.Texts.{readTree, readPairs}
-use Rattle.algebra.specs.declared.Answer.{Answer as Check}
-use Rattle.algebra.specs.declared.Answer.the-variants.{Good}
-use Rattle.algebra.proofs.Neat.{pairs-neat}
-use Rattle.algebra.proofs.Theorem.{pairs-exactly}
-use Rattle.lists.specs.bridge.Pairs.{pairsIn, PairsChecked}
 use Rattle.emit.specs.bridge.Emit.{em, last, puts}
 use Rattle.emit.proofs.Laws.{puts-nil}
 use Rattle.names.specs.bridge.Names.{listing}
@@ -39,38 +31,14 @@ use Rattle.answers.specs.declared.Answer.the-variants.{Written, Malformed, Over
 use Rattle.answers.specs.Outcome.{written, Reported, Answered}
 use Rattle.renaming.specs.Rename.{becomes, renameOutcome}
 use Rattle.heads.specs.bridge.Known.{Known}
-use Rattle.renaming.specs.bridge.Code.{Surveyed, KnownPairs, Targets, lookLast}
+use Rattle.renaming.specs.bridge.Code.{Surveyed, Targets}
 use Rattle.renaming.proofs.Tables.{known-valid, known-depth, known-names, known-lines}
-use Rattle.lists.proofs.Said.{said-good}
 use Rattle.scoping.proofs.Alike.{rename-alike}
-use Rattle.renaming.proofs.Mapping.{look-becomes}
 use Rattle.answers.proofs.Answers.{too-short, all-written, answered}
-
--- ---- the mapping
-
-module _ (pairs : Bytes) (m : KnownPairs pairs) where
-  is-pairs : IsPairs bounds mapping pairs (m .list)
-  is-pairs = pairs-exactly mapping pairs (m .list) .0 (m .read)
-
-  pub pairs-short : length pairs ≤ 16384
-  pairs-short = ap-length (is-pairs .0) (is-pairs .2 .bytes)
-    where
-      ap-length : layoutPairs (m .list) ≡ pairs → length (layoutPairs (m .list)) ≤ 16384 → length pairs ≤ 16384
-      ap-length e h = rw (sym e) h
-
-  pairs-lines : linesOf pairs ≡ putPairs (m .list) []
-  unfolding layoutPairs
-  pairs-lines = ap linesOf (sym (is-pairs .0)) ∙ lines-back (putPairs (m .list) []) (pairs-neat mapping [] (m .list) [] (is-pairs .1) tt)
-
-  pairs-become : (f : Bytes) → lookLast (linesOf pairs) f f ≡ becomes (m .list) f
-  pairs-become f = ap (λ (ls : List Line). lookLast ls f f) pairs-lines ∙ look-becomes (m .list) (is-pairs .1) f
-
-pub good-pairs : (s : Bytes) (keys : List (List ℕ)) (r : Check) (n : ℕ) → PairsChecked mapping s keys r → r ≡ Good n → KnownPairs s
-good-pairs s keys r n c q = record { list = pairsIn s keys n; read = said-good mapping s keys r c n q .1 }
 
 -- ---- the names
 
-module _ (s : Bytes) (a l : List ℕ) (n : ℕ) (spots : List (List ℕ)) (k : ℕ) (x : Surveyed s a l n spots k) (pairs : Bytes) (m : KnownPairs pairs) (targets spans : List ℕ) (t : Targets (listing s a l n) n pairs targets spans) where
+module _ (s : Bytes) (a l : List ℕ) (n : ℕ) (spots : List (List ℕ)) (k : ℕ) (x : Surveyed s a l n spots k) (pairs : Bytes) (targets spans : List ℕ) (t : Targets (listing s a l n) n pairs targets spans) where
   abbrev new : Bytes → Bytes
   new = renames s a l n pairs targets spans
 
@@ -81,14 +49,14 @@ module _ (s : Bytes) (a l : List ℕ) (n : ℕ) (spots : List (List ℕ)) (k : �
   unfolding replacement
   keeps f e = rw (index-none f (listing s a l n) e, listing-long s a l n, t .behind n (le-refl n))
 
-  agrees : (v : Bytes) → mem v (namesOf (places pattern visible)) ≡ true → new v ≡ becomes (m .list) v
+  agrees : (v : Bytes) → mem v (namesOf (places pattern visible)) ≡ true → new v ≡ becomes (t .list) v
   agrees v i =
       let is-var = named pattern visible (known-valid s a l (x .hints) n (x .known)) .at v i in
-      t .found v (ap (mem v) (known-names s a l (x .hints) n (x .known)) ∙ by-place-mem pattern v is-var ∙ i) ∙ pairs-become pairs m v
+      t .found v (ap (mem v) (known-names s a l (x .hints) n (x .known)) ∙ by-place-mem pattern v is-var ∙ i)
 
   outcome-is : renameOutcome s pairs ≡ written (layout (renameInGraphPattern new pattern))
   unfolding renameOutcome
-  outcome-is = rw (x .known .read, m .read) (ap (λ (q : Pattern). written (layout q)) (sym (rename-alike new (becomes (m .list)) pattern visible agrees)))
+  outcome-is = rw (x .known .read, t .read) (ap (λ (q : Pattern). written (layout q)) (sym (rename-alike new (becomes (t .list)) pattern visible agrees)))
 
   -- what is put, the tree's variables under their new names
   renamed-puts : (at : ℕ) (out out′ : Bytes) → em at out′ ≡ rewritten new s (drop 0 (spotsOf (listing s a l n) spots k)) 0 (length s) (em 0 out) → em at out′ ≡ puts (layout (renameInGraphPattern new pattern)) (em 0 out)

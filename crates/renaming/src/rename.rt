@@ -3,27 +3,26 @@ use algebra::Answer as Check;
 use answers::Answer;
 use lines::check::Noting;
 use lines::fields::Spot;
+use lists::Entry;
 use lists::check_mapping;
+use lists::field_at;
 use names::find_name;
 use reading::note_tree;
-use text::find;
-use walking::line::line_end;
 use walking::places::put_renamed;
 ghost use mathlib.Core.Path.{_≡_};
-ghost use Prim.Native.Nat.{ℕ, _+_, _*_, _≤_};
-ghost use mathlib.Core.Bool.{cond, true};
+ghost use Prim.Native.Nat.{ℕ, _*_, _≤_};
+ghost use mathlib.Core.List.{[]};
 ghost use lib.ListN.{length, getD};
-ghost use Rattle.text.specs.Text.{Bytes, same, part};
 ghost use Rattle.names.specs.bridge.Names.{listing};
-ghost use Rattle.algebra.specs.Valid.{mem};
 ghost use Rattle.lines.specs.bridge.Spotted.{Noted};
+ghost use Rattle.lists.specs.bridge.Pairs.{pairAt};
 ghost use Rattle.walking.specs.bridge.Code.{Named};
 ghost use Rattle.answers.specs.Outcome.{Answered};
 ghost use Rattle.renaming.specs.Rename.{renameOutcome};
 ghost use Rattle.heads.specs.bridge.Known.{Known};
 ghost use Rattle.renaming.specs.bridge.Code.{Surveyed, KnownPairs, Targets, Settled};
 
-// A line of the mapping, whose fields end at `to` and `end`: the entry of its first name, if it is in the table, gets the second.
+// A pair of the mapping: the entry of its first name, if that is in the table, gets the second.
 fn set_target(
     tree: &[u8],
     starts: &[u16; 1024],
@@ -31,27 +30,28 @@ fn set_target(
     hints: &[u16; 4096],
     n: usize,
     mapping: &[u8],
-    from: usize,
-    to: usize,
-    end: usize,
+    key: Entry,
     targets: &mut [u16; 1024],
     spans: &mut [u16; 1024],
 )
-    requires { ⌜ (from ≤ to) × (to ≤ end) × (end ≤ length (now mapping)) × (length (now mapping) ≤ 16384) × ((length (now targets) ≡ 1024) × (length (now spans) ≡ 1024)) × Named (now tree) (now starts) (now sizes) (now hints) n ⌝ }
-    ensures { λ _. ⌜ Settled (listing (now (tree .entry)) (now (starts .entry)) (now (sizes .entry)) n) n (now (mapping .entry)) (part from to (now (mapping .entry))) (part (to + 1) end (now (mapping .entry))) (now (targets .entry)) (now (spans .entry)) (now (targets .exit)) (now (spans .exit)) ⌝ }
+    requires { ⌜ (length (now targets) ≡ 1024) × (length (now spans) ≡ 1024) × Named (now tree) (now starts) (now sizes) (now hints) n × (pairAt (now mapping) key .second ≡ [] → ⊥) ⌝ }
+    ensures { λ _. ⌜ Settled (listing (now (tree .entry)) (now (starts .entry)) (now (sizes .entry)) n) n (now (mapping .entry)) (pairAt (now (mapping .entry)) key) (now (targets .entry)) (now (spans .entry)) (now (targets .exit)) (now (spans .exit)) ⌝ }
 {
-    let k = find_name(&mapping[from..to], tree, starts, sizes, hints, n);
-    if n <= k {
-        return;
+    let k = find_name(
+        field_at(mapping, key[0], key[1]),
+        tree,
+        starts,
+        sizes,
+        hints,
+        n,
+    );
+    if k < n {
+        targets[k] = key[2];
+        spans[k] = key[3];
     }
-    if end <= to + 1 {
-        return;
-    }
-    targets[k] = (to + 1) as u16;
-    spans[k] = (end - to - 1) as u16;
 }
 
-// What the mapping makes of each name of the table, found once.
+// What the mapping, whose pairs the first m entries tell, makes of each name of the table.
 fn find_targets(
     tree: &[u8],
     starts: &[u16; 1024],
@@ -59,19 +59,16 @@ fn find_targets(
     hints: &[u16; 4096],
     n: usize,
     mapping: &[u8],
+    keys: &[Entry; 64],
+    m: usize,
     targets: &mut [u16; 1024],
     spans: &mut [u16; 1024],
 )
-    requires { ⌜ (length (now mapping) ≤ 16384) × ((length (now targets) ≡ 1024) × (length (now spans) ≡ 1024)) × ((i : ℕ) → getD (now spans) i 0 ≡ 0) × Named (now tree) (now starts) (now sizes) (now hints) n ⌝ }
+    requires { ⌜ KnownPairs (now mapping) (now keys) m × ((length (now targets) ≡ 1024) × (length (now spans) ≡ 1024)) × ((i : ℕ) → getD (now spans) i 0 ≡ 0) × Named (now tree) (now starts) (now sizes) (now hints) n ⌝ }
     ensures { λ _. ⌜ Targets (listing (now (tree .entry)) (now (starts .entry)) (now (sizes .entry)) n) n (now (mapping .entry)) (now (targets .exit)) (now (spans .exit)) ⌝ }
 {
-    let mut at = 0;
-    while at < mapping.len() {
-        let end = line_end(mapping, at);
-        if end == mapping.len() {
-            return;
-        }
-        let to = find(mapping, at, end, 9);
+    let mut i = 0;
+    while i < m {
         set_target(
             tree,
             starts,
@@ -79,13 +76,11 @@ fn find_targets(
             hints,
             n,
             mapping,
-            at,
-            to,
-            end,
+            keys[i],
             targets,
             spans,
         );
-        at = end + 1;
+        i += 1;
     }
 }
 
@@ -102,7 +97,7 @@ fn rename_over(
     spans: &[u16; 1024],
     out: &mut [u8],
 ) -> Answer
-    requires { ⌜ Surveyed (now tree) (now starts) (now sizes) n (now spots) k × KnownPairs (now mapping) × Targets (listing (now tree) (now starts) (now sizes) n) n (now mapping) (now targets) (now spans) ⌝ }
+    requires { ⌜ Surveyed (now tree) (now starts) (now sizes) n (now spots) k × Targets (listing (now tree) (now starts) (now sizes) n) n (now mapping) (now targets) (now spans) ⌝ }
     ensures { λ r. ⌜ Answered (renameOutcome (now (tree .entry)) (now (mapping .entry))) (now (out .entry)) (now (out .exit)) r ⌝ }
 {
     let end = tree.len();
@@ -155,9 +150,11 @@ fn rename_of(
     spots: &[Spot],
     k: usize,
     mapping: &[u8],
+    keys: &[Entry; 64],
+    m: usize,
     out: &mut [u8],
 ) -> Answer
-    requires { ⌜ Known (now tree) (now starts) (now sizes) (now hints) n × Noted (now tree) 0 (listing (now tree) (now starts) (now sizes) n) (now spots) k × KnownPairs (now mapping) ⌝ }
+    requires { ⌜ Known (now tree) (now starts) (now sizes) (now hints) n × Noted (now tree) 0 (listing (now tree) (now starts) (now sizes) n) (now spots) k × KnownPairs (now mapping) (now keys) m ⌝ }
     ensures { λ r. ⌜ Answered (renameOutcome (now (tree .entry)) (now (mapping .entry))) (now (out .entry)) (now (out .exit)) r ⌝ }
 {
     let mut targets = [0u16; 1024];
@@ -169,6 +166,8 @@ fn rename_of(
         hints,
         n,
         mapping,
+        keys,
+        m,
         &mut targets,
         &mut spans,
     );
@@ -203,7 +202,21 @@ fn rename_by(
 {
     let mut keys = [[0u16; 4]; 64];
     match check_mapping(mapping, &mut keys) {
-        Check::Good(_) => rename_of(tree, starts, sizes, hints, n, spots, k, mapping, out),
+        Check::Good(m) => {
+            rename_of(
+                tree,
+                starts,
+                sizes,
+                hints,
+                n,
+                spots,
+                k,
+                mapping,
+                &keys,
+                m,
+                out,
+            )
+        }
         Check::Malformed => Answer::Malformed,
         Check::OverBound => Answer::OverBound,
     }

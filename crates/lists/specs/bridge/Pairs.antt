@@ -30,9 +30,15 @@ entryOf from to end = from ∷ (to - from) ∷ (to + 1) ∷ (end - (to + 1)) ∷
 unfoldable pub pairsIn : Bytes → List (List ℕ) → ℕ → List Pair
 pairsIn s keys n = map (pairAt s) (take n keys)
 
--- a good text says the pairs that the first n entries tell; else the answer is its refusal
+-- the first n of 64 entries tell the pairs that a text says
+pub record PairsTold (κ : PairList) (s : Bytes) (keys : List (List ℕ)) (n : ℕ) : Type 0 where
+  pub room : length keys ≡ 64
+  pub few : n ≤ 64
+  pub read : readPairs κ s ≡ reads (pairsIn s keys n)
+
+-- entries tell the pairs of a good text; else the answer is its refusal
 unfoldable pub PairsChecked : PairList → Bytes → List (List ℕ) → Answer → Type 0
-PairsChecked κ s keys (Good n) = (n ≤ length keys) × (readPairs κ s ≡ reads (pairsIn s keys n))
+PairsChecked κ s keys (Good n) = PairsTold κ s keys n
 PairsChecked κ s keys Malformed = readPairs κ s ≡ refuses malformed
 PairsChecked κ s keys OverBound = readPairs κ s ≡ refuses overBound
 

@@ -1,20 +1,17 @@
 -- `renaming::rename/find_targets` meets its contract. Assumes nothing.
 use borrow.Author.Needs.{needs}
 use Prim.Native.Nat.{_-_}
-use native.Mathlib.Omega.{arith}
-use lib.ListN.{length}
 use Rattle.names.specs.bridge.Names.{listing}
+use Rattle.lists.specs.bridge.Pairs.{pairsIn}
 use Rattle.renaming.proofs.Targets as T
 use Rattle.renaming.proofs.rename.find_targets.Statement.{statement}
 use Rattle.renaming.proofs.rename.find_targets.Tie as tie
 
 abbrev Inv-loop : tie.InvT-loop
-Inv-loop tree starts sizes hints n mapping targets₀ spans₀ at₀ targets spans at =
-    T.Underway (listing tree starts sizes n) n mapping at targets spans
+Inv-loop tree starts sizes hints n mapping keys m targets₀ spans₀ i₀ targets spans i = T.Underway (listing tree starts sizes n) n mapping (pairsIn mapping keys m) i targets spans
 
 abbrev μ-loop : tie.MeasureT-loop
-μ-loop tree starts sizes hints n mapping targets₀ spans₀ at₀ targets spans at =
-    length mapping - at
+μ-loop tree starts sizes hints n mapping keys m targets₀ spans₀ i₀ targets spans i = m - i
 
 pub find-targets-spec : {M : Type 1} → statement M
 find-targets-spec =
@@ -22,12 +19,11 @@ find-targets-spec =
     (tie.spec
     Inv-loop
     μ-loop
-    (λ c. T.begun _ _ _ _ _ (c .before .before .pre .1) (c .before .before .pre .2))
-    (λ c κs. search needs)
-    (λ c. T.stopped _ _ _ _ _ _ (c .before .before .before .loop .inv) _ (c .before .line-end .ensures) (c .if1 .taken))
-    (λ c κs. let l = c .before .line-end .ensures in let h = l .high in let f = l .ends (omega arith) in let low = f .low in (omega arith, omega arith))
-    (λ c κs. let l = c .before .before .before .before .line-end .ensures in let h = l .high in let f = c .before .before .find .ensures in (f .low, f .high, h, c .before .before .before .before .before .before .before .before .before .pre .0, c .before .before .before .before .before .before .loop .inv .entries, c .before .before .before .before .before .before .before .before .before .pre .3))
-    (λ c. let l = c .before .before .before .before .before .line-end .ensures in let h = l .high in omega arith)
-    (λ c. let l = c .before .before .before .before .before .line-end .ensures in let h = l .high in let f = l .ends (omega arith) in let low = f .low in let t = c .before .before .before .before .before .before .loop-test .taken in omega arith)
-    (λ c. T.next-line _ _ _ _ _ _ (c .before .before .before .before .before .before .before .loop .inv) _ _ _ _ (c .before .before .before .before .before .line-end .ensures) (c .before .before .before .before .if1 .left) (c .before .before .before .find .ensures) (c .set-target .ensures))
-    (λ c. T.ended _ _ _ _ _ _ (c .before .loop .inv) (c .loop-test .left)))
+    (λ c. let p = c .before .before .pre in T.begun _ _ _ _ _ (p .0) _ _ (p .1) (p .2))
+    (λ c. let few = c .before .before .before .before .pre .0 .few in search needs)
+    (λ c. let few = c .before .before .before .before .pre .0 .few in search needs)
+    (λ c κs. let p = c .before .before .before .before .before .before .before .pre in let u = c .before .before .before .before .loop .inv in (u .entries .0, u .entries .1, p .3, T.next-some _ _ _ _ _ (p .0) _ _ _ u (c .before .before .before .loop-test .taken)))
+    (λ c. search needs)
+    (λ c. search needs)
+    (λ c. T.next-pair _ _ _ _ _ (c .before .before .before .before .before .before .before .before .pre .0) _ _ _ (c .before .before .before .before .before .loop .inv) (c .before .before .before .before .loop-test .taken) _ _ (c .set-target .ensures))
+    (λ c. T.ended _ _ _ _ _ (c .before .before .before .before .pre .0) _ _ _ (c .before .loop .inv) (c .loop-test .left)))

@@ -11,10 +11,10 @@ rename-by-spec =
     (tie.spec
     (λ c κs. search needs)
     (λ c. search needs)
-    (λ c κs. let k = c .before .before .before .before .before .before .before .before .pre in (k .0, k .1, R.good-pairs _ _ _ _ (c .before .before .before .check-mapping .ensures) (c .before .enum-told .given .1)))
+    (λ c κs. let k = c .before .before .before .before .before .before .before .before .before .before .pre in (k .0, k .1, Said.said-good _ _ _ _ (c .before .before .before .before .before .check-mapping .ensures) _ (c .before .before .before .m .given .1)))
     (λ c. search needs)
     (λ c. search needs)
     (λ c. search needs)
     (λ c. search needs)
-    (λ c. R.mapping-malformed _ _ _ _ _ (c .before .before .before .before .before .before .before .pre .0) _ _ (Said.said-malformed _ _ _ _ (c .before .before .check-mapping .ensures) (c .enum-told2 .given .1)))
-    (λ c. R.mapping-over _ _ _ _ _ (c .before .before .before .before .before .before .before .pre .0) _ _ (Said.said-over _ _ _ _ (c .before .before .check-mapping .ensures) (c .enum-told3 .given .1))))
+    (λ c. R.mapping-malformed _ _ _ _ _ (c .before .before .before .before .before .before .before .pre .0) _ _ (Said.said-malformed _ _ _ _ (c .before .before .check-mapping .ensures) (c .enum-told .given .1)))
+    (λ c. R.mapping-over _ _ _ _ _ (c .before .before .before .before .before .before .before .pre .0) _ _ (Said.said-over _ _ _ _ (c .before .before .check-mapping .ensures) (c .enum-told2 .given .1))))

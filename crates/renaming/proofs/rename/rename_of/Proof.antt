@@ -11,7 +11,7 @@ pub rename-of-spec : {M : Type 1} → statement M
 rename-of-spec =
     tie.close
     (tie.spec
-    (λ c κs. let k = c .before .before .before .before .before .pre in (R.pairs-short _ (k .2), (refl, refl), zeros 1024 .each, T.known-named _ _ _ _ _ (k .0)))
-    (λ c κs. let k = c .before .before .before .before .before .before .before .before .before .pre in (T.surveyed _ _ _ _ _ _ _ (k .0) (k .1), k .2, c .before .before .before .find-targets .ensures))
+    (λ c κs. let k = c .before .before .before .before .before .pre in (k .2, (refl, refl), zeros 1024 .each, T.known-named _ _ _ _ _ (k .0)))
+    (λ c κs. let k = c .before .before .before .before .before .before .before .before .before .pre in (T.surveyed _ _ _ _ _ _ _ (k .0) (k .1), c .before .before .before .find-targets .ensures))
     (λ c. search needs)
     (λ c. search needs))

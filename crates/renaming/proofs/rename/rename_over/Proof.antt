@@ -12,7 +12,7 @@ rename-over-spec =
     (tie.spec
     (λ c. search needs)
     (λ c κs. T.surveyed-ready _ _ _ _ _ _ (c .before .before .before .before .pre .0))
-    (λ c. let k = c .before .before .before .before .before .before .before .pre in R.rename-short _ _ _ _ _ _ (k .0) _ (k .1) _ _ (k .2) _ _ _ _ (c .before .before .put-renamed .ensures) (c .if1 .taken))
+    (λ c. let k = c .before .before .before .before .before .before .before .pre in R.rename-short _ _ _ _ _ _ (k .0) _ _ _ (k .1) _ _ _ _ (c .before .before .put-renamed .ensures) (c .if1 .taken))
     (λ c κs. T.surveyed-ready _ _ _ _ _ _ (c .before .before .before .before .before .before .before .before .pre .0))
     (λ c. search needs)
-    (λ c. let k = c .before .before .before .before .before .before .before .before .before .before .before .pre in let g = c .before .before .before .before .before .before .before .before .before .before .before .good in R.rename-written _ _ _ _ _ _ (k .0) _ (k .1) _ _ (k .2) _ _ _ _ (c .before .before .before .before .before .before .put-renamed .ensures) _ _ (c .before .before .before .before .if1 .left) (omega (arith, g)) (c .before .before .put-renamed2 .ensures)))
+    (λ c. let k = c .before .before .before .before .before .before .before .before .before .before .before .pre in let g = c .before .before .before .before .before .before .before .before .before .before .before .good in R.rename-written _ _ _ _ _ _ (k .0) _ _ _ (k .1) _ _ _ _ (c .before .before .before .before .before .before .put-renamed .ensures) _ _ (c .before .before .before .before .if1 .left) (omega (arith, g)) (c .before .before .put-renamed2 .ensures)))
