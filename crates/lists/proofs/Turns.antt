@@ -6,7 +6,7 @@ use mathlib.Core.Bool.{Bool, true, false, not}
 use native.Mathlib.Omega.{arith}
 use lib.ListN.{length, set, length-set}
 use borrow.Author.Tests.{not-true, not-false}
-use Rattle.text.specs.Text.{Bytes, part, First, linesFrom}
+use Rattle.text.specs.Text.{Bytes, Line, part, First, linesFrom}
 use Rattle.text.specs.bridge.Code.{kindAt}
 use Rattle.text.proofs.Texts.{AllClean}
 use Rattle.algebra.specs.Query.{PairList, Pair, firstKind, secondKind, unique}
@@ -37,7 +37,10 @@ module _ (s : Bytes) (first second : ℕ) (apart : Bool) (keys : List (List ℕ)
       less : c .end < length s
       less = let q = f .high in omega arith
 
-      line : (κ : PairList) → Stands κ first second apart → readPairs κ s ≡ told κ (64 - n) before (left s (c .at) (c .end) ∷ linesFrom s (c .end + 1))
+      abbrev rest : List Line
+      rest = linesFrom s (c .end + 1)
+
+      line : (κ : PairList) → Stands κ first second apart → readPairs κ s ≡ told κ (64 - n) before (left s (c .at) (c .end) ∷ rest)
       line κ st = g .so κ st ∙ rw (line-next s at (c .end) f less, same)
 
       neat : AllClean (left s (c .at) (c .end))
@@ -48,9 +51,16 @@ module _ (s : Bytes) (first second : ℕ) (apart : Bool) (keys : List (List ℕ)
       unfolding Finds PairsChecked
       done-bad keys′ e κ st =
           let q : isPair (kindAt first) (kindAt second) (left s (c .at) (c .end)) ≡ false = rw e at finds in
-          line κ st ∙ told-bad κ before (linesFrom s (c .end + 1)) (64 - n) (left s (c .at) (c .end)) neat (rw (st .firsts, st .seconds) q)
+          line κ st ∙ told-bad κ before rest (64 - n) (left s (c .at) (c .end)) neat (rw (st .firsts, st .seconds) q)
 
       module _ (to : ℕ) (d : Cursor) (is : x ≡ At to d) where
+        -- its two fields
+        abbrev one : Bytes
+        one = part (c .at) to s
+
+        abbrev other : Bytes
+        other = part (to + 1) (c .end) s
+
         two : Finds s (kindAt first) (kindAt second) c (At to d)
         two = rw is at finds
 
@@ -59,25 +69,25 @@ module _ (s : Bytes) (first second : ℕ) (apart : Bool) (keys : List (List ℕ)
         unfolding Finds
         found = (two .0, two .1, two .2)
 
-        module _ (b : Bool) (new : b ≡ fresh apart (part (c .at) to s) (firsts before)) where
-          is-new : (κ : PairList) → Stands κ first second apart → b ≡ fresh (unique κ) (part (c .at) to s) (firsts before)
+        module _ (b : Bool) (new : b ≡ fresh apart one (firsts before)) where
+          is-new : (κ : PairList) → Stands κ first second apart → b ≡ fresh (unique κ) one (firsts before)
           is-new κ st = rw (st .parted) new
 
-          entry : (κ : PairList) → Stands κ first second apart → readPairs κ s ≡ told κ (64 - n) before ((part (c .at) to s ∷ part (to + 1) (c .end) s ∷ []) ∷ linesFrom s (c .end + 1))
+          entry : (κ : PairList) → Stands κ first second apart → readPairs κ s ≡ told κ (64 - n) before ((one ∷ other ∷ []) ∷ rest)
           unfolding Finds
-          entry κ st = line κ st ∙ ap (λ k. told κ (64 - n) before (k ∷ linesFrom s (c .end + 1))) (two .3)
+          entry κ st = line κ st ∙ ap (λ k. told κ (64 - n) before (k ∷ rest)) (two .3)
 
           -- its first field is there already
           pub done-twice : (keys′ : List (List ℕ)) → not b ≡ true → Done s first second apart keys′ Malformed
           unfolding PairsChecked
-          done-twice keys′ e κ st = entry κ st ∙ told-twice κ before (linesFrom s (c .end + 1)) (64 - n) (part (c .at) to s) (part (to + 1) (c .end) s ∷ []) (sym (is-new κ st) ∙ not-true b e)
+          done-twice keys′ e κ st = entry κ st ∙ told-twice κ before rest (64 - n) one (other ∷ []) (sym (is-new κ st) ∙ not-true b e)
 
           module _ (e : not b ≡ false) where
-            clean : AllClean (part (c .at) to s ∷ part (to + 1) (c .end) s ∷ [])
+            clean : AllClean (one ∷ other ∷ [])
             unfolding Finds
             clean = subst AllClean (two .3) neat
 
-            paired-so : (κ : PairList) → Stands κ first second apart → isPair (firstKind κ) (secondKind κ) (part (c .at) to s ∷ part (to + 1) (c .end) s ∷ []) ≡ true
+            paired-so : (κ : PairList) → Stands κ first second apart → isPair (firstKind κ) (secondKind κ) (one ∷ other ∷ []) ≡ true
             unfolding Finds
             paired-so κ st = rw (st .firsts, st .seconds) (ap (isPair (kindAt first) (kindAt second)) (sym (two .3)) ∙ two .4)
 
@@ -86,14 +96,14 @@ module _ (s : Bytes) (first second : ℕ) (apart : Bool) (keys : List (List ℕ)
             unfolding PairsChecked
             done-over keys′ k κ st =
                 let z : 64 - n ≡ 0 = omega arith in
-                entry κ st ∙ rw z (told-over κ before (linesFrom s (c .end + 1)) (part (c .at) to s) (part (to + 1) (c .end) s) clean (paired-so κ st) (sym (is-new κ st) ∙ not-false b e))
+                entry κ st ∙ rw z (told-over κ before rest one other clean (paired-so κ st) (sym (is-new κ st) ∙ not-false b e))
 
             -- it is an entry, and the next line follows
             pub going-next : (keys′ : List (List ℕ)) → (n ≡ 64 → ⊥) → keys′ ≡ set keys n (entryOf (c .at) to (c .end)) → Going s first second apart keys′ (d .at) (n + 1)
             going-next keys′ k is-set =
                 let m = g .most in
                 let r = g .room in
-                let kept : pairsIn s keys′ (n + 1) ≡ before ++ (record { first = part (c .at) to s; second = part (to + 1) (c .end) s } ∷ []) = ap (λ (ks : List (List ℕ)). pairsIn s ks (n + 1)) is-set ∙ pairs-more s keys n (c .at) to (c .end) (omega arith) in
+                let kept : pairsIn s keys′ (n + 1) ≡ before ++ (record { first = one; second = other } ∷ []) = ap (λ (ks : List (List ℕ)). pairsIn s ks (n + 1)) is-set ∙ pairs-more s keys n (c .at) to (c .end) (omega arith) in
                 let size : length keys′ ≡ 64 = ap length is-set ∙ length-set keys n _ ∙ r in
                 let long : length (pairsIn s keys′ (n + 1)) ≤ 64 = let q = pairs-long s keys′ (n + 1) (omega arith) in omega arith in
                 let z : 64 - n ≡ suc (64 - (n + 1)) = omega arith in
@@ -102,7 +112,7 @@ module _ (s : Bytes) (first second : ℕ) (apart : Bool) (keys : List (List ℕ)
                   most = omega arith;
                   here = let q = found .2 in let p = less in omega arith;
                   so = λ κ st.
-                      entry κ st ∙ ap (λ i. told κ i before ((part (c .at) to s ∷ part (to + 1) (c .end) s ∷ []) ∷ linesFrom s (c .end + 1))) z
-                      ∙ told-next κ before (linesFrom s (c .end + 1)) (part (c .at) to s) (part (to + 1) (c .end) s) clean (paired-so κ st) (sym (is-new κ st) ∙ not-false b e) (64 - (n + 1)) (rw (← kept) long)
+                      entry κ st ∙ ap (λ i. told κ i before ((one ∷ other ∷ []) ∷ rest)) z
+                      ∙ told-next κ before rest one other clean (paired-so κ st) (sym (is-new κ st) ∙ not-false b e) (64 - (n + 1)) (rw (← kept) long)
                       ∙ rw (found .2, kept);
                 }

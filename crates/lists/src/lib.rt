@@ -69,17 +69,12 @@ fn is_fresh(text: &[u8], from: usize, to: usize, unique: bool, keys: &[Entry; 64
     true
 }
 
-fn has_places(keys: &[Entry], n: usize) -> bool
-    ensures { λ r. ⌜ (r ≡ true → length (now (keys .entry)) ≡ n) ⌝ }
-{
-    keys.len() == n
-}
-
 // An array without pairs. The test is one of types, and the compiled code has none.
 fn no_pairs(keys: &mut [Entry; 64])
     ensures { λ _. ⌜ length (now (keys .exit)) ≡ 64 ⌝ }
 {
-    if has_places(keys, 64) {
+    let places: &[Entry] = keys;
+    if places.len() == 64 {
         return;
     }
     *keys = [[0; 4]; 64];
