@@ -8,17 +8,16 @@ use reading::check_tree;
 use text::Number;
 use text::number_of;
 
-fn entry(starts: &[u16; 1024], sizes: &[u16; 1024], hints: &[u16; 4096], k: u32) -> u16 {
+fn entry(table: &[[u16; 2]; 1024], hints: &[u16; 4096], k: u32) -> u16 {
     let i = (k % 1024) as usize;
-    starts[i] ^ sizes[i] ^ hints[i]
+    table[i][0] ^ table[i][1] ^ hints[i]
 }
 
 fn once(text: &[u8], k: u32) -> u16 {
-    let mut starts = [0u16; 1024];
-    let mut sizes = [0u16; 1024];
+    let mut table = [[0u16; 2]; 1024];
     let mut hints = [0u16; 4096];
-    check_tree(text, &mut starts, &mut sizes, &mut hints);
-    entry(&starts, &sizes, &hints, k)
+    check_tree(text, &mut table, &mut hints);
+    entry(&table, &hints, k)
 }
 
 fn again(text: &[u8], times: u32) -> u16 {
@@ -32,10 +31,9 @@ fn again(text: &[u8], times: u32) -> u16 {
 }
 
 fn answer(text: &[u8]) -> Answer {
-    let mut starts = [0u16; 1024];
-    let mut sizes = [0u16; 1024];
+    let mut table = [[0u16; 2]; 1024];
     let mut hints = [0u16; 4096];
-    check_tree(text, &mut starts, &mut sizes, &mut hints)
+    check_tree(text, &mut table, &mut hints)
 }
 
 fn run(text: &[u8], times: &[u8]) {

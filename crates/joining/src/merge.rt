@@ -7,6 +7,7 @@ use lines::check::Noting;
 use lines::fields::Spot;
 use lists::check_constants;
 use lists::check_joins;
+use names::Entry;
 use projects::merge::merge_projects;
 use reading::note_query;
 use reading::note_tree;
@@ -19,19 +20,18 @@ ghost use Rattle.answers.specs.Outcome.{Answered};
 ghost use Rattle.algebra.specs.Tree.{Pattern};
 ghost use Rattle.merging.specs.Merge.{mergePatternsOutcome, mergeQueriesOutcome};
 ghost use Rattle.projects.specs.bridge.Joining.{Stands, HasRoom, KnownTree, KnownText, Lists, mergedBehind, ListsRead, TermsChecked, ListsChecked};
+ghost use Rattle.names.specs.bridge.Names.{startsOf, sizesOf};
 
 // merge_project_patterns: two trees that were checked, behind the left text's head.
 fn merge_trees(
     left: &[u8],
     left_from: usize,
-    left_starts: &[u16; 1024],
-    left_sizes: &[u16; 1024],
+    left_table: &[Entry; 1024],
     left_n: usize,
     left_spots: &[Spot],
     right: &[u8],
     right_from: usize,
-    right_starts: &[u16; 1024],
-    right_sizes: &[u16; 1024],
+    right_table: &[Entry; 1024],
     right_n: usize,
     right_spots: &[Spot],
     pairs: &[u8],
@@ -39,8 +39,8 @@ fn merge_trees(
     right_constants: &[u8],
     out: &mut [u8],
 ) -> Answer
-    requires { ⌜ ((p : Pattern) × Stands (now left) «left_from» (now «left_starts») (now «left_sizes») «left_n» (now «left_spots») p) × ((q : Pattern) × Stands (now right) «right_from» (now «right_starts») (now «right_sizes») «right_n» (now «right_spots») q) × ListsRead (now pairs) (now «left_constants») (now «right_constants») ⌝ }
-    ensures { λ r. ⌜ ((p q : Pattern) (js ks ls : List Pair) → Stands (now (left .entry)) «left_from» (now («left_starts» .entry)) (now («left_sizes» .entry)) «left_n» (now («left_spots» .entry)) p → Stands (now (right .entry)) «right_from» (now («right_starts» .entry)) (now («right_sizes» .entry)) «right_n» (now («right_spots» .entry)) q → Lists (now (pairs .entry)) (now («left_constants» .entry)) (now («right_constants» .entry)) js ks ls → Answered (mergedBehind (take «left_from» (now (left .entry))) p q js ks ls) (now (out .entry)) (now (out .exit)) r) ⌝ }
+    requires { ⌜ ((p : Pattern) × Stands (now left) «left_from» (startsOf (now «left_table»)) (sizesOf (now «left_table»)) «left_n» (now «left_spots») p) × ((q : Pattern) × Stands (now right) «right_from» (startsOf (now «right_table»)) (sizesOf (now «right_table»)) «right_n» (now «right_spots») q) × ListsRead (now pairs) (now «left_constants») (now «right_constants») ⌝ }
+    ensures { λ r. ⌜ ((p q : Pattern) (js ks ls : List Pair) → Stands (now (left .entry)) «left_from» (startsOf (now («left_table» .entry))) (sizesOf (now («left_table» .entry))) «left_n» (now («left_spots» .entry)) p → Stands (now (right .entry)) «right_from» (startsOf (now («right_table» .entry))) (sizesOf (now («right_table» .entry))) «right_n» (now («right_spots» .entry)) q → Lists (now (pairs .entry)) (now («left_constants» .entry)) (now («right_constants» .entry)) js ks ls → Answered (mergedBehind (take «left_from» (now (left .entry))) p q js ks ls) (now (out .entry)) (now (out .exit)) r) ⌝ }
 {
     if !is_project(left, left_from) {
         return Answer::NotProject;
@@ -51,14 +51,12 @@ fn merge_trees(
     merge_projects(
         left,
         left_from,
-        left_starts,
-        left_sizes,
+        left_table,
         left_n,
         left_spots,
         right,
         right_from,
-        right_starts,
-        right_sizes,
+        right_table,
         right_n,
         right_spots,
         pairs,
@@ -105,13 +103,11 @@ fn longer(a: usize, b: usize) -> usize
 // The same for two trees that were checked and any lists.
 fn merge_listed(
     left: &[u8],
-    left_starts: &[u16; 1024],
-    left_sizes: &[u16; 1024],
+    left_table: &[Entry; 1024],
     left_n: usize,
     left_spots: &[Spot],
     right: &[u8],
-    right_starts: &[u16; 1024],
-    right_sizes: &[u16; 1024],
+    right_table: &[Entry; 1024],
     right_n: usize,
     right_spots: &[Spot],
     pairs: &[u8],
@@ -119,21 +115,19 @@ fn merge_listed(
     right_constants: &[u8],
     out: &mut [u8],
 ) -> Answer
-    requires { ⌜ KnownTree (now left) (now «left_starts») (now «left_sizes») «left_n» (now «left_spots») × KnownTree (now right) (now «right_starts») (now «right_sizes») «right_n» (now «right_spots») ⌝ }
+    requires { ⌜ KnownTree (now left) (startsOf (now «left_table»)) (sizesOf (now «left_table»)) «left_n» (now «left_spots») × KnownTree (now right) (startsOf (now «right_table»)) (sizesOf (now «right_table»)) «right_n» (now «right_spots») ⌝ }
     ensures { λ r. ⌜ Answered (mergePatternsOutcome (now (left .entry)) (now (right .entry)) (now (pairs .entry)) (now («left_constants» .entry)) (now («right_constants» .entry))) (now (out .entry)) (now (out .exit)) r ⌝ }
 {
     match check_lists(pairs, left_constants, right_constants) {
         Check::Good(_) => merge_trees(
             left,
             0,
-            left_starts,
-            left_sizes,
+            left_table,
             left_n,
             left_spots,
             right,
             0,
-            right_starts,
-            right_sizes,
+            right_table,
             right_n,
             right_spots,
             pairs,
@@ -149,8 +143,7 @@ fn merge_listed(
 // The same for a left text that was checked and any right one.
 fn merge_right(
     left: &[u8],
-    left_starts: &[u16; 1024],
-    left_sizes: &[u16; 1024],
+    left_table: &[Entry; 1024],
     left_n: usize,
     left_spots: &[Spot],
     right: &[u8],
@@ -160,28 +153,19 @@ fn merge_right(
     right_constants: &[u8],
     out: &mut [u8],
 ) -> Answer
-    requires { ⌜ KnownTree (now left) (now «left_starts») (now «left_sizes») «left_n» (now «left_spots») × HasRoom (now right) (now «right_spots») ⌝ }
+    requires { ⌜ KnownTree (now left) (startsOf (now «left_table»)) (sizesOf (now «left_table»)) «left_n» (now «left_spots») × HasRoom (now right) (now «right_spots») ⌝ }
     ensures { λ r. ⌜ Answered (mergePatternsOutcome (now (left .entry)) (now (right .entry)) (now (pairs .entry)) (now («left_constants» .entry)) (now («right_constants» .entry))) (now (out .entry)) (now (out .exit)) r ⌝ }
 {
-    let mut right_starts = [0u16; 1024];
-    let mut right_sizes = [0u16; 1024];
+    let mut right_table = [[0u16; 2]; 1024];
     let mut hints = [0u16; 4096];
-    match note_tree(
-        right,
-        &mut right_starts,
-        &mut right_sizes,
-        &mut hints,
-        right_spots,
-    ) {
+    match note_tree(right, &mut right_table, &mut hints, right_spots) {
         Noting::Good(right_n, k) => merge_listed(
             left,
-            left_starts,
-            left_sizes,
+            left_table,
             left_n,
             left_spots,
             right,
-            &right_starts,
-            &right_sizes,
+            &right_table,
             right_n,
             &right_spots[..k],
             pairs,
@@ -208,20 +192,12 @@ fn merge_left(
     requires { ⌜ HasRoom (now left) (now «left_spots») × HasRoom (now right) (now «right_spots») ⌝ }
     ensures { λ r. ⌜ Answered (mergePatternsOutcome (now (left .entry)) (now (right .entry)) (now (pairs .entry)) (now («left_constants» .entry)) (now («right_constants» .entry))) (now (out .entry)) (now (out .exit)) r ⌝ }
 {
-    let mut left_starts = [0u16; 1024];
-    let mut left_sizes = [0u16; 1024];
+    let mut left_table = [[0u16; 2]; 1024];
     let mut hints = [0u16; 4096];
-    match note_tree(
-        left,
-        &mut left_starts,
-        &mut left_sizes,
-        &mut hints,
-        left_spots,
-    ) {
+    match note_tree(left, &mut left_table, &mut hints, left_spots) {
         Noting::Good(left_n, k) => merge_right(
             left,
-            &left_starts,
-            &left_sizes,
+            &left_table,
             left_n,
             &left_spots[..k],
             right,
@@ -293,13 +269,11 @@ pub fn merge_patterns(
 // The same for two queries and lists that were checked: 5 unless their heads are one, then their trees.
 fn merge_heads(
     left: &[u8],
-    left_starts: &[u16; 1024],
-    left_sizes: &[u16; 1024],
+    left_table: &[Entry; 1024],
     left_n: usize,
     left_spots: &[Spot],
     right: &[u8],
-    right_starts: &[u16; 1024],
-    right_sizes: &[u16; 1024],
+    right_table: &[Entry; 1024],
     right_n: usize,
     right_spots: &[Spot],
     pairs: &[u8],
@@ -307,7 +281,7 @@ fn merge_heads(
     right_constants: &[u8],
     out: &mut [u8],
 ) -> Answer
-    requires { ⌜ KnownText (now left) (now «left_starts») (now «left_sizes») «left_n» (now «left_spots») × KnownText (now right) (now «right_starts») (now «right_sizes») «right_n» (now «right_spots») × ListsRead (now pairs) (now «left_constants») (now «right_constants») ⌝ }
+    requires { ⌜ KnownText (now left) (startsOf (now «left_table»)) (sizesOf (now «left_table»)) «left_n» (now «left_spots») × KnownText (now right) (startsOf (now «right_table»)) (sizesOf (now «right_table»)) «right_n» (now «right_spots») × ListsRead (now pairs) (now «left_constants») (now «right_constants») ⌝ }
     ensures { λ r. ⌜ Answered (mergeQueriesOutcome (now (left .entry)) (now (right .entry)) (now (pairs .entry)) (now («left_constants» .entry)) (now («right_constants» .entry))) (now (out .entry)) (now (out .exit)) r ⌝ }
 {
     let left_from = tree_start(left);
@@ -318,14 +292,12 @@ fn merge_heads(
     merge_trees(
         left,
         left_from,
-        left_starts,
-        left_sizes,
+        left_table,
         left_n,
         left_spots,
         right,
         right_from,
-        right_starts,
-        right_sizes,
+        right_table,
         right_n,
         right_spots,
         pairs,
@@ -338,13 +310,11 @@ fn merge_heads(
 // The same for two queries that were checked and any lists.
 fn merge_listed_queries(
     left: &[u8],
-    left_starts: &[u16; 1024],
-    left_sizes: &[u16; 1024],
+    left_table: &[Entry; 1024],
     left_n: usize,
     left_spots: &[Spot],
     right: &[u8],
-    right_starts: &[u16; 1024],
-    right_sizes: &[u16; 1024],
+    right_table: &[Entry; 1024],
     right_n: usize,
     right_spots: &[Spot],
     pairs: &[u8],
@@ -352,19 +322,17 @@ fn merge_listed_queries(
     right_constants: &[u8],
     out: &mut [u8],
 ) -> Answer
-    requires { ⌜ KnownText (now left) (now «left_starts») (now «left_sizes») «left_n» (now «left_spots») × KnownText (now right) (now «right_starts») (now «right_sizes») «right_n» (now «right_spots») ⌝ }
+    requires { ⌜ KnownText (now left) (startsOf (now «left_table»)) (sizesOf (now «left_table»)) «left_n» (now «left_spots») × KnownText (now right) (startsOf (now «right_table»)) (sizesOf (now «right_table»)) «right_n» (now «right_spots») ⌝ }
     ensures { λ r. ⌜ Answered (mergeQueriesOutcome (now (left .entry)) (now (right .entry)) (now (pairs .entry)) (now («left_constants» .entry)) (now («right_constants» .entry))) (now (out .entry)) (now (out .exit)) r ⌝ }
 {
     match check_lists(pairs, left_constants, right_constants) {
         Check::Good(_) => merge_heads(
             left,
-            left_starts,
-            left_sizes,
+            left_table,
             left_n,
             left_spots,
             right,
-            right_starts,
-            right_sizes,
+            right_table,
             right_n,
             right_spots,
             pairs,
@@ -380,8 +348,7 @@ fn merge_listed_queries(
 // The same for a left text that was checked and any right one.
 fn merge_right_query(
     left: &[u8],
-    left_starts: &[u16; 1024],
-    left_sizes: &[u16; 1024],
+    left_table: &[Entry; 1024],
     left_n: usize,
     left_spots: &[Spot],
     right: &[u8],
@@ -391,28 +358,19 @@ fn merge_right_query(
     right_constants: &[u8],
     out: &mut [u8],
 ) -> Answer
-    requires { ⌜ KnownText (now left) (now «left_starts») (now «left_sizes») «left_n» (now «left_spots») × HasRoom (now right) (now «right_spots») ⌝ }
+    requires { ⌜ KnownText (now left) (startsOf (now «left_table»)) (sizesOf (now «left_table»)) «left_n» (now «left_spots») × HasRoom (now right) (now «right_spots») ⌝ }
     ensures { λ r. ⌜ Answered (mergeQueriesOutcome (now (left .entry)) (now (right .entry)) (now (pairs .entry)) (now («left_constants» .entry)) (now («right_constants» .entry))) (now (out .entry)) (now (out .exit)) r ⌝ }
 {
-    let mut right_starts = [0u16; 1024];
-    let mut right_sizes = [0u16; 1024];
+    let mut right_table = [[0u16; 2]; 1024];
     let mut hints = [0u16; 4096];
-    match note_query(
-        right,
-        &mut right_starts,
-        &mut right_sizes,
-        &mut hints,
-        right_spots,
-    ) {
+    match note_query(right, &mut right_table, &mut hints, right_spots) {
         Noting::Good(right_n, k) => merge_listed_queries(
             left,
-            left_starts,
-            left_sizes,
+            left_table,
             left_n,
             left_spots,
             right,
-            &right_starts,
-            &right_sizes,
+            &right_table,
             right_n,
             &right_spots[..k],
             pairs,
@@ -439,20 +397,12 @@ fn merge_left_query(
     requires { ⌜ HasRoom (now left) (now «left_spots») × HasRoom (now right) (now «right_spots») ⌝ }
     ensures { λ r. ⌜ Answered (mergeQueriesOutcome (now (left .entry)) (now (right .entry)) (now (pairs .entry)) (now («left_constants» .entry)) (now («right_constants» .entry))) (now (out .entry)) (now (out .exit)) r ⌝ }
 {
-    let mut left_starts = [0u16; 1024];
-    let mut left_sizes = [0u16; 1024];
+    let mut left_table = [[0u16; 2]; 1024];
     let mut hints = [0u16; 4096];
-    match note_query(
-        left,
-        &mut left_starts,
-        &mut left_sizes,
-        &mut hints,
-        left_spots,
-    ) {
+    match note_query(left, &mut left_table, &mut hints, left_spots) {
         Noting::Good(left_n, k) => merge_right_query(
             left,
-            &left_starts,
-            &left_sizes,
+            &left_table,
             left_n,
             &left_spots[..k],
             right,

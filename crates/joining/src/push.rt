@@ -7,24 +7,25 @@ use heads::tree_start;
 use lines::check::Noting;
 use lines::fields::Spot;
 use lists::check_constants;
+use names::Entry;
 use projects::push::push_in_project;
 use reading::note_query;
 use sides::side::is_project;
 ghost use Rattle.answers.specs.Outcome.{Answered};
 ghost use Rattle.merging.specs.Push.{pushConstantsOutcome};
 ghost use Rattle.projects.specs.bridge.Joining.{HasRoom, KnownText, KnownTerms};
+ghost use Rattle.names.specs.bridge.Names.{startsOf, sizesOf};
 
 // push_constants, for a query and constants that were checked.
 fn push_of(
     query: &[u8],
-    starts: &[u16; 1024],
-    sizes: &[u16; 1024],
+    table: &[Entry; 1024],
     n: usize,
     spots: &[Spot],
     constants: &[u8],
     out: &mut [u8],
 ) -> Answer
-    requires { ⌜ KnownText (now query) (now starts) (now sizes) n (now spots) × KnownTerms (now constants) ⌝ }
+    requires { ⌜ KnownText (now query) (startsOf (now table)) (sizesOf (now table)) n (now spots) × KnownTerms (now constants) ⌝ }
     ensures { λ r. ⌜ Answered (pushConstantsOutcome (now (query .entry)) (now (constants .entry))) (now (out .entry)) (now (out .exit)) r ⌝ }
 {
     if !is_select_or_ask(query) {
@@ -34,25 +35,24 @@ fn push_of(
     if !is_project(query, from) {
         return copy(query, out);
     }
-    push_in_project(query, from, starts, sizes, n, spots, constants, out)
+    push_in_project(query, from, table, n, spots, constants, out)
 }
 
 // The same for a query that was checked and any constants.
 fn push_by(
     query: &[u8],
-    starts: &[u16; 1024],
-    sizes: &[u16; 1024],
+    table: &[Entry; 1024],
     n: usize,
     spots: &[Spot],
     constants: &[u8],
     out: &mut [u8],
 ) -> Answer
-    requires { ⌜ KnownText (now query) (now starts) (now sizes) n (now spots) ⌝ }
+    requires { ⌜ KnownText (now query) (startsOf (now table)) (sizesOf (now table)) n (now spots) ⌝ }
     ensures { λ r. ⌜ Answered (pushConstantsOutcome (now (query .entry)) (now (constants .entry))) (now (out .entry)) (now (out .exit)) r ⌝ }
 {
     let mut keys = [[0u16; 4]; 64];
     match check_constants(constants, &mut keys) {
-        Check::Good(_) => push_of(query, starts, sizes, n, spots, constants, out),
+        Check::Good(_) => push_of(query, table, n, spots, constants, out),
         Check::Malformed => Answer::Malformed,
         Check::OverBound => Answer::OverBound,
     }
@@ -63,11 +63,10 @@ fn push_with(query: &[u8], spots: &mut [Spot], constants: &[u8], out: &mut [u8])
     requires { ⌜ HasRoom (now query) (now spots) ⌝ }
     ensures { λ r. ⌜ Answered (pushConstantsOutcome (now (query .entry)) (now (constants .entry))) (now (out .entry)) (now (out .exit)) r ⌝ }
 {
-    let mut starts = [0u16; 1024];
-    let mut sizes = [0u16; 1024];
+    let mut table = [[0u16; 2]; 1024];
     let mut hints = [0u16; 4096];
-    match note_query(query, &mut starts, &mut sizes, &mut hints, spots) {
-        Noting::Good(n, k) => push_by(query, &starts, &sizes, n, &spots[..k], constants, out),
+    match note_query(query, &mut table, &mut hints, spots) {
+        Noting::Good(n, k) => push_by(query, &table, n, &spots[..k], constants, out),
         Noting::Malformed => Answer::Malformed,
         Noting::OverBound => Answer::OverBound,
     }

@@ -44,7 +44,7 @@ no-digit [] n e = let z : _≡_ {A = ℕ} 0 1 = cc in omega arith
 no-digit (d ∷ ds) n e = let z : _≡_ {A = ℕ} 0 1 = cc in omega arith
 
 -- a number is no variable
-number-fixed : (f : Bytes) (n : ℕ) → numberOf f ≡ some n → isVar f ≡ false
+pub number-fixed : (f : Bytes) (n : ℕ) → numberOf f ≡ some n → isVar f ≡ false
 unfolding isVar
 number-fixed [] n e = refl
 number-fixed (d ∷ ds) n e = not-variable (d ∷ ds) (λ q. no-digit ds n (ap (λ (x : ℕ). numberOf (x ∷ ds)) (sym q) ∙ e))
@@ -54,7 +54,7 @@ unfolding isKind isIri isLiteral isDash
 no-cell f q = rw (q, and-none (leb 2 (length f)), and-none (leb 1 (length f)), and-none (eqb (length f) 1))
 
 -- an IRI, a literal or a dash begins with another byte
-cell-fixed : (f : Bytes) → fits cell f ≡ true → isVar f ≡ false
+pub cell-fixed : (f : Bytes) → fits cell f ≡ true → isVar f ≡ false
 unfolding fits
 cell-fixed f h = not-variable f (λ q. true≢false (sym (and-right (clean f) (isKind cell f) h) ∙ no-cell f q))
 

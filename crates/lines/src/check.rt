@@ -6,6 +6,7 @@ use crate::line::Line;
 use crate::line::read_line;
 use algebra::Answer;
 use cursor::Cursor;
+use names::Entry;
 use reader::next_end;
 use words::Row;
 ghost use mathlib.Core.Path.{_≡_};
@@ -17,7 +18,7 @@ ghost use lib.Dec.{eqb};
 ghost use Rattle.text.specs.Text.{linesFrom};
 ghost use Rattle.algebra.specs.Tally.{Tally, bounds};
 ghost use Rattle.algebra.specs.bridge.Machine.{Want, want, More, done, entries, run, checkText};
-ghost use Rattle.names.specs.bridge.Names.{Holds};
+ghost use Rattle.names.specs.bridge.Names.{Holds, startsOf, sizesOf};
 ghost use Rattle.algebra.specs.bridge.Table.{opens};
 ghost use Rattle.algebra.specs.declared.Answer.the-variants.{Good as GoodOf};
 ghost use Rattle.scoping.specs.bridge.Walk.{times as many, child, beneath, tree};
@@ -106,15 +107,14 @@ fn take_line(
     width: usize,
     mark: u8,
     s: &[u8],
-    starts: &mut [u16; 1024],
-    sizes: &mut [u16; 1024],
+    table: &mut [Entry; 1024],
     hints: &mut [u16; 4096],
     spots: &mut [Spot],
 ) -> Taken
     requires { ⌜ (sort ≤ 11) × Ready (now s) p ⌝ }
-    ensures { λ r. ⌜ ((ρ : More) (ws : List Want) (m : Tally) → Stood (now (s .entry)) (now (starts .entry)) (now (sizes .entry)) (now (hints .entry)) p m → Went (now (s .entry)) (now (starts .exit)) (now (sizes .exit)) (now (hints .exit)) ρ (groups 3 (r .row .below) (below sort level) (r .first) (r .second) ++ ws) (run bounds (linesFrom (now (s .entry)) (p .from)) ρ (want (sortAt sort) level width ∷ ws) m) (r .place)) ⌝ }
+    ensures { λ r. ⌜ ((ρ : More) (ws : List Want) (m : Tally) → Stood (now (s .entry)) (startsOf (now (table .entry))) (sizesOf (now (table .entry))) (now (hints .entry)) p m → Went (now (s .entry)) (startsOf (now (table .exit))) (sizesOf (now (table .exit))) (now (hints .exit)) ρ (groups 3 (r .row .below) (below sort level) (r .first) (r .second) ++ ws) (run bounds (linesFrom (now (s .entry)) (p .from)) ρ (want (sortAt sort) level width ∷ ws) m) (r .place)) ⌝ }
     ensures sound { λ r. ⌜ (r .place .fault ≡ 0 → Sound (now (s .entry)) p sort level r) ⌝ }
-    ensures walks { λ r. ⌜ (r .place .fault ≡ 0 → sort ≤ 7 → LineWalks (now (s .entry)) (storeAt (now (starts .entry)) (now (sizes .entry)) (now (spots .entry)) p) p (storeAt (now (starts .exit)) (now (sizes .exit)) (now (spots .exit)) (r .place)) sort mark r) ⌝ }
+    ensures walks { λ r. ⌜ (r .place .fault ≡ 0 → sort ≤ 7 → LineWalks (now (s .entry)) (storeAt (startsOf (now (table .entry))) (sizesOf (now (table .entry))) (now (spots .entry)) p) p (storeAt (startsOf (now (table .exit))) (sizesOf (now (table .exit))) (now (spots .exit)) (r .place)) sort mark r) ⌝ }
 {
     let from = p.from;
     if s.len() <= from {
@@ -137,8 +137,7 @@ fn take_line(
         width,
         p.lines,
         mark,
-        starts,
-        sizes,
+        table,
         hints,
         p.n,
         spots,
@@ -177,18 +176,17 @@ fn check_entry(
     width: usize,
     mark: u8,
     s: &[u8],
-    starts: &mut [u16; 1024],
-    sizes: &mut [u16; 1024],
+    table: &mut [Entry; 1024],
     hints: &mut [u16; 4096],
     spots: &mut [Spot],
 ) -> Place
     requires { ⌜ (sort ≤ 11) × Ready (now s) p ⌝ }
-    ensures { λ r. ⌜ ((ρ : More) (ws : List Want) (m : Tally) → Stood (now (s .entry)) (now (starts .entry)) (now (sizes .entry)) (now (hints .entry)) p m → Went (now (s .entry)) (now (starts .exit)) (now (sizes .exit)) (now (hints .exit)) ρ ws (run bounds (linesFrom (now (s .entry)) (p .from)) ρ (want (sortAt sort) level width ∷ ws) m) r) ⌝ }
+    ensures { λ r. ⌜ ((ρ : More) (ws : List Want) (m : Tally) → Stood (now (s .entry)) (startsOf (now (table .entry))) (sizesOf (now (table .entry))) (now (hints .entry)) p m → Went (now (s .entry)) (startsOf (now (table .exit))) (sizesOf (now (table .exit))) (now (hints .exit)) ρ ws (run bounds (linesFrom (now (s .entry)) (p .from)) ρ (want (sortAt sort) level width ∷ ws) m) r) ⌝ }
     ensures ready { λ r. ⌜ (r .fault ≡ 0 → (p .from < r .from) × Ready (now (s .entry)) r) ⌝ }
-    ensures walks { λ r. ⌜ (r .fault ≡ 0 → sort ≤ 7 → Walks (now (s .entry)) (storeAt (now (starts .entry)) (now (sizes .entry)) (now (spots .entry)) p) p (storeAt (now (starts .exit)) (now (sizes .exit)) (now (spots .exit)) r) r (entryOf level sort (markAt mark))) ⌝ }
+    ensures walks { λ r. ⌜ (r .fault ≡ 0 → sort ≤ 7 → Walks (now (s .entry)) (storeAt (startsOf (now (table .entry))) (sizesOf (now (table .entry))) (now (spots .entry)) p) p (storeAt (startsOf (now (table .exit))) (sizesOf (now (table .exit))) (now (spots .exit)) r) r (entryOf level sort (markAt mark))) ⌝ }
     ensures deep { λ r. ⌜ (r .fault ≡ 0 → opens (sortAt sort) ≡ true → level ≡ 0 → ⊥) ⌝ }
 {
-    let t = take_line(p, level, sort, width, mark, s, starts, sizes, hints, spots);
+    let t = take_line(p, level, sort, width, mark, s, table, hints, spots);
     let q = t.place;
     if q.fault != 0 {
         return q;
@@ -197,19 +195,7 @@ fn check_entry(
         return q;
     }
     let d = below_level(sort, level);
-    check_below(
-        q,
-        d,
-        t.row,
-        t.first,
-        t.second,
-        mark,
-        s,
-        starts,
-        sizes,
-        hints,
-        spots,
-    )
+    check_below(q, d, t.row, t.first, t.second, mark, s, table, hints, spots)
 }
 
 // The groups of lines that a line with that row asks for.
@@ -221,15 +207,14 @@ fn check_below(
     second: usize,
     mark: u8,
     s: &[u8],
-    starts: &mut [u16; 1024],
-    sizes: &mut [u16; 1024],
+    table: &mut [Entry; 1024],
     hints: &mut [u16; 4096],
     spots: &mut [Spot],
 ) -> Place
     requires { ⌜ (sortsIn 11 3 (row .below) ≡ true) × (first < 4294967296) × (second < 4294967296) × Ready (now s) p ⌝ }
-    ensures { λ r. ⌜ ((ρ : More) (ws : List Want) (m : Tally) → Stood (now (s .entry)) (now (starts .entry)) (now (sizes .entry)) (now (hints .entry)) p m → Went (now (s .entry)) (now (starts .exit)) (now (sizes .exit)) (now (hints .exit)) ρ ws (run bounds (linesFrom (now (s .entry)) (p .from)) ρ (groups 3 (row .below) level first second ++ ws) m) r) ⌝ }
+    ensures { λ r. ⌜ ((ρ : More) (ws : List Want) (m : Tally) → Stood (now (s .entry)) (startsOf (now (table .entry))) (sizesOf (now (table .entry))) (now (hints .entry)) p m → Went (now (s .entry)) (startsOf (now (table .exit))) (sizesOf (now (table .exit))) (now (hints .exit)) ρ ws (run bounds (linesFrom (now (s .entry)) (p .from)) ρ (groups 3 (row .below) level first second ++ ws) m) r) ⌝ }
     ensures ready { λ r. ⌜ (r .fault ≡ 0 → (p .from ≤ r .from) × Ready (now (s .entry)) r) ⌝ }
-    ensures walks { λ r. ⌜ (r .fault ≡ 0 → sortsIn 6 3 (row .below) ≡ true → Walks (now (s .entry)) (storeAt (now (starts .entry)) (now (sizes .entry)) (now (spots .entry)) p) p (storeAt (now (starts .exit)) (now (sizes .exit)) (now (spots .exit)) r) r (beneath spotLine (tree spotLine level) (eqb (row .flag) 1) (markAt mark) (groupsIn 3 (row .below)) (first ∷ second ∷ []))) ⌝ }
+    ensures walks { λ r. ⌜ (r .fault ≡ 0 → sortsIn 6 3 (row .below) ≡ true → Walks (now (s .entry)) (storeAt (startsOf (now (table .entry))) (sizesOf (now (table .entry))) (now (spots .entry)) p) p (storeAt (startsOf (now (table .exit))) (sizesOf (now (table .exit))) (now (spots .exit)) r) r (beneath spotLine (tree spotLine level) (eqb (row .flag) 1) (markAt mark) (groupsIn 3 (row .below)) (first ∷ second ∷ []))) ⌝ }
 {
     let mut q = p;
     let mut code = row.below;
@@ -244,8 +229,7 @@ fn check_below(
             mark,
             row.flag,
             s,
-            starts,
-            sizes,
+            table,
             hints,
             spots,
         );
@@ -267,22 +251,21 @@ fn check_lines(
     mark: u8,
     flag: u8,
     s: &[u8],
-    starts: &mut [u16; 1024],
-    sizes: &mut [u16; 1024],
+    table: &mut [Entry; 1024],
     hints: &mut [u16; 4096],
     spots: &mut [Spot],
 ) -> Place
     requires { ⌜ (sort ≤ 11) × Ready (now s) p ⌝ }
-    ensures { λ r. ⌜ ((ρ : More) (ws : List Want) (m : Tally) → Stood (now (s .entry)) (now (starts .entry)) (now (sizes .entry)) (now (hints .entry)) p m → Went (now (s .entry)) (now (starts .exit)) (now (sizes .exit)) (now (hints .exit)) ρ ws (run bounds (linesFrom (now (s .entry)) (p .from)) ρ (replicate times (want (sortAt sort) level width) ++ ws) m) r) ⌝ }
+    ensures { λ r. ⌜ ((ρ : More) (ws : List Want) (m : Tally) → Stood (now (s .entry)) (startsOf (now (table .entry))) (sizesOf (now (table .entry))) (now (hints .entry)) p m → Went (now (s .entry)) (startsOf (now (table .exit))) (sizesOf (now (table .exit))) (now (hints .exit)) ρ ws (run bounds (linesFrom (now (s .entry)) (p .from)) ρ (replicate times (want (sortAt sort) level width) ++ ws) m) r) ⌝ }
     ensures ready { λ r. ⌜ (r .fault ≡ 0 → (p .from ≤ r .from) × Ready (now (s .entry)) r) ⌝ }
-    ensures walks { λ r. ⌜ (r .fault ≡ 0 → sort ≤ 6 → Walks (now (s .entry)) (storeAt (now (starts .entry)) (now (sizes .entry)) (now (spots .entry)) p) p (storeAt (now (starts .exit)) (now (sizes .exit)) (now (spots .exit)) r) r (many (child spotLine (tree spotLine level) (eqb flag 1) (markAt mark) (sortAt sort)) times)) ⌝ }
+    ensures walks { λ r. ⌜ (r .fault ≡ 0 → sort ≤ 6 → Walks (now (s .entry)) (storeAt (startsOf (now (table .entry))) (sizesOf (now (table .entry))) (now (spots .entry)) p) p (storeAt (startsOf (now (table .exit))) (sizesOf (now (table .exit))) (now (spots .exit)) r) r (many (child spotLine (tree spotLine level) (eqb flag 1) (markAt mark) (sortAt sort)) times)) ⌝ }
 {
     let mut q = p;
     let mut left = times;
     while 0 < left {
         left -= 1;
         let m = mark_below(sort, flag, left == 0, mark);
-        q = check_child(q, level, sort, width, m, s, starts, sizes, hints, spots);
+        q = check_child(q, level, sort, width, m, s, table, hints, spots);
         if q.fault != 0 {
             return q;
         }
@@ -297,18 +280,17 @@ fn check_pattern(
     width: usize,
     mark: u8,
     s: &[u8],
-    starts: &mut [u16; 1024],
-    sizes: &mut [u16; 1024],
+    table: &mut [Entry; 1024],
     hints: &mut [u16; 4096],
     spots: &mut [Spot],
 ) -> Place
     requires { ⌜ Ready (now s) p ⌝ }
-    ensures { λ r. ⌜ ((ρ : More) (ws : List Want) (m : Tally) → Stood (now (s .entry)) (now (starts .entry)) (now (sizes .entry)) (now (hints .entry)) p m → Went (now (s .entry)) (now (starts .exit)) (now (sizes .exit)) (now (hints .exit)) ρ ws (run bounds (linesFrom (now (s .entry)) (p .from)) ρ (want (sortAt 2) level width ∷ ws) m) r) ⌝ }
+    ensures { λ r. ⌜ ((ρ : More) (ws : List Want) (m : Tally) → Stood (now (s .entry)) (startsOf (now (table .entry))) (sizesOf (now (table .entry))) (now (hints .entry)) p m → Went (now (s .entry)) (startsOf (now (table .exit))) (sizesOf (now (table .exit))) (now (hints .exit)) ρ ws (run bounds (linesFrom (now (s .entry)) (p .from)) ρ (want (sortAt 2) level width ∷ ws) m) r) ⌝ }
     ensures ready { λ r. ⌜ (r .fault ≡ 0 → (p .from < r .from) × Ready (now (s .entry)) r) ⌝ }
-    ensures walks { λ r. ⌜ (r .fault ≡ 0 → Walks (now (s .entry)) (storeAt (now (starts .entry)) (now (sizes .entry)) (now (spots .entry)) p) p (storeAt (now (starts .exit)) (now (sizes .exit)) (now (spots .exit)) r) r (entryOf level 2 (markAt mark))) ⌝ }
+    ensures walks { λ r. ⌜ (r .fault ≡ 0 → Walks (now (s .entry)) (storeAt (startsOf (now (table .entry))) (sizesOf (now (table .entry))) (now (spots .entry)) p) p (storeAt (startsOf (now (table .exit))) (sizesOf (now (table .exit))) (now (spots .exit)) r) r (entryOf level 2 (markAt mark))) ⌝ }
     ensures deep { λ r. ⌜ (r .fault ≡ 0 → opens (sortAt 2) ≡ true → level ≡ 0 → ⊥) ⌝ }
 {
-    check_entry(p, level, 2, width, mark, s, starts, sizes, hints, spots)
+    check_entry(p, level, 2, width, mark, s, table, hints, spots)
 }
 
 // An expression with all that stands below it: none of its variables is visible or covered.
@@ -317,18 +299,17 @@ fn check_expression(
     level: u8,
     width: usize,
     s: &[u8],
-    starts: &mut [u16; 1024],
-    sizes: &mut [u16; 1024],
+    table: &mut [Entry; 1024],
     hints: &mut [u16; 4096],
     spots: &mut [Spot],
 ) -> Place
     requires { ⌜ Ready (now s) p ⌝ }
-    ensures { λ r. ⌜ ((ρ : More) (ws : List Want) (m : Tally) → Stood (now (s .entry)) (now (starts .entry)) (now (sizes .entry)) (now (hints .entry)) p m → Went (now (s .entry)) (now (starts .exit)) (now (sizes .exit)) (now (hints .exit)) ρ ws (run bounds (linesFrom (now (s .entry)) (p .from)) ρ (want (sortAt 3) level width ∷ ws) m) r) ⌝ }
+    ensures { λ r. ⌜ ((ρ : More) (ws : List Want) (m : Tally) → Stood (now (s .entry)) (startsOf (now (table .entry))) (sizesOf (now (table .entry))) (now (hints .entry)) p m → Went (now (s .entry)) (startsOf (now (table .exit))) (sizesOf (now (table .exit))) (now (hints .exit)) ρ ws (run bounds (linesFrom (now (s .entry)) (p .from)) ρ (want (sortAt 3) level width ∷ ws) m) r) ⌝ }
     ensures ready { λ r. ⌜ (r .fault ≡ 0 → (p .from < r .from) × Ready (now (s .entry)) r) ⌝ }
-    ensures walks { λ r. ⌜ (r .fault ≡ 0 → Walks (now (s .entry)) (storeAt (now (starts .entry)) (now (sizes .entry)) (now (spots .entry)) p) p (storeAt (now (starts .exit)) (now (sizes .exit)) (now (spots .exit)) r) r (entryOf level 3 silent)) ⌝ }
+    ensures walks { λ r. ⌜ (r .fault ≡ 0 → Walks (now (s .entry)) (storeAt (startsOf (now (table .entry))) (sizesOf (now (table .entry))) (now (spots .entry)) p) p (storeAt (startsOf (now (table .exit))) (sizesOf (now (table .exit))) (now (spots .exit)) r) r (entryOf level 3 silent)) ⌝ }
     ensures deep { λ r. ⌜ (r .fault ≡ 0 → opens (sortAt 3) ≡ true → level ≡ 0 → ⊥) ⌝ }
 {
-    check_entry(p, level, 3, width, 2, s, starts, sizes, hints, spots)
+    check_entry(p, level, 3, width, 2, s, table, hints, spots)
 }
 
 // A line below another, with all that it asks for: a pattern, an expression, or a line of another sort.
@@ -339,24 +320,23 @@ fn check_child(
     width: usize,
     mark: u8,
     s: &[u8],
-    starts: &mut [u16; 1024],
-    sizes: &mut [u16; 1024],
+    table: &mut [Entry; 1024],
     hints: &mut [u16; 4096],
     spots: &mut [Spot],
 ) -> Place
     requires { ⌜ ((sort ≤ 11) × (sort ≡ 3 → markAt mark ≡ silent)) × Ready (now s) p ⌝ }
-    ensures { λ r. ⌜ ((ρ : More) (ws : List Want) (m : Tally) → Stood (now (s .entry)) (now (starts .entry)) (now (sizes .entry)) (now (hints .entry)) p m → Went (now (s .entry)) (now (starts .exit)) (now (sizes .exit)) (now (hints .exit)) ρ ws (run bounds (linesFrom (now (s .entry)) (p .from)) ρ (want (sortAt sort) level width ∷ ws) m) r) ⌝ }
+    ensures { λ r. ⌜ ((ρ : More) (ws : List Want) (m : Tally) → Stood (now (s .entry)) (startsOf (now (table .entry))) (sizesOf (now (table .entry))) (now (hints .entry)) p m → Went (now (s .entry)) (startsOf (now (table .exit))) (sizesOf (now (table .exit))) (now (hints .exit)) ρ ws (run bounds (linesFrom (now (s .entry)) (p .from)) ρ (want (sortAt sort) level width ∷ ws) m) r) ⌝ }
     ensures ready { λ r. ⌜ (r .fault ≡ 0 → (p .from < r .from) × Ready (now (s .entry)) r) ⌝ }
-    ensures walks { λ r. ⌜ (r .fault ≡ 0 → sort ≤ 7 → Walks (now (s .entry)) (storeAt (now (starts .entry)) (now (sizes .entry)) (now (spots .entry)) p) p (storeAt (now (starts .exit)) (now (sizes .exit)) (now (spots .exit)) r) r (entryOf level sort (markAt mark))) ⌝ }
+    ensures walks { λ r. ⌜ (r .fault ≡ 0 → sort ≤ 7 → Walks (now (s .entry)) (storeAt (startsOf (now (table .entry))) (sizesOf (now (table .entry))) (now (spots .entry)) p) p (storeAt (startsOf (now (table .exit))) (sizesOf (now (table .exit))) (now (spots .exit)) r) r (entryOf level sort (markAt mark))) ⌝ }
     ensures deep { λ r. ⌜ (r .fault ≡ 0 → opens (sortAt sort) ≡ true → level ≡ 0 → ⊥) ⌝ }
 {
     if sort == 2 {
-        return check_pattern(p, level, width, mark, s, starts, sizes, hints, spots);
+        return check_pattern(p, level, width, mark, s, table, hints, spots);
     }
     if sort == 3 {
-        return check_expression(p, level, width, s, starts, sizes, hints, spots);
+        return check_expression(p, level, width, s, table, hints, spots);
     }
-    check_entry(p, level, sort, width, mark, s, starts, sizes, hints, spots)
+    check_entry(p, level, sort, width, mark, s, table, hints, spots)
 }
 
 // What a check that ended here says: a fault, lines that are left over, or the number of names.
@@ -380,15 +360,14 @@ pub fn check_one(
     s: &[u8],
     sort: u8,
     level: u8,
-    starts: &mut [u16; 1024],
-    sizes: &mut [u16; 1024],
+    table: &mut [Entry; 1024],
     hints: &mut [u16; 4096],
 ) -> Answer
-    requires { ⌜ (sort ≤ 11) × Holds (now s) (now starts) (now sizes) (now hints) 0 [] ⌝ }
-    ensures { λ r. ⌜ Tells (now (s .entry)) (now (starts .exit)) (now (sizes .exit)) (now (hints .exit)) (checkText bounds done (want (sortAt sort) level 0 ∷ []) (now (s .entry))) r ⌝ }
+    requires { ⌜ (sort ≤ 11) × Holds (now s) (startsOf (now table)) (sizesOf (now table)) (now hints) 0 [] ⌝ }
+    ensures { λ r. ⌜ Tells (now (s .entry)) (startsOf (now (table .exit))) (sizesOf (now (table .exit))) (now (hints .exit)) (checkText bounds done (want (sortAt sort) level 0 ∷ []) (now (s .entry))) r ⌝ }
 {
     let mut none: [Spot; 1] = [[0, 0, 0]];
-    let r = note_one(s, sort, level, starts, sizes, hints, &mut none);
+    let r = note_one(s, sort, level, table, hints, &mut none);
     match r {
         Noting::Good(n, _) => Answer::Good(n),
         Noting::Malformed => Answer::Malformed,
@@ -419,14 +398,13 @@ pub fn note_one(
     s: &[u8],
     sort: u8,
     level: u8,
-    starts: &mut [u16; 1024],
-    sizes: &mut [u16; 1024],
+    table: &mut [Entry; 1024],
     hints: &mut [u16; 4096],
     spots: &mut [Spot],
 ) -> Noting
-    requires { ⌜ (sort ≤ 11) × Holds (now s) (now starts) (now sizes) (now hints) 0 [] ⌝ }
-    ensures { λ r. ⌜ Tells (now (s .entry)) (now (starts .exit)) (now (sizes .exit)) (now (hints .exit)) (checkText bounds done (want (sortAt sort) level 0 ∷ []) (now (s .entry))) (answerOf r) ⌝ }
-    ensures charts { λ r. ⌜ (sort ≤ 7 → Charts (now (s .entry)) (now (starts .exit)) (now (sizes .exit)) (now (spots .entry)) (now (spots .exit)) sort level r) ⌝ }
+    requires { ⌜ (sort ≤ 11) × Holds (now s) (startsOf (now table)) (sizesOf (now table)) (now hints) 0 [] ⌝ }
+    ensures { λ r. ⌜ Tells (now (s .entry)) (startsOf (now (table .exit))) (sizesOf (now (table .exit))) (now (hints .exit)) (checkText bounds done (want (sortAt sort) level 0 ∷ []) (now (s .entry))) (answerOf r) ⌝ }
+    ensures charts { λ r. ⌜ (sort ≤ 7 → Charts (now (s .entry)) (startsOf (now (table .exit))) (sizesOf (now (table .exit))) (now (spots .entry)) (now (spots .exit)) sort level r) ⌝ }
 {
     if 16384 < s.len() {
         return Noting::OverBound;
@@ -438,7 +416,7 @@ pub fn note_one(
         spots: 0,
         fault: 0,
     };
-    let p = check_entry(start, level, sort, 0, 0, s, starts, sizes, hints, spots);
+    let p = check_entry(start, level, sort, 0, 0, s, table, hints, spots);
     noted(p, told(s, p))
 }
 
@@ -466,12 +444,11 @@ pub fn check_list(
     s: &[u8],
     sort: u8,
     level: u8,
-    starts: &mut [u16; 1024],
-    sizes: &mut [u16; 1024],
+    table: &mut [Entry; 1024],
     hints: &mut [u16; 4096],
 ) -> Answer
-    requires { ⌜ (sort ≤ 11) × Holds (now s) (now starts) (now sizes) (now hints) 0 [] ⌝ }
-    ensures { λ r. ⌜ Tells (now (s .entry)) (now (starts .exit)) (now (sizes .exit)) (now (hints .exit)) (checkText bounds (entries 64 (sortAt sort) level) [] (now (s .entry))) r ⌝ }
+    requires { ⌜ (sort ≤ 11) × Holds (now s) (startsOf (now table)) (sizesOf (now table)) (now hints) 0 [] ⌝ }
+    ensures { λ r. ⌜ Tells (now (s .entry)) (startsOf (now (table .exit))) (sizesOf (now (table .exit))) (now (hints .exit)) (checkText bounds (entries 64 (sortAt sort) level) [] (now (s .entry))) r ⌝ }
 {
     if 16384 < s.len() {
         return Answer::OverBound;
@@ -488,7 +465,7 @@ pub fn check_list(
     while p.from < s.len() {
         let d = entry_level(left, level);
         left = fewer(left);
-        p = check_entry(p, d, sort, 0, 0, s, starts, sizes, hints, &mut none);
+        p = check_entry(p, d, sort, 0, 0, s, table, hints, &mut none);
         if p.fault != 0 {
             return told(s, p);
         }

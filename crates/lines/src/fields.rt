@@ -1,6 +1,7 @@
 // The fields of a line, taken one after the other by what the table says of them.
 use cursor::Cursor;
 use cursor::Field;
+use names::Entry;
 use names::keep_name;
 use text::Number;
 use text::is_kind;
@@ -17,7 +18,7 @@ ghost use Rattle.text.specs.Field.{variable};
 ghost use Rattle.text.specs.bridge.Code.{kindAt};
 ghost use Rattle.algebra.specs.Tally.{notes};
 ghost use Rattle.algebra.specs.bridge.Table.{Slot, term, text, count, choice};
-ghost use Rattle.names.specs.bridge.Names.{Holds};
+ghost use Rattle.names.specs.bridge.Names.{Holds, startsOf, sizesOf};
 ghost use Rattle.lines.specs.bridge.Line.{takeField, takeTimes, takeValue, takeValues};
 ghost use Rattle.lines.specs.bridge.Steps.{InLine, leftAt, Follows, restOf, restIn, termsOf, termsIn, numberTaken};
 ghost use Rattle.lines.specs.bridge.Spotted.{markAt};
@@ -63,19 +64,18 @@ fn note_field(
     from: usize,
     size: usize,
     mark: u8,
-    starts: &mut [u16; 1024],
-    sizes: &mut [u16; 1024],
+    table: &mut [Entry; 1024],
     hints: &mut [u16; 4096],
     n: usize,
     spots: &mut [Spot],
     k: usize,
 ) -> Counts
     requires { ⌜ (from ≤ 16384) × (size ≤ 16384) × (from + size < length (now s)) ⌝ }
-    ensures keeps { λ r. ⌜ ((want : List (List ℕ)) → Holds (now (s .entry)) (now (starts .entry)) (now (sizes .entry)) (now (hints .entry)) n want → Holds (now (s .entry)) (now (starts .exit)) (now (sizes .exit)) (now (hints .exit)) (r .names) (notes (pieceOf from size (now (s .entry)) ∷ []) want)) ⌝ }
-    ensures adds { λ r. ⌜ Adds (now (s .entry)) (store (now (starts .entry)) (now (sizes .entry)) n (now (spots .entry)) k) from (store (now (starts .exit)) (now (sizes .exit)) (r .names) (now (spots .exit)) (r .spots)) (from + size + 1) (oneSpot (markAt mark) from (pieceOf from size (now (s .entry)))) [] ⌝ }
+    ensures keeps { λ r. ⌜ ((want : List (List ℕ)) → Holds (now (s .entry)) (startsOf (now (table .entry))) (sizesOf (now (table .entry))) (now (hints .entry)) n want → Holds (now (s .entry)) (startsOf (now (table .exit))) (sizesOf (now (table .exit))) (now (hints .exit)) (r .names) (notes (pieceOf from size (now (s .entry)) ∷ []) want)) ⌝ }
+    ensures adds { λ r. ⌜ Adds (now (s .entry)) (store (startsOf (now (table .entry))) (sizesOf (now (table .entry))) n (now (spots .entry)) k) from (store (startsOf (now (table .exit))) (sizesOf (now (table .exit))) (r .names) (now (spots .exit)) (r .spots)) (from + size + 1) (oneSpot (markAt mark) from (pieceOf from size (now (s .entry)))) [] ⌝ }
 {
     if is_var(piece(s, from, size)) {
-        let l = keep_name(s, from, size, starts, sizes, hints, n);
+        let l = keep_name(s, from, size, table, hints, n);
         let j = put_spot(spots, k, from, l.entry, mark);
         return Counts {
             names: l.names,
@@ -111,8 +111,7 @@ pub fn term_field(
     c: Cursor,
     kind: u8,
     mark: u8,
-    starts: &mut [u16; 1024],
-    sizes: &mut [u16; 1024],
+    table: &mut [Entry; 1024],
     hints: &mut [u16; 4096],
     n: usize,
     spots: &mut [Spot],
@@ -120,15 +119,15 @@ pub fn term_field(
 ) -> Noted
     requires { ⌜ InLine (now s) c ⌝ }
     ensures follows { λ r. ⌜ Follows (now (s .entry)) c (restOf (takeField (term (kindAt kind)) (leftAt (now (s .entry)) c))) (r .cursor) ⌝ }
-    ensures keeps { λ r. ⌜ ((want : List (List ℕ)) → Holds (now (s .entry)) (now (starts .entry)) (now (sizes .entry)) (now (hints .entry)) n want → Holds (now (s .entry)) (now (starts .exit)) (now (sizes .exit)) (now (hints .exit)) (r .names) (notes (termsOf (takeField (term (kindAt kind)) (leftAt (now (s .entry)) c))) want)) ⌝ }
-    ensures adds { λ r. ⌜ (r .cursor .at ≤ c .end + 1 → (ss : List Slot) → Adds (now (s .entry)) (store (now (starts .entry)) (now (sizes .entry)) n (now (spots .entry)) k) (c .at) (store (now (starts .exit)) (now (sizes .exit)) (r .names) (now (spots .exit)) (r .spots)) (r .cursor .at) (found (markAt mark) (term (kindAt kind) ∷ ss) (now (s .entry)) c) (found (markAt mark) ss (now (s .entry)) (r .cursor))) ⌝ }
+    ensures keeps { λ r. ⌜ ((want : List (List ℕ)) → Holds (now (s .entry)) (startsOf (now (table .entry))) (sizesOf (now (table .entry))) (now (hints .entry)) n want → Holds (now (s .entry)) (startsOf (now (table .exit))) (sizesOf (now (table .exit))) (now (hints .exit)) (r .names) (notes (termsOf (takeField (term (kindAt kind)) (leftAt (now (s .entry)) c))) want)) ⌝ }
+    ensures adds { λ r. ⌜ (r .cursor .at ≤ c .end + 1 → (ss : List Slot) → Adds (now (s .entry)) (store (startsOf (now (table .entry))) (sizesOf (now (table .entry))) n (now (spots .entry)) k) (c .at) (store (startsOf (now (table .exit))) (sizesOf (now (table .exit))) (r .names) (now (spots .exit)) (r .spots)) (r .cursor .at) (found (markAt mark) (term (kindAt kind) ∷ ss) (now (s .entry)) c) (found (markAt mark) ss (now (s .entry)) (r .cursor))) ⌝ }
 {
     let at = c.at;
     let field = c.next_field(s);
     match field {
         Field::At(e, next) => {
             if is_kind(kind, &s[at..e]) {
-                let m = note_field(s, at, e - at, mark, starts, sizes, hints, n, spots, k);
+                let m = note_field(s, at, e - at, mark, table, hints, n, spots, k);
                 return Noted {
                     cursor: next,
                     names: m.names,
@@ -261,8 +260,7 @@ fn variable_field(
     s: &[u8],
     c: Cursor,
     mark: u8,
-    starts: &mut [u16; 1024],
-    sizes: &mut [u16; 1024],
+    table: &mut [Entry; 1024],
     hints: &mut [u16; 4096],
     n: usize,
     spots: &mut [Spot],
@@ -270,15 +268,15 @@ fn variable_field(
 ) -> Noted
     requires { ⌜ InLine (now s) c ⌝ }
     ensures follows { λ r. ⌜ Follows (now (s .entry)) c (restOf (takeField (term variable) (leftAt (now (s .entry)) c))) (r .cursor) ⌝ }
-    ensures keeps { λ r. ⌜ ((want : List (List ℕ)) → Holds (now (s .entry)) (now (starts .entry)) (now (sizes .entry)) (now (hints .entry)) n want → Holds (now (s .entry)) (now (starts .exit)) (now (sizes .exit)) (now (hints .exit)) (r .names) (notes (termsOf (takeField (term variable) (leftAt (now (s .entry)) c))) want)) ⌝ }
-    ensures adds { λ r. ⌜ (r .cursor .at ≤ c .end + 1 → (ss : List Slot) → Adds (now (s .entry)) (store (now (starts .entry)) (now (sizes .entry)) n (now (spots .entry)) k) (c .at) (store (now (starts .exit)) (now (sizes .exit)) (r .names) (now (spots .exit)) (r .spots)) (r .cursor .at) (found (markAt mark) (term variable ∷ ss) (now (s .entry)) c) (found (markAt mark) ss (now (s .entry)) (r .cursor))) ⌝ }
+    ensures keeps { λ r. ⌜ ((want : List (List ℕ)) → Holds (now (s .entry)) (startsOf (now (table .entry))) (sizesOf (now (table .entry))) (now (hints .entry)) n want → Holds (now (s .entry)) (startsOf (now (table .exit))) (sizesOf (now (table .exit))) (now (hints .exit)) (r .names) (notes (termsOf (takeField (term variable) (leftAt (now (s .entry)) c))) want)) ⌝ }
+    ensures adds { λ r. ⌜ (r .cursor .at ≤ c .end + 1 → (ss : List Slot) → Adds (now (s .entry)) (store (startsOf (now (table .entry))) (sizesOf (now (table .entry))) n (now (spots .entry)) k) (c .at) (store (startsOf (now (table .exit))) (sizesOf (now (table .exit))) (r .names) (now (spots .exit)) (r .spots)) (r .cursor .at) (found (markAt mark) (term variable ∷ ss) (now (s .entry)) c) (found (markAt mark) ss (now (s .entry)) (r .cursor))) ⌝ }
 {
     let at = c.at;
     let field = c.next_field(s);
     match field {
         Field::At(e, next) => {
             if is_var(&s[at..e]) {
-                let m = note_field(s, at, e - at, mark, starts, sizes, hints, n, spots, k);
+                let m = note_field(s, at, e - at, mark, table, hints, n, spots, k);
                 return Noted {
                     cursor: next,
                     names: m.names,
@@ -307,8 +305,7 @@ pub fn variable_fields(
     c: Cursor,
     times: usize,
     mark: u8,
-    starts: &mut [u16; 1024],
-    sizes: &mut [u16; 1024],
+    table: &mut [Entry; 1024],
     hints: &mut [u16; 4096],
     n: usize,
     spots: &mut [Spot],
@@ -316,15 +313,15 @@ pub fn variable_fields(
 ) -> Noted
     requires { ⌜ InLine (now s) c × (c .at ≤ c .end + 1) ⌝ }
     ensures follows { λ r. ⌜ Follows (now (s .entry)) c (restIn (takeTimes times (term variable) (leftAt (now (s .entry)) c))) (r .cursor) ⌝ }
-    ensures keeps { λ r. ⌜ (r .cursor .at ≤ c .end + 1 → (want : List (List ℕ)) → Holds (now (s .entry)) (now (starts .entry)) (now (sizes .entry)) (now (hints .entry)) n want → Holds (now (s .entry)) (now (starts .exit)) (now (sizes .exit)) (now (hints .exit)) (r .names) (notes (termsIn (takeTimes times (term variable) (leftAt (now (s .entry)) c))) want)) ⌝ }
-    ensures adds { λ r. ⌜ (r .cursor .at ≤ c .end + 1 → Adds (now (s .entry)) (store (now (starts .entry)) (now (sizes .entry)) n (now (spots .entry)) k) (c .at) (store (now (starts .exit)) (now (sizes .exit)) (r .names) (now (spots .exit)) (r .spots)) (r .cursor .at) (found (markAt mark) [] (now (s .entry)) c) (found (markAt mark) [] (now (s .entry)) (r .cursor))) ⌝ }
+    ensures keeps { λ r. ⌜ (r .cursor .at ≤ c .end + 1 → (want : List (List ℕ)) → Holds (now (s .entry)) (startsOf (now (table .entry))) (sizesOf (now (table .entry))) (now (hints .entry)) n want → Holds (now (s .entry)) (startsOf (now (table .exit))) (sizesOf (now (table .exit))) (now (hints .exit)) (r .names) (notes (termsIn (takeTimes times (term variable) (leftAt (now (s .entry)) c))) want)) ⌝ }
+    ensures adds { λ r. ⌜ (r .cursor .at ≤ c .end + 1 → Adds (now (s .entry)) (store (startsOf (now (table .entry))) (sizesOf (now (table .entry))) n (now (spots .entry)) k) (c .at) (store (startsOf (now (table .exit))) (sizesOf (now (table .exit))) (r .names) (now (spots .exit)) (r .spots)) (r .cursor .at) (found (markAt mark) [] (now (s .entry)) c) (found (markAt mark) [] (now (s .entry)) (r .cursor))) ⌝ }
 {
     let mut d = c;
     let mut m = n;
     let mut j = k;
     let mut left = times;
     while 0 < left {
-        let t = variable_field(s, d, mark, starts, sizes, hints, m, spots, j);
+        let t = variable_field(s, d, mark, table, hints, m, spots, j);
         d = t.cursor;
         if d.end + 1 < d.at {
             return t;

@@ -9,6 +9,7 @@ use crate::fields::text_fields;
 use crate::fields::value_fields;
 use crate::fields::variable_fields;
 use cursor::Cursor;
+use names::Entry;
 use words::Found;
 use words::Row;
 use words::row_at;
@@ -22,7 +23,7 @@ ghost use lib.Dec.{eqb};
 ghost use Rattle.text.specs.bridge.Code.{kindAt};
 ghost use Rattle.algebra.specs.Tally.{notes, Tally};
 ghost use Rattle.algebra.specs.bridge.Table.{Slot, opens};
-ghost use Rattle.names.specs.bridge.Names.{Holds};
+ghost use Rattle.names.specs.bridge.Names.{Holds, startsOf, sizesOf};
 ghost use Rattle.words.specs.bridge.Code.{tailOf, rowOf, sortAt, oneSlot, slotsIn, fitsIn};
 ghost use Rattle.lines.specs.bridge.Line.{takeField, takeSlots, takeTail, takeLine, columnsOf};
 ghost use Rattle.lines.specs.bridge.Says.{Says, LineIs, Small};
@@ -45,8 +46,7 @@ fn slot(
     role: u8,
     kind: u8,
     mark: u8,
-    starts: &mut [u16; 1024],
-    sizes: &mut [u16; 1024],
+    table: &mut [Entry; 1024],
     hints: &mut [u16; 4096],
     n: usize,
     spots: &mut [Spot],
@@ -54,11 +54,11 @@ fn slot(
 ) -> Step
     requires { ⌜ InLine (now s) c ⌝ }
     ensures follows { λ r. ⌜ Follows (now (s .entry)) c (restOf (takeField (oneSlot role (kindAt kind)) (leftAt (now (s .entry)) c))) (r .cursor) × (numberTaken (takeField (oneSlot role (kindAt kind)) (leftAt (now (s .entry)) c)) ≡ r .number) × (r .number < 4294967296) ⌝ }
-    ensures keeps { λ r. ⌜ ((want : List (List ℕ)) → Holds (now (s .entry)) (now (starts .entry)) (now (sizes .entry)) (now (hints .entry)) n want → Holds (now (s .entry)) (now (starts .exit)) (now (sizes .exit)) (now (hints .exit)) (r .names) (notes (termsOf (takeField (oneSlot role (kindAt kind)) (leftAt (now (s .entry)) c))) want)) ⌝ }
-    ensures adds { λ r. ⌜ (r .cursor .at ≤ c .end + 1 → (ss : List Slot) → Adds (now (s .entry)) (store (now (starts .entry)) (now (sizes .entry)) n (now (spots .entry)) k) (c .at) (store (now (starts .exit)) (now (sizes .exit)) (r .names) (now (spots .exit)) (r .spots)) (r .cursor .at) (found (markAt mark) (oneSlot role (kindAt kind) ∷ ss) (now (s .entry)) c) (found (markAt mark) ss (now (s .entry)) (r .cursor))) ⌝ }
+    ensures keeps { λ r. ⌜ ((want : List (List ℕ)) → Holds (now (s .entry)) (startsOf (now (table .entry))) (sizesOf (now (table .entry))) (now (hints .entry)) n want → Holds (now (s .entry)) (startsOf (now (table .exit))) (sizesOf (now (table .exit))) (now (hints .exit)) (r .names) (notes (termsOf (takeField (oneSlot role (kindAt kind)) (leftAt (now (s .entry)) c))) want)) ⌝ }
+    ensures adds { λ r. ⌜ (r .cursor .at ≤ c .end + 1 → (ss : List Slot) → Adds (now (s .entry)) (store (startsOf (now (table .entry))) (sizesOf (now (table .entry))) n (now (spots .entry)) k) (c .at) (store (startsOf (now (table .exit))) (sizesOf (now (table .exit))) (r .names) (now (spots .exit)) (r .spots)) (r .cursor .at) (found (markAt mark) (oneSlot role (kindAt kind) ∷ ss) (now (s .entry)) c) (found (markAt mark) ss (now (s .entry)) (r .cursor))) ⌝ }
 {
     if role == 1 {
-        let t = term_field(s, c, kind, mark, starts, sizes, hints, n, spots, k);
+        let t = term_field(s, c, kind, mark, table, hints, n, spots, k);
         let d = t.cursor;
         return Step {
             cursor: d,
@@ -132,8 +132,7 @@ fn slots(
     c: Cursor,
     row: Row,
     mark: u8,
-    starts: &mut [u16; 1024],
-    sizes: &mut [u16; 1024],
+    table: &mut [Entry; 1024],
     hints: &mut [u16; 4096],
     n: usize,
     spots: &mut [Spot],
@@ -141,8 +140,8 @@ fn slots(
 ) -> Filled
     requires { ⌜ InLine (now s) c × (c .at ≤ c .end + 1) × (fitsIn 3 (row .fields) ≡ true) ⌝ }
     ensures { λ r. ⌜ TookSlots (now (s .entry)) c (takeSlots (rowOf row .slots) (leftAt (now (s .entry)) c)) (r .cursor) (r .first) (r .second) ⌝ }
-    ensures keeps { λ r. ⌜ (r .cursor .at ≤ c .end + 1 → (want : List (List ℕ)) → Holds (now (s .entry)) (now (starts .entry)) (now (sizes .entry)) (now (hints .entry)) n want → Holds (now (s .entry)) (now (starts .exit)) (now (sizes .exit)) (now (hints .exit)) (r .names) (notes (termsIn (takeSlots (rowOf row .slots) (leftAt (now (s .entry)) c))) want)) ⌝ }
-    ensures adds { λ r. ⌜ (r .cursor .at ≤ c .end + 1 → Adds (now (s .entry)) (store (now (starts .entry)) (now (sizes .entry)) n (now (spots .entry)) k) (c .at) (store (now (starts .exit)) (now (sizes .exit)) (r .names) (now (spots .exit)) (r .spots)) (r .cursor .at) (found (markAt mark) (rowOf row .slots) (now (s .entry)) c) (found (markAt mark) [] (now (s .entry)) (r .cursor))) ⌝ }
+    ensures keeps { λ r. ⌜ (r .cursor .at ≤ c .end + 1 → (want : List (List ℕ)) → Holds (now (s .entry)) (startsOf (now (table .entry))) (sizesOf (now (table .entry))) (now (hints .entry)) n want → Holds (now (s .entry)) (startsOf (now (table .exit))) (sizesOf (now (table .exit))) (now (hints .exit)) (r .names) (notes (termsIn (takeSlots (rowOf row .slots) (leftAt (now (s .entry)) c))) want)) ⌝ }
+    ensures adds { λ r. ⌜ (r .cursor .at ≤ c .end + 1 → Adds (now (s .entry)) (store (startsOf (now (table .entry))) (sizesOf (now (table .entry))) n (now (spots .entry)) k) (c .at) (store (startsOf (now (table .exit))) (sizesOf (now (table .exit))) (r .names) (now (spots .exit)) (r .spots)) (r .cursor .at) (found (markAt mark) (rowOf row .slots) (now (s .entry)) c) (found (markAt mark) [] (now (s .entry)) (r .cursor))) ⌝ }
 {
     let mut d = c;
     let mut m = n;
@@ -158,8 +157,7 @@ fn slots(
             (code % 16) as u8,
             (code / 16 % 16) as u8,
             mark,
-            starts,
-            sizes,
+            table,
             hints,
             m,
             spots,
@@ -189,8 +187,7 @@ fn tail(
     kind: u8,
     width: usize,
     mark: u8,
-    starts: &mut [u16; 1024],
-    sizes: &mut [u16; 1024],
+    table: &mut [Entry; 1024],
     hints: &mut [u16; 4096],
     n: usize,
     spots: &mut [Spot],
@@ -198,12 +195,12 @@ fn tail(
 ) -> Step
     requires { ⌜ InLine (now s) c × (c .at ≤ c .end + 1) ⌝ }
     ensures follows { λ r. ⌜ Follows (now (s .entry)) c (restIn (takeTail (tailOf kind) width (leftAt (now (s .entry)) c))) (r .cursor) × (r .cursor .at ≤ c .end + 1 → columnsOf (tailOf kind) (termsIn (takeTail (tailOf kind) width (leftAt (now (s .entry)) c))) ≡ r .number) ⌝ }
-    ensures keeps { λ r. ⌜ (r .cursor .at ≤ c .end + 1 → (want : List (List ℕ)) → Holds (now (s .entry)) (now (starts .entry)) (now (sizes .entry)) (now (hints .entry)) n want → Holds (now (s .entry)) (now (starts .exit)) (now (sizes .exit)) (now (hints .exit)) (r .names) (notes (termsIn (takeTail (tailOf kind) width (leftAt (now (s .entry)) c))) want)) ⌝ }
-    ensures adds { λ r. ⌜ (r .cursor .at ≤ c .end + 1 → kind ≤ 3 → Adds (now (s .entry)) (store (now (starts .entry)) (now (sizes .entry)) n (now (spots .entry)) k) (c .at) (store (now (starts .exit)) (now (sizes .exit)) (r .names) (now (spots .exit)) (r .spots)) (r .cursor .at) (found (markAt mark) [] (now (s .entry)) c) (found (markAt mark) [] (now (s .entry)) (r .cursor))) ⌝ }
+    ensures keeps { λ r. ⌜ (r .cursor .at ≤ c .end + 1 → (want : List (List ℕ)) → Holds (now (s .entry)) (startsOf (now (table .entry))) (sizesOf (now (table .entry))) (now (hints .entry)) n want → Holds (now (s .entry)) (startsOf (now (table .exit))) (sizesOf (now (table .exit))) (now (hints .exit)) (r .names) (notes (termsIn (takeTail (tailOf kind) width (leftAt (now (s .entry)) c))) want)) ⌝ }
+    ensures adds { λ r. ⌜ (r .cursor .at ≤ c .end + 1 → kind ≤ 3 → Adds (now (s .entry)) (store (startsOf (now (table .entry))) (sizesOf (now (table .entry))) n (now (spots .entry)) k) (c .at) (store (startsOf (now (table .exit))) (sizesOf (now (table .exit))) (r .names) (now (spots .exit)) (r .spots)) (r .cursor .at) (found (markAt mark) [] (now (s .entry)) c) (found (markAt mark) [] (now (s .entry)) (r .cursor))) ⌝ }
 {
     if kind == 1 {
         let w = fields_left(s, c);
-        let t = variable_fields(s, c, w, mark, starts, sizes, hints, n, spots, k);
+        let t = variable_fields(s, c, w, mark, table, hints, n, spots, k);
         let d = t.cursor;
         return Step {
             cursor: d,
@@ -213,7 +210,7 @@ fn tail(
         };
     }
     if kind == 2 {
-        let t = variable_fields(s, c, width, mark, starts, sizes, hints, n, spots, k);
+        let t = variable_fields(s, c, width, mark, table, hints, n, spots, k);
         let d = t.cursor;
         return Step {
             cursor: d,
@@ -267,8 +264,7 @@ fn fields(
     row: Row,
     width: usize,
     mark: u8,
-    starts: &mut [u16; 1024],
-    sizes: &mut [u16; 1024],
+    table: &mut [Entry; 1024],
     hints: &mut [u16; 4096],
     n: usize,
     spots: &mut [Spot],
@@ -276,10 +272,10 @@ fn fields(
 ) -> Said
     requires { ⌜ InLine (now s) c × (c .at ≤ c .end + 1) × (fitsIn 3 (row .fields) ≡ true) ⌝ }
     ensures says { λ r. ⌜ Says c (takeLine (rowOf row) width (leftAt (now (s .entry)) c)) (rowOf row .tail) (r .cursor) (r .first) (r .second) (r .columns) ⌝ }
-    ensures keeps { λ r. ⌜ (r .cursor .at ≡ c .end + 1 → (want : List (List ℕ)) → Holds (now (s .entry)) (now (starts .entry)) (now (sizes .entry)) (now (hints .entry)) n want → Holds (now (s .entry)) (now (starts .exit)) (now (sizes .exit)) (now (hints .exit)) (r .names) (notes (termsIn (takeLine (rowOf row) width (leftAt (now (s .entry)) c))) want)) ⌝ }
-    ensures adds { λ r. ⌜ (r .cursor .at ≡ c .end + 1 → row .behind ≤ 3 → Adds (now (s .entry)) (store (now (starts .entry)) (now (sizes .entry)) n (now (spots .entry)) k) (c .at) (store (now (starts .exit)) (now (sizes .exit)) (r .names) (now (spots .exit)) (r .spots)) (r .cursor .at) (found (markAt mark) (rowOf row .slots) (now (s .entry)) c) (found (markAt mark) [] (now (s .entry)) (r .cursor))) ⌝ }
+    ensures keeps { λ r. ⌜ (r .cursor .at ≡ c .end + 1 → (want : List (List ℕ)) → Holds (now (s .entry)) (startsOf (now (table .entry))) (sizesOf (now (table .entry))) (now (hints .entry)) n want → Holds (now (s .entry)) (startsOf (now (table .exit))) (sizesOf (now (table .exit))) (now (hints .exit)) (r .names) (notes (termsIn (takeLine (rowOf row) width (leftAt (now (s .entry)) c))) want)) ⌝ }
+    ensures adds { λ r. ⌜ (r .cursor .at ≡ c .end + 1 → row .behind ≤ 3 → Adds (now (s .entry)) (store (startsOf (now (table .entry))) (sizesOf (now (table .entry))) n (now (spots .entry)) k) (c .at) (store (startsOf (now (table .exit))) (sizesOf (now (table .exit))) (r .names) (now (spots .exit)) (r .spots)) (r .cursor .at) (found (markAt mark) (rowOf row .slots) (now (s .entry)) c) (found (markAt mark) [] (now (s .entry)) (r .cursor))) ⌝ }
 {
-    let a = slots(s, c, row, mark, starts, sizes, hints, n, spots, k);
+    let a = slots(s, c, row, mark, table, hints, n, spots, k);
     let ca = a.cursor;
     if ca.end + 1 < ca.at {
         return Said {
@@ -297,8 +293,7 @@ fn fields(
         row.behind,
         width,
         mark,
-        starts,
-        sizes,
+        table,
         hints,
         a.names,
         spots,
@@ -360,17 +355,16 @@ pub fn read_line(
     width: usize,
     lines: usize,
     mark: u8,
-    starts: &mut [u16; 1024],
-    sizes: &mut [u16; 1024],
+    table: &mut [Entry; 1024],
     hints: &mut [u16; 4096],
     n: usize,
     spots: &mut [Spot],
     k: usize,
 ) -> Line
     requires { ⌜ InLine (now s) c × (c .at ≤ c .end) × (sort ≤ 11) ⌝ }
-    ensures { λ r. ⌜ ((m : Tally) → m .lines ≡ lines → m .wide ≤ 64 → Holds (now (s .entry)) (now (starts .entry)) (now (sizes .entry)) (now (hints .entry)) n (m .names) → LineIs (now (s .entry)) (now (starts .exit)) (now (sizes .exit)) (now (hints .exit)) c sort level width m r) ⌝ }
+    ensures { λ r. ⌜ ((m : Tally) → m .lines ≡ lines → m .wide ≤ 64 → Holds (now (s .entry)) (startsOf (now (table .entry))) (sizesOf (now (table .entry))) (now (hints .entry)) n (m .names) → LineIs (now (s .entry)) (startsOf (now (table .exit))) (sizesOf (now (table .exit))) (now (hints .exit)) c sort level width m r) ⌝ }
     ensures small { λ r. ⌜ Small sort level r ⌝ }
-    ensures notes { λ r. ⌜ (sort ≤ 7 → LineNotes (now (s .entry)) (now (starts .entry)) (now (sizes .entry)) n (now (spots .entry)) k (now (starts .exit)) (now (sizes .exit)) (now (spots .exit)) c sort mark r) ⌝ }
+    ensures notes { λ r. ⌜ (sort ≤ 7 → LineNotes (now (s .entry)) (startsOf (now (table .entry))) (sizesOf (now (table .entry))) n (now (spots .entry)) k (startsOf (now (table .exit))) (sizesOf (now (table .exit))) (now (spots .exit)) c sort mark r) ⌝ }
 {
     let w = word_at(s, c.at, c.end);
     let found = row_at(sort, s, c.at, w);
@@ -382,8 +376,7 @@ pub fn read_line(
                 row,
                 width,
                 mark,
-                starts,
-                sizes,
+                table,
                 hints,
                 n,
                 spots,

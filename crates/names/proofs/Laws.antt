@@ -283,13 +283,6 @@ module _ (s f : Bytes) (a l : List ℕ) (n : ℕ) where
     here = λ m t. listing-at s (set a n from) (set l n size) n (n + 1) (omega arith) ∙ rw (getD-set-same a n from 0 (let q = t .0 in omega arith), getD-set-same l n size 0 (let q = t .1 in omega arith)) (sym e);
   }
 
--- for callers that know what the table lists
-pub lists-kept : (s : Bytes) (a l a′ l′ h h′ : List ℕ) (n m entry : ℕ) (f : Bytes) (want : List Bytes) → Lists s a l n a′ l′ m entry f → Holds s a l h n want → Holds s a′ l′ h′ m (kept f want) → m ≤ 1024
-    → (getD (kept f want) entry [] ≡ f) × (entry < length (kept f want))
-lists-kept s a l a′ l′ h h′ n m entry f want q old later room =
-    let t : (length a ≡ 1024) × (length l ≡ 1024) = (old .entries .0, old .entries .1) in
-    (rw (← later .fits room) (q .here room t), rw (← later .fits room, listing-long s a′ l′ m) (q .inside room))
-
 -- ---- noting a field
 
 pub note-var : (s a l h : List ℕ) (n : ℕ) (f : Bytes) (want : List Bytes) (b : Bool) → b ≡ isVar f → b ≡ true → Holds s a l h n (kept f want) → Holds s a l h n (notes (f ∷ []) want)

@@ -1,4 +1,4 @@
-// The variable table of a text: its distinct names by first place, each as a start and a size, and a hint to each name at the first place
+// The variable table of a text: its distinct names by first place, each an entry, and a hint to each name at the first place
 // that was empty from a cheap hash of it on.
 use text::equal;
 use text::piece;
@@ -9,7 +9,10 @@ ghost use mathlib.Core.Bool.{false, true};
 ghost use lib.ListN.{length, getD};
 ghost use Rattle.text.specs.Text.{same, piece as pieceOf};
 ghost use Rattle.algebra.specs.Valid.{mem};
-ghost use Rattle.names.specs.bridge.Names.{hashOf, nameAt, listing, after as afterOf, Leads, Hinted, Free, Grows, Holds, Lists, kept, Zeros};
+ghost use Rattle.names.specs.bridge.Names.{hashOf, startsOf, sizesOf, nameAt, listing, after as afterOf, Leads, Hinted, Free, Grows, Holds, Lists, kept};
+
+// An entry of the table: a name's start and size.
+pub type Entry = [u16; 2];
 
 // A number of the table as a place.
 pub fn wide(x: u16) -> usize
@@ -25,11 +28,10 @@ fn byte(x: u8) -> usize
 }
 
 // The table is cleared.
-fn clear(starts: &mut [u16; 1024], sizes: &mut [u16; 1024], hints: &mut [u16; 4096])
-    ensures { λ r. ⌜ Zeros 1024 (now (starts .exit)) × Zeros 1024 (now (sizes .exit)) × Zeros 4096 (now (hints .exit)) ⌝ }
+fn clear(table: &mut [Entry; 1024], hints: &mut [u16; 4096])
+    ensures { λ r. ⌜ (length (now (table .exit)) ≡ 1024) × (length (now (hints .exit)) ≡ 4096) ⌝ }
 {
-    *starts = [0; 1024];
-    *sizes = [0; 1024];
+    *table = [[0; 2]; 1024];
     *hints = [0; 4096];
 }
 
@@ -39,14 +41,17 @@ fn has_places(a: &[u16], n: usize) -> bool
     a.len() == n
 }
 
-// Each part of the table has its places.
-fn have_places(starts: &[u16; 1024], sizes: &[u16; 1024], hints: &[u16; 4096]) -> bool
-    ensures { λ r. ⌜ (r ≡ true → (length (now (starts .entry)) ≡ 1024) × (length (now (sizes .entry)) ≡ 1024) × (length (now (hints .entry)) ≡ 4096)) ⌝ }
+fn has_entries(a: &[Entry], n: usize) -> bool
+    ensures { λ r. ⌜ (r ≡ true → length (now (a .entry)) ≡ n) ⌝ }
 {
-    if !has_places(starts, 1024) {
-        return false;
-    }
-    if !has_places(sizes, 1024) {
+    a.len() == n
+}
+
+// Each part of the table has its places.
+fn have_places(table: &[Entry; 1024], hints: &[u16; 4096]) -> bool
+    ensures { λ r. ⌜ (r ≡ true → (length (now (table .entry)) ≡ 1024) × (length (now (hints .entry)) ≡ 4096)) ⌝ }
+{
+    if !has_entries(table, 1024) {
         return false;
     }
     has_places(hints, 4096)
@@ -54,13 +59,13 @@ fn have_places(starts: &[u16; 1024], sizes: &[u16; 1024], hints: &[u16; 4096]) -
 
 // A table without names. Whoever made it has cleared it; what earlier names left would cost time and change no answer, as a hint is
 // compared with the name itself. The test is one of types, and the compiled code has none.
-pub fn no_names(starts: &mut [u16; 1024], sizes: &mut [u16; 1024], hints: &mut [u16; 4096])
-    ensures { λ _. ⌜ (length (now (starts .exit)) ≡ 1024) × (length (now (sizes .exit)) ≡ 1024) × (length (now (hints .exit)) ≡ 4096) ⌝ }
+pub fn no_names(table: &mut [Entry; 1024], hints: &mut [u16; 4096])
+    ensures { λ _. ⌜ (length (startsOf (now (table .exit))) ≡ 1024) × (length (sizesOf (now (table .exit))) ≡ 1024) × (length (now (hints .exit)) ≡ 4096) ⌝ }
 {
-    if have_places(starts, sizes, hints) {
+    if have_places(table, hints) {
         return;
     }
-    clear(starts, sizes, hints);
+    clear(table, hints);
 }
 
 // Where the search for a name's hint starts.
@@ -85,23 +90,22 @@ fn after(p: usize) -> usize
 }
 
 // The name at an entry is this one.
-fn is_name(f: &[u8], s: &[u8], starts: &[u16; 1024], sizes: &[u16; 1024], i: usize) -> bool
+fn is_name(f: &[u8], s: &[u8], table: &[Entry; 1024], i: usize) -> bool
     requires { ⌜ i < 1024 ⌝ }
-    ensures { λ r. ⌜ r ≡ same (now (f .entry)) (nameAt (now (s .entry)) (now (starts .entry)) (now (sizes .entry)) i) ⌝ }
+    ensures { λ r. ⌜ r ≡ same (now (f .entry)) (nameAt (now (s .entry)) (startsOf (now (table .entry))) (sizesOf (now (table .entry))) i) ⌝ }
 {
-    let from = wide(starts[i]);
-    let size = wide(sizes[i]);
-    equal(f, piece(s, from, size))
+    let e = table[i];
+    equal(f, piece(s, wide(e[0]), wide(e[1])))
 }
 
 // The entry of a name among the first n, looked for one by one, or n.
-fn scan(f: &[u8], s: &[u8], starts: &[u16; 1024], sizes: &[u16; 1024], n: usize) -> usize
+fn scan(f: &[u8], s: &[u8], table: &[Entry; 1024], n: usize) -> usize
     requires { ⌜ n ≤ 1024 ⌝ }
-    ensures { λ r. ⌜ (r ≤ n) × (r < n → same (now (f .entry)) (nameAt (now (s .entry)) (now (starts .entry)) (now (sizes .entry)) r) ≡ true) × (r ≡ n → mem (now (f .entry)) (listing (now (s .entry)) (now (starts .entry)) (now (sizes .entry)) n) ≡ false) ⌝ }
+    ensures { λ r. ⌜ (r ≤ n) × (r < n → same (now (f .entry)) (nameAt (now (s .entry)) (startsOf (now (table .entry))) (sizesOf (now (table .entry))) r) ≡ true) × (r ≡ n → mem (now (f .entry)) (listing (now (s .entry)) (startsOf (now (table .entry))) (sizesOf (now (table .entry))) n) ≡ false) ⌝ }
 {
     let mut i = 0;
     while i < n {
-        if is_name(f, s, starts, sizes, i) {
+        if is_name(f, s, table, i) {
             return i;
         }
         i += 1;
@@ -110,21 +114,14 @@ fn scan(f: &[u8], s: &[u8], starts: &[u16; 1024], sizes: &[u16; 1024], n: usize)
 }
 
 // A hint leads to this name among the first n.
-fn is_hinted(
-    f: &[u8],
-    s: &[u8],
-    starts: &[u16; 1024],
-    sizes: &[u16; 1024],
-    n: usize,
-    hint: usize,
-) -> bool
+fn is_hinted(f: &[u8], s: &[u8], table: &[Entry; 1024], n: usize, hint: usize) -> bool
     requires { ⌜ (n ≤ 1024) × (hint ≡ 0 → ⊥) ⌝ }
-    ensures { λ r. ⌜ (r ≡ true → hint ≤ n) × ((i : ℕ) → i < n → hint ≡ i + 1 → r ≡ same (now (f .entry)) (nameAt (now (s .entry)) (now (starts .entry)) (now (sizes .entry)) i)) ⌝ }
+    ensures { λ r. ⌜ (r ≡ true → hint ≤ n) × ((i : ℕ) → i < n → hint ≡ i + 1 → r ≡ same (now (f .entry)) (nameAt (now (s .entry)) (startsOf (now (table .entry))) (sizesOf (now (table .entry))) i)) ⌝ }
 {
     if n < hint {
         return false;
     }
-    is_name(f, s, starts, sizes, hint - 1)
+    is_name(f, s, table, hint - 1)
 }
 
 // The entry of a name among the first n, or n; and where the hint of one that is new goes, 4,096 for nowhere.
@@ -133,16 +130,9 @@ struct Seen {
     at: usize,
 }
 
-fn probe(
-    f: &[u8],
-    s: &[u8],
-    starts: &[u16; 1024],
-    sizes: &[u16; 1024],
-    hints: &[u16; 4096],
-    n: usize,
-) -> Seen
+fn probe(f: &[u8], s: &[u8], table: &[Entry; 1024], hints: &[u16; 4096], n: usize) -> Seen
     requires { ⌜ n ≤ 1024 ⌝ }
-    ensures { λ r. ⌜ (r .entry ≤ n) × (r .entry < n → same (now (f .entry)) (nameAt (now (s .entry)) (now (starts .entry)) (now (sizes .entry)) (r .entry)) ≡ true) × (r .entry ≡ n → Hinted (now (hints .entry)) (listing (now (s .entry)) (now (starts .entry)) (now (sizes .entry)) n) → mem (now (f .entry)) (listing (now (s .entry)) (now (starts .entry)) (now (sizes .entry)) n) ≡ false) ⌝ }
+    ensures { λ r. ⌜ (r .entry ≤ n) × (r .entry < n → same (now (f .entry)) (nameAt (now (s .entry)) (startsOf (now (table .entry))) (sizesOf (now (table .entry))) (r .entry)) ≡ true) × (r .entry ≡ n → Hinted (now (hints .entry)) (listing (now (s .entry)) (startsOf (now (table .entry))) (sizesOf (now (table .entry))) n) → mem (now (f .entry)) (listing (now (s .entry)) (startsOf (now (table .entry))) (sizesOf (now (table .entry))) n) ≡ false) ⌝ }
     ensures free { λ r. ⌜ (r .entry ≡ n → Free (now (hints .entry)) (hashOf 0 (now (f .entry))) (r .at)) ⌝ }
 {
     let mut p = place(f);
@@ -152,7 +142,7 @@ fn probe(
         if hint == 0 {
             return Seen { entry: n, at: p };
         }
-        if is_hinted(f, s, starts, sizes, n, hint) {
+        if is_hinted(f, s, table, n, hint) {
             return Seen {
                 entry: hint - 1,
                 at: 4096,
@@ -161,23 +151,16 @@ fn probe(
         p = after(p);
         left -= 1;
     }
-    let e = scan(f, s, starts, sizes, n);
+    let e = scan(f, s, table, n);
     Seen { entry: e, at: 4096 }
 }
 
 // The entry of a name among the first n, or n.
-pub fn find_name(
-    f: &[u8],
-    s: &[u8],
-    starts: &[u16; 1024],
-    sizes: &[u16; 1024],
-    hints: &[u16; 4096],
-    n: usize,
-) -> usize
+pub fn find_name(f: &[u8], s: &[u8], table: &[Entry; 1024], hints: &[u16; 4096], n: usize) -> usize
     requires { ⌜ n ≤ 1024 ⌝ }
-    ensures { λ r. ⌜ (r ≤ n) × (r < n → same (now (f .entry)) (nameAt (now (s .entry)) (now (starts .entry)) (now (sizes .entry)) r) ≡ true) × (r ≡ n → Hinted (now (hints .entry)) (listing (now (s .entry)) (now (starts .entry)) (now (sizes .entry)) n) → mem (now (f .entry)) (listing (now (s .entry)) (now (starts .entry)) (now (sizes .entry)) n) ≡ false) ⌝ }
+    ensures { λ r. ⌜ (r ≤ n) × (r < n → same (now (f .entry)) (nameAt (now (s .entry)) (startsOf (now (table .entry))) (sizesOf (now (table .entry))) r) ≡ true) × (r ≡ n → Hinted (now (hints .entry)) (listing (now (s .entry)) (startsOf (now (table .entry))) (sizesOf (now (table .entry))) n) → mem (now (f .entry)) (listing (now (s .entry)) (startsOf (now (table .entry))) (sizesOf (now (table .entry))) n) ≡ false) ⌝ }
 {
-    let r = probe(f, s, starts, sizes, hints, n);
+    let r = probe(f, s, table, hints, n);
     r.entry
 }
 
@@ -201,19 +184,18 @@ pub fn keep_name(
     s: &[u8],
     from: usize,
     size: usize,
-    starts: &mut [u16; 1024],
-    sizes: &mut [u16; 1024],
+    table: &mut [Entry; 1024],
     hints: &mut [u16; 4096],
     n: usize,
 ) -> Listed
     requires { ⌜ (from < 65536) × (size < 65536) ⌝ }
-    ensures { λ r. ⌜ ((want : List (List ℕ)) → Holds (now (s .entry)) (now (starts .entry)) (now (sizes .entry)) (now (hints .entry)) n want → Holds (now (s .entry)) (now (starts .exit)) (now (sizes .exit)) (now (hints .exit)) (r .names) (kept (pieceOf from size (now (s .entry))) want)) ⌝ }
-    ensures lists { λ r. ⌜ Lists (now (s .entry)) (now (starts .entry)) (now (sizes .entry)) n (now (starts .exit)) (now (sizes .exit)) (r .names) (r .entry) (pieceOf from size (now (s .entry))) ⌝ }
+    ensures { λ r. ⌜ ((want : List (List ℕ)) → Holds (now (s .entry)) (startsOf (now (table .entry))) (sizesOf (now (table .entry))) (now (hints .entry)) n want → Holds (now (s .entry)) (startsOf (now (table .exit))) (sizesOf (now (table .exit))) (now (hints .exit)) (r .names) (kept (pieceOf from size (now (s .entry))) want)) ⌝ }
+    ensures lists { λ r. ⌜ Lists (now (s .entry)) (startsOf (now (table .entry))) (sizesOf (now (table .entry))) n (startsOf (now (table .exit))) (sizesOf (now (table .exit))) (r .names) (r .entry) (pieceOf from size (now (s .entry))) ⌝ }
 {
     if 1024 < n {
         return Listed { entry: 0, names: n };
     }
-    let found = probe(piece(s, from, size), s, starts, sizes, hints, n);
+    let found = probe(piece(s, from, size), s, table, hints, n);
     if found.entry < n {
         return Listed {
             entry: found.entry,
@@ -226,8 +208,7 @@ pub fn keep_name(
             names: 1025,
         };
     }
-    starts[n] = from as u16;
-    sizes[n] = size as u16;
+    table[n] = [from as u16, size as u16];
     put_hint(hints, found.at, (n + 1) as u16);
     Listed {
         entry: n,
@@ -240,14 +221,13 @@ pub fn add_name(
     s: &[u8],
     from: usize,
     size: usize,
-    starts: &mut [u16; 1024],
-    sizes: &mut [u16; 1024],
+    table: &mut [Entry; 1024],
     hints: &mut [u16; 4096],
     n: usize,
 ) -> usize
     requires { ⌜ (from < 65536) × (size < 65536) ⌝ }
-    ensures { λ r. ⌜ ((want : List (List ℕ)) → Holds (now (s .entry)) (now (starts .entry)) (now (sizes .entry)) (now (hints .entry)) n want → Holds (now (s .entry)) (now (starts .exit)) (now (sizes .exit)) (now (hints .exit)) r (kept (pieceOf from size (now (s .entry))) want)) ⌝ }
+    ensures { λ r. ⌜ ((want : List (List ℕ)) → Holds (now (s .entry)) (startsOf (now (table .entry))) (sizesOf (now (table .entry))) (now (hints .entry)) n want → Holds (now (s .entry)) (startsOf (now (table .exit))) (sizesOf (now (table .exit))) (now (hints .exit)) r (kept (pieceOf from size (now (s .entry))) want)) ⌝ }
 {
-    let l = keep_name(s, from, size, starts, sizes, hints, n);
+    let l = keep_name(s, from, size, table, hints, n);
     l.names
 }

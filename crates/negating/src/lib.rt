@@ -121,10 +121,9 @@ fn negate_of(query: &[u8], out: &mut [u8]) -> Answer
 pub fn negate(query: &[u8], out: &mut [u8]) -> Answer
     ensures { λ r. ⌜ Answered (negateOutcome (now (query .entry))) (now (out .entry)) (now (out .exit)) r ⌝ }
 {
-    let mut starts = [0u16; 1024];
-    let mut sizes = [0u16; 1024];
+    let mut table = [[0u16; 2]; 1024];
     let mut hints = [0u16; 4096];
-    match check_query(query, &mut starts, &mut sizes, &mut hints) {
+    match check_query(query, &mut table, &mut hints) {
         Check::Good(_) => negate_of(query, out),
         Check::Malformed => Answer::Malformed,
         Check::OverBound => Answer::OverBound,

@@ -22,21 +22,15 @@ struct Step {
     to: usize,
 }
 
-fn check(
-    kind: u32,
-    text: &[u8],
-    starts: &mut [u16; 1024],
-    sizes: &mut [u16; 1024],
-    hints: &mut [u16; 4096],
-) -> Answer {
+fn check(kind: u32, text: &[u8], table: &mut [[u16; 2]; 1024], hints: &mut [u16; 4096]) -> Answer {
     match kind {
-        0 => check_tree(text, starts, sizes, hints),
-        1 => check_query(text, starts, sizes, hints),
+        0 => check_tree(text, table, hints),
+        1 => check_query(text, table, hints),
         2 => check_joins(text, &mut [[0u16; 4]; 64]),
         3 => check_constants(text, &mut [[0u16; 4]; 64]),
         4 => check_mapping(text, &mut [[0u16; 4]; 64]),
-        5 => check_sets(text, starts, sizes, hints),
-        _ => check_filters(text, starts, sizes, hints),
+        5 => check_sets(text, table, hints),
+        _ => check_filters(text, table, hints),
     }
 }
 
@@ -85,8 +79,7 @@ fn turn(
     fd: i32,
     at: u64,
     window: &mut [u8],
-    starts: &mut [u16; 1024],
-    sizes: &mut [u16; 1024],
+    table: &mut [[u16; 2]; 1024],
     hints: &mut [u16; 4096],
     out: &mut [u8; 65536],
     to: usize,
@@ -104,7 +97,7 @@ fn turn(
         return Step { at: next, to };
     }
     let text = piece(window, r.text, r.text_size);
-    let a = check(r.kind, text, starts, sizes, hints);
+    let a = check(r.kind, text, table, hints);
     let label = piece(window, r.label, r.label_size);
     let to = put_line(out, to, label, number(a));
     Step { at: next, to }
@@ -113,15 +106,14 @@ fn turn(
 fn run(
     fd: i32,
     window: &mut [u8],
-    starts: &mut [u16; 1024],
-    sizes: &mut [u16; 1024],
+    table: &mut [[u16; 2]; 1024],
     hints: &mut [u16; 4096],
     out: &mut [u8; 65536],
 ) {
     let mut at: u64 = 0;
     let mut to: usize = 0;
     while at < LIMIT {
-        let s = turn(fd, at, window, starts, sizes, hints, out, to);
+        let s = turn(fd, at, window, table, hints, out, to);
         at = s.at;
         to = s.to;
     }
@@ -136,17 +128,9 @@ fn main() {
         return;
     }
     let mut window = [0u8; 20480];
-    let mut starts = [0u16; 1024];
-    let mut sizes = [0u16; 1024];
+    let mut table = [[0u16; 2]; 1024];
     let mut hints = [0u16; 4096];
     let mut out = [0u8; 65536];
-    run(
-        fd,
-        &mut window,
-        &mut starts,
-        &mut sizes,
-        &mut hints,
-        &mut out,
-    );
+    run(fd, &mut window, &mut table, &mut hints, &mut out);
     libc::close(fd);
 }

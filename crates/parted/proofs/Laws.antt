@@ -168,6 +168,3 @@ behind s from at (suc k) e z =
 
 pub at-next : (s : Bytes) (from at k : ℕ) → Ends s from at → at < length s → (k ≡ 0 → ⊥) → getD (textsFrom s from) k [] ≡ getD (textsFrom s (at + 3)) (k - 1) []
 at-next s from at k e h z = behind s from at k e z ∙ ap (λ (ts : List Bytes). getD ts (k - 1) []) (after-bar s at h)
-
-pub at-none : (s : Bytes) (from at k : ℕ) → Ends s from at → length s ≤ at → (k ≡ 0 → ⊥) → getD (textsFrom s from) k [] ≡ []
-at-none s from at k e h z = behind s from at k e z ∙ ap (λ (ts : List Bytes). getD ts (k - 1) []) (after-none s at h)

@@ -55,12 +55,3 @@ module _ (f : Bytes) (r : Number) (e : numberIn r ≡ numberOf f) where
   pub position-not : r ≡ Not → 0 ≡ position f
   unfolding position
   position-not h = ap orZero (sym (ap numberIn h) ∙ e)
-
--- it is the number that the walk reads
-pub position-number : (f : Bytes) → position f ≡ W.numberIn f
-unfolding position
-position-number f = go (numberOf f)
-  where
-    go : (o : Option ℕ) → orZero o ≡ W.orZero o
-    go none = refl
-    go (some n) = refl

@@ -2,6 +2,7 @@
 use answers::Answer;
 use emit::put_all;
 use lines::fields::Spot;
+use names::Entry;
 use sides::columns::joined_mask;
 use sides::columns::put_columns;
 use sides::columns::width;
@@ -23,6 +24,7 @@ ghost use Rattle.answers.specs.Outcome.{Answered};
 ghost use Rattle.merging.specs.Request.{Projection, tree};
 ghost use Rattle.sides.specs.bridge.Columns.{columnsIn, picked};
 ghost use Rattle.projects.specs.bridge.Joining.{Stands, Lists, joinedBehind, ListsRead};
+ghost use Rattle.names.specs.bridge.Names.{startsOf, sizesOf};
 
 const PROJECT: [u8; 7] = *b"project";
 
@@ -62,14 +64,12 @@ fn put_head(
 pub fn merge_projects(
     left: &[u8],
     left_from: usize,
-    left_starts: &[u16; 1024],
-    left_sizes: &[u16; 1024],
+    left_table: &[Entry; 1024],
     left_n: usize,
     left_spots: &[Spot],
     right: &[u8],
     right_from: usize,
-    right_starts: &[u16; 1024],
-    right_sizes: &[u16; 1024],
+    right_table: &[Entry; 1024],
     right_n: usize,
     right_spots: &[Spot],
     pairs: &[u8],
@@ -77,8 +77,8 @@ pub fn merge_projects(
     right_constants: &[u8],
     out: &mut [u8],
 ) -> Answer
-    requires { ⌜ ((x : Projection) × Stands (now left) «left_from» (now «left_starts») (now «left_sizes») «left_n» (now «left_spots») (tree x)) × ((y : Projection) × Stands (now right) «right_from» (now «right_starts») (now «right_sizes») «right_n» (now «right_spots») (tree y)) × ListsRead (now pairs) (now «left_constants») (now «right_constants») ⌝ }
-    ensures { λ r. ⌜ ((x y : Projection) (js ks ls : List Pair) → Stands (now (left .entry)) «left_from» (now («left_starts» .entry)) (now («left_sizes» .entry)) «left_n» (now («left_spots» .entry)) (tree x) → Stands (now (right .entry)) «right_from» (now («right_starts» .entry)) (now («right_sizes» .entry)) «right_n» (now («right_spots» .entry)) (tree y) → Lists (now (pairs .entry)) (now («left_constants» .entry)) (now («right_constants» .entry)) js ks ls → Answered (joinedBehind (take «left_from» (now (left .entry))) x y js ks ls) (now (out .entry)) (now (out .exit)) r) ⌝ }
+    requires { ⌜ ((x : Projection) × Stands (now left) «left_from» (startsOf (now «left_table»)) (sizesOf (now «left_table»)) «left_n» (now «left_spots») (tree x)) × ((y : Projection) × Stands (now right) «right_from» (startsOf (now «right_table»)) (sizesOf (now «right_table»)) «right_n» (now «right_spots») (tree y)) × ListsRead (now pairs) (now «left_constants») (now «right_constants») ⌝ }
+    ensures { λ r. ⌜ ((x y : Projection) (js ks ls : List Pair) → Stands (now (left .entry)) «left_from» (startsOf (now («left_table» .entry))) (sizesOf (now («left_table» .entry))) «left_n» (now («left_spots» .entry)) (tree x) → Stands (now (right .entry)) «right_from» (startsOf (now («right_table» .entry))) (sizesOf (now («right_table» .entry))) «right_n» (now («right_spots» .entry)) (tree y) → Lists (now (pairs .entry)) (now («left_constants» .entry)) (now («right_constants» .entry)) js ks ls → Answered (joinedBehind (take «left_from» (now (left .entry))) x y js ks ls) (now (out .entry)) (now (out .exit)) r) ⌝ }
 {
     let mut left_pool = [0u8; 16384];
     let mut left_targets = [0u16; 1024];
@@ -89,8 +89,7 @@ pub fn merge_projects(
     let Prepared::Ready(l) = prepare(
         left,
         left_from,
-        left_starts,
-        left_sizes,
+        left_table,
         left_n,
         left_spots,
         b'l',
@@ -115,8 +114,7 @@ pub fn merge_projects(
     let Prepared::Ready(r) = prepare(
         right,
         right_from,
-        right_starts,
-        right_sizes,
+        right_table,
         right_n,
         right_spots,
         b'r',
@@ -146,8 +144,7 @@ pub fn merge_projects(
     );
     let b = put_side(
         left,
-        left_starts,
-        left_sizes,
+        left_table,
         left_n,
         left_spots,
         &left_pool,
@@ -163,8 +160,7 @@ pub fn merge_projects(
     );
     let size = put_side(
         right,
-        right_starts,
-        right_sizes,
+        right_table,
         right_n,
         right_spots,
         &right_pool,
@@ -184,8 +180,7 @@ pub fn merge_projects(
     let c = put_head(left, left_from, &left_line, l, &right_line, r, gone, out);
     let d = put_side(
         left,
-        left_starts,
-        left_sizes,
+        left_table,
         left_n,
         left_spots,
         &left_pool,
@@ -201,8 +196,7 @@ pub fn merge_projects(
     );
     let put = put_side(
         right,
-        right_starts,
-        right_sizes,
+        right_table,
         right_n,
         right_spots,
         &right_pool,

@@ -3,6 +3,7 @@ use answers::Answer;
 use emit::put;
 use emit::put_all;
 use lines::fields::Spot;
+use names::Entry;
 use sides::columns::put_columns;
 use sides::columns::width;
 use sides::side::Prepared;
@@ -23,6 +24,7 @@ ghost use Rattle.answers.specs.Outcome.{Answered};
 ghost use Rattle.merging.specs.Request.{Projection, tree};
 ghost use Rattle.sides.specs.bridge.Columns.{columnsIn, picked};
 ghost use Rattle.projects.specs.bridge.Joining.{Stands, Terms, KnownTerms, pushedBehind};
+ghost use Rattle.names.specs.bridge.Names.{startsOf, sizesOf};
 
 const PROJECT: [u8; 7] = *b"project";
 
@@ -49,15 +51,14 @@ fn put_head(query: &[u8], from: usize, line: &[u8], side: Side, out: &mut [u8]) 
 pub fn push_in_project(
     query: &[u8],
     from: usize,
-    starts: &[u16; 1024],
-    sizes: &[u16; 1024],
+    table: &[Entry; 1024],
     n: usize,
     spots: &[Spot],
     constants: &[u8],
     out: &mut [u8],
 ) -> Answer
-    requires { ⌜ ((x : Projection) × Stands (now query) from (now starts) (now sizes) n (now spots) (tree x)) × KnownTerms (now constants) ⌝ }
-    ensures { λ r. ⌜ ((x : Projection) (ks : List Pair) → Stands (now (query .entry)) from (now (starts .entry)) (now (sizes .entry)) n (now (spots .entry)) (tree x) → Terms (now (constants .entry)) ks → Answered (pushedBehind (take from (now (query .entry))) x ks) (now (out .entry)) (now (out .exit)) r) ⌝ }
+    requires { ⌜ ((x : Projection) × Stands (now query) from (startsOf (now table)) (sizesOf (now table)) n (now spots) (tree x)) × KnownTerms (now constants) ⌝ }
+    ensures { λ r. ⌜ ((x : Projection) (ks : List Pair) → Stands (now (query .entry)) from (startsOf (now (table .entry))) (sizesOf (now (table .entry))) n (now (spots .entry)) (tree x) → Terms (now (constants .entry)) ks → Answered (pushedBehind (take from (now (query .entry))) x ks) (now (out .entry)) (now (out .exit)) r) ⌝ }
 {
     let mut pool = [0u8; 16384];
     let mut targets = [0u16; 1024];
@@ -68,8 +69,7 @@ pub fn push_in_project(
     let Prepared::Ready(side) = prepare(
         query,
         from,
-        starts,
-        sizes,
+        table,
         n,
         spots,
         b'v',
@@ -89,8 +89,7 @@ pub fn push_in_project(
     let a = put_head(query, from, &line, side, &mut none);
     let size = put_side(
         query,
-        starts,
-        sizes,
+        table,
         n,
         spots,
         &pool,
@@ -110,8 +109,7 @@ pub fn push_in_project(
     let b = put_head(query, from, &line, side, out);
     let put = put_side(
         query,
-        starts,
-        sizes,
+        table,
         n,
         spots,
         &pool,

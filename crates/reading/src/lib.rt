@@ -5,88 +5,68 @@ use lines::check::check_list;
 use lines::check::check_one;
 use lines::check::note_one;
 use lines::fields::Spot;
+use names::Entry;
 use names::no_names;
 ghost use Rattle.algebra.specs.Texts.{readTree, readQuery, readSets, readFilters};
 ghost use Rattle.names.specs.bridge.Checked.{Checked};
 ghost use Rattle.reading.specs.bridge.Charted.{Charted, treeStart, queryStart};
 ghost use Rattle.reading.specs.bridge.Variables.{treeNames, queryNames, setNames, filterNames};
+ghost use Rattle.names.specs.bridge.Names.{startsOf, sizesOf};
 
 // A tree: its number, and the table of its distinct variables by first place.
-pub fn check_tree(
-    text: &[u8],
-    starts: &mut [u16; 1024],
-    sizes: &mut [u16; 1024],
-    hints: &mut [u16; 4096],
-) -> Answer
-    ensures { λ r. ⌜ Checked treeNames (now (text .entry)) (now (starts .exit)) (now (sizes .exit)) (now (hints .exit)) (readTree (now (text .entry))) r ⌝ }
+pub fn check_tree(text: &[u8], table: &mut [Entry; 1024], hints: &mut [u16; 4096]) -> Answer
+    ensures { λ r. ⌜ Checked treeNames (now (text .entry)) (startsOf (now (table .exit))) (sizesOf (now (table .exit))) (now (hints .exit)) (readTree (now (text .entry))) r ⌝ }
 {
-    no_names(starts, sizes, hints);
-    check_one(text, 2, 64, starts, sizes, hints)
+    no_names(table, hints);
+    check_one(text, 2, 64, table, hints)
 }
 
 // The same, and the spots of its variables, for which three bytes of the text are one.
 pub fn note_tree(
     text: &[u8],
-    starts: &mut [u16; 1024],
-    sizes: &mut [u16; 1024],
+    table: &mut [Entry; 1024],
     hints: &mut [u16; 4096],
     spots: &mut [Spot],
 ) -> Noting
-    ensures { λ r. ⌜ Charted treeNames treeStart (now (text .entry)) (now (starts .exit)) (now (sizes .exit)) (now (hints .exit)) (now (spots .entry)) (now (spots .exit)) (readTree (now (text .entry))) r ⌝ }
+    ensures { λ r. ⌜ Charted treeNames treeStart (now (text .entry)) (startsOf (now (table .exit))) (sizesOf (now (table .exit))) (now (hints .exit)) (now (spots .entry)) (now (spots .exit)) (readTree (now (text .entry))) r ⌝ }
 {
-    no_names(starts, sizes, hints);
-    note_one(text, 2, 64, starts, sizes, hints, spots)
+    no_names(table, hints);
+    note_one(text, 2, 64, table, hints, spots)
 }
 
 // A query: its head line, then a tree.
-pub fn check_query(
-    text: &[u8],
-    starts: &mut [u16; 1024],
-    sizes: &mut [u16; 1024],
-    hints: &mut [u16; 4096],
-) -> Answer
-    ensures { λ r. ⌜ Checked queryNames (now (text .entry)) (now (starts .exit)) (now (sizes .exit)) (now (hints .exit)) (readQuery (now (text .entry))) r ⌝ }
+pub fn check_query(text: &[u8], table: &mut [Entry; 1024], hints: &mut [u16; 4096]) -> Answer
+    ensures { λ r. ⌜ Checked queryNames (now (text .entry)) (startsOf (now (table .exit))) (sizesOf (now (table .exit))) (now (hints .exit)) (readQuery (now (text .entry))) r ⌝ }
 {
-    no_names(starts, sizes, hints);
-    check_one(text, 7, 64, starts, sizes, hints)
+    no_names(table, hints);
+    check_one(text, 7, 64, table, hints)
 }
 
 // The same, and the spots of the variables of its tree.
 pub fn note_query(
     text: &[u8],
-    starts: &mut [u16; 1024],
-    sizes: &mut [u16; 1024],
+    table: &mut [Entry; 1024],
     hints: &mut [u16; 4096],
     spots: &mut [Spot],
 ) -> Noting
-    ensures { λ r. ⌜ Charted queryNames queryStart (now (text .entry)) (now (starts .exit)) (now (sizes .exit)) (now (hints .exit)) (now (spots .entry)) (now (spots .exit)) (readQuery (now (text .entry))) r ⌝ }
+    ensures { λ r. ⌜ Charted queryNames queryStart (now (text .entry)) (startsOf (now (table .exit))) (sizesOf (now (table .exit))) (now (hints .exit)) (now (spots .entry)) (now (spots .exit)) (readQuery (now (text .entry))) r ⌝ }
 {
-    no_names(starts, sizes, hints);
-    note_one(text, 7, 64, starts, sizes, hints, spots)
+    no_names(table, hints);
+    note_one(text, 7, 64, table, hints, spots)
 }
 
 // A list of binding sets.
-pub fn check_sets(
-    text: &[u8],
-    starts: &mut [u16; 1024],
-    sizes: &mut [u16; 1024],
-    hints: &mut [u16; 4096],
-) -> Answer
-    ensures { λ r. ⌜ Checked setNames (now (text .entry)) (now (starts .exit)) (now (sizes .exit)) (now (hints .exit)) (readSets (now (text .entry))) r ⌝ }
+pub fn check_sets(text: &[u8], table: &mut [Entry; 1024], hints: &mut [u16; 4096]) -> Answer
+    ensures { λ r. ⌜ Checked setNames (now (text .entry)) (startsOf (now (table .exit))) (sizesOf (now (table .exit))) (now (hints .exit)) (readSets (now (text .entry))) r ⌝ }
 {
-    no_names(starts, sizes, hints);
-    check_list(text, 8, 1, starts, sizes, hints)
+    no_names(table, hints);
+    check_list(text, 8, 1, table, hints)
 }
 
 // A list of filters.
-pub fn check_filters(
-    text: &[u8],
-    starts: &mut [u16; 1024],
-    sizes: &mut [u16; 1024],
-    hints: &mut [u16; 4096],
-) -> Answer
-    ensures { λ r. ⌜ Checked filterNames (now (text .entry)) (now (starts .exit)) (now (sizes .exit)) (now (hints .exit)) (readFilters (now (text .entry))) r ⌝ }
+pub fn check_filters(text: &[u8], table: &mut [Entry; 1024], hints: &mut [u16; 4096]) -> Answer
+    ensures { λ r. ⌜ Checked filterNames (now (text .entry)) (startsOf (now (table .exit))) (sizesOf (now (table .exit))) (now (hints .exit)) (readFilters (now (text .entry))) r ⌝ }
 {
-    no_names(starts, sizes, hints);
-    check_list(text, 11, 64, starts, sizes, hints)
+    no_names(table, hints);
+    check_list(text, 11, 64, table, hints)
 }

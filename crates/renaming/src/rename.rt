@@ -3,9 +3,10 @@ use algebra::Answer as Check;
 use answers::Answer;
 use lines::check::Noting;
 use lines::fields::Spot;
-use lists::Entry;
+use lists::Entry as Pair;
 use lists::check_mapping;
 use lists::field_at;
+use names::Entry;
 use names::find_name;
 use reading::note_tree;
 use walking::places::put_renamed;
@@ -13,7 +14,7 @@ ghost use mathlib.Core.Path.{_≡_};
 ghost use Prim.Native.Nat.{ℕ, _*_, _≤_};
 ghost use mathlib.Core.List.{[]};
 ghost use lib.ListN.{length, getD};
-ghost use Rattle.names.specs.bridge.Names.{listing};
+ghost use Rattle.names.specs.bridge.Names.{listing, startsOf, sizesOf};
 ghost use Rattle.lines.specs.bridge.Spotted.{Noted};
 ghost use Rattle.lists.specs.bridge.Pairs.{pairAt};
 ghost use Rattle.walking.specs.bridge.Code.{Named};
@@ -25,26 +26,18 @@ ghost use Rattle.renaming.specs.bridge.Code.{Surveyed, KnownPairs, Targe
 // A pair of the mapping: the entry of its first name, if that is in the table, gets the second.
 fn set_target(
     tree: &[u8],
-    starts: &[u16; 1024],
-    sizes: &[u16; 1024],
+    table: &[Entry; 1024],
     hints: &[u16; 4096],
     n: usize,
     mapping: &[u8],
-    key: Entry,
+    key: Pair,
     targets: &mut [u16; 1024],
     spans: &mut [u16; 1024],
 )
-    requires { ⌜ (length (now targets) ≡ 1024) × (length (now spans) ≡ 1024) × Named (now tree) (now starts) (now sizes) (now hints) n × (pairAt (now mapping) key .second ≡ [] → ⊥) ⌝ }
-    ensures { λ _. ⌜ Settled (listing (now (tree .entry)) (now (starts .entry)) (now (sizes .entry)) n) n (now (mapping .entry)) (pairAt (now (mapping .entry)) key) (now (targets .entry)) (now (spans .entry)) (now (targets .exit)) (now (spans .exit)) ⌝ }
+    requires { ⌜ (length (now targets) ≡ 1024) × (length (now spans) ≡ 1024) × Named (now tree) (startsOf (now table)) (sizesOf (now table)) (now hints) n × (pairAt (now mapping) key .second ≡ [] → ⊥) ⌝ }
+    ensures { λ _. ⌜ Settled (listing (now (tree .entry)) (startsOf (now (table .entry))) (sizesOf (now (table .entry))) n) n (now (mapping .entry)) (pairAt (now (mapping .entry)) key) (now (targets .entry)) (now (spans .entry)) (now (targets .exit)) (now (spans .exit)) ⌝ }
 {
-    let k = find_name(
-        field_at(mapping, key[0], key[1]),
-        tree,
-        starts,
-        sizes,
-        hints,
-        n,
-    );
+    let k = find_name(field_at(mapping, key[0], key[1]), tree, table, hints, n);
     if k < n {
         targets[k] = key[2];
         spans[k] = key[3];
@@ -54,32 +47,21 @@ fn set_target(
 // What the mapping, whose pairs the first m entries tell, makes of each name of the table.
 fn find_targets(
     tree: &[u8],
-    starts: &[u16; 1024],
-    sizes: &[u16; 1024],
+    table: &[Entry; 1024],
     hints: &[u16; 4096],
     n: usize,
     mapping: &[u8],
-    keys: &[Entry; 64],
+    keys: &[Pair; 64],
     m: usize,
     targets: &mut [u16; 1024],
     spans: &mut [u16; 1024],
 )
-    requires { ⌜ KnownPairs (now mapping) (now keys) m × ((length (now targets) ≡ 1024) × (length (now spans) ≡ 1024)) × ((i : ℕ) → getD (now spans) i 0 ≡ 0) × Named (now tree) (now starts) (now sizes) (now hints) n ⌝ }
-    ensures { λ _. ⌜ Targets (listing (now (tree .entry)) (now (starts .entry)) (now (sizes .entry)) n) n (now (mapping .entry)) (now (targets .exit)) (now (spans .exit)) ⌝ }
+    requires { ⌜ KnownPairs (now mapping) (now keys) m × ((length (now targets) ≡ 1024) × (length (now spans) ≡ 1024)) × ((i : ℕ) → getD (now spans) i 0 ≡ 0) × Named (now tree) (startsOf (now table)) (sizesOf (now table)) (now hints) n ⌝ }
+    ensures { λ _. ⌜ Targets (listing (now (tree .entry)) (startsOf (now (table .entry))) (sizesOf (now (table .entry))) n) n (now (mapping .entry)) (now (targets .exit)) (now (spans .exit)) ⌝ }
 {
     let mut i = 0;
     while i < m {
-        set_target(
-            tree,
-            starts,
-            sizes,
-            hints,
-            n,
-            mapping,
-            keys[i],
-            targets,
-            spans,
-        );
+        set_target(tree, table, hints, n, mapping, keys[i], targets, spans);
         i += 1;
     }
 }
@@ -87,8 +69,7 @@ fn find_targets(
 // The answer for a tree, a mapping and what it makes of each name: measured on a buffer without room, and written if it fits.
 fn rename_over(
     tree: &[u8],
-    starts: &[u16; 1024],
-    sizes: &[u16; 1024],
+    table: &[Entry; 1024],
     n: usize,
     spots: &[Spot],
     k: usize,
@@ -97,7 +78,7 @@ fn rename_over(
     spans: &[u16; 1024],
     out: &mut [u8],
 ) -> Answer
-    requires { ⌜ Surveyed (now tree) (now starts) (now sizes) n (now spots) k × Targets (listing (now tree) (now starts) (now sizes) n) n (now mapping) (now targets) (now spans) ⌝ }
+    requires { ⌜ Surveyed (now tree) (startsOf (now table)) (sizesOf (now table)) n (now spots) k × Targets (listing (now tree) (startsOf (now table)) (sizesOf (now table)) n) n (now mapping) (now targets) (now spans) ⌝ }
     ensures { λ r. ⌜ Answered (renameOutcome (now (tree .entry)) (now (mapping .entry))) (now (out .entry)) (now (out .exit)) r ⌝ }
 {
     let end = tree.len();
@@ -109,8 +90,7 @@ fn rename_over(
         spots,
         0,
         k,
-        starts,
-        sizes,
+        table,
         n,
         mapping,
         targets,
@@ -128,8 +108,7 @@ fn rename_over(
         spots,
         0,
         k,
-        starts,
-        sizes,
+        table,
         n,
         mapping,
         targets,
@@ -143,26 +122,24 @@ fn rename_over(
 // The same for a tree and a mapping that were checked.
 fn rename_of(
     tree: &[u8],
-    starts: &[u16; 1024],
-    sizes: &[u16; 1024],
+    table: &[Entry; 1024],
     hints: &[u16; 4096],
     n: usize,
     spots: &[Spot],
     k: usize,
     mapping: &[u8],
-    keys: &[Entry; 64],
+    keys: &[Pair; 64],
     m: usize,
     out: &mut [u8],
 ) -> Answer
-    requires { ⌜ Known (now tree) (now starts) (now sizes) (now hints) n × Noted (now tree) 0 (listing (now tree) (now starts) (now sizes) n) (now spots) k × KnownPairs (now mapping) (now keys) m ⌝ }
+    requires { ⌜ Known (now tree) (startsOf (now table)) (sizesOf (now table)) (now hints) n × Noted (now tree) 0 (listing (now tree) (startsOf (now table)) (sizesOf (now table)) n) (now spots) k × KnownPairs (now mapping) (now keys) m ⌝ }
     ensures { λ r. ⌜ Answered (renameOutcome (now (tree .entry)) (now (mapping .entry))) (now (out .entry)) (now (out .exit)) r ⌝ }
 {
     let mut targets = [0u16; 1024];
     let mut spans = [0u16; 1024];
     find_targets(
         tree,
-        starts,
-        sizes,
+        table,
         hints,
         n,
         mapping,
@@ -171,25 +148,13 @@ fn rename_of(
         &mut targets,
         &mut spans,
     );
-    rename_over(
-        tree,
-        starts,
-        sizes,
-        n,
-        spots,
-        k,
-        mapping,
-        &targets,
-        &spans,
-        out,
-    )
+    rename_over(tree, table, n, spots, k, mapping, &targets, &spans, out)
 }
 
 // The same for a tree that was checked and any mapping.
 fn rename_by(
     tree: &[u8],
-    starts: &[u16; 1024],
-    sizes: &[u16; 1024],
+    table: &[Entry; 1024],
     hints: &[u16; 4096],
     n: usize,
     spots: &[Spot],
@@ -197,26 +162,12 @@ fn rename_by(
     mapping: &[u8],
     out: &mut [u8],
 ) -> Answer
-    requires { ⌜ Known (now tree) (now starts) (now sizes) (now hints) n × Noted (now tree) 0 (listing (now tree) (now starts) (now sizes) n) (now spots) k ⌝ }
+    requires { ⌜ Known (now tree) (startsOf (now table)) (sizesOf (now table)) (now hints) n × Noted (now tree) 0 (listing (now tree) (startsOf (now table)) (sizesOf (now table)) n) (now spots) k ⌝ }
     ensures { λ r. ⌜ Answered (renameOutcome (now (tree .entry)) (now (mapping .entry))) (now (out .entry)) (now (out .exit)) r ⌝ }
 {
     let mut keys = [[0u16; 4]; 64];
     match check_mapping(mapping, &mut keys) {
-        Check::Good(m) => {
-            rename_of(
-                tree,
-                starts,
-                sizes,
-                hints,
-                n,
-                spots,
-                k,
-                mapping,
-                &keys,
-                m,
-                out,
-            )
-        }
+        Check::Good(m) => { rename_of(tree, table, hints, n, spots, k, mapping, &keys, m, out) }
         Check::Malformed => Answer::Malformed,
         Check::OverBound => Answer::OverBound,
     }
@@ -225,8 +176,7 @@ fn rename_by(
 // The same for any tree, where the spots have room for all that a text within the bounds can have.
 fn rename_with(
     tree: &[u8],
-    starts: &mut [u16; 1024],
-    sizes: &mut [u16; 1024],
+    table: &mut [Entry; 1024],
     hints: &mut [u16; 4096],
     spots: &mut [Spot],
     mapping: &[u8],
@@ -235,8 +185,8 @@ fn rename_with(
     requires { ⌜ (length (now tree) ≤ 16384 → length (now tree) ≤ 3 * length (now spots)) ⌝ }
     ensures { λ r. ⌜ Answered (renameOutcome (now (tree .entry)) (now (mapping .entry))) (now (out .entry)) (now (out .exit)) r ⌝ }
 {
-    match note_tree(tree, starts, sizes, hints, spots) {
-        Noting::Good(n, k) => { rename_by(tree, starts, sizes, hints, n, spots, k, mapping, out) }
+    match note_tree(tree, table, hints, spots) {
+        Noting::Good(n, k) => { rename_by(tree, table, hints, n, spots, k, mapping, out) }
         Noting::Malformed => Answer::Malformed,
         Noting::OverBound => Answer::OverBound,
     }
@@ -246,41 +196,16 @@ fn rename_with(
 pub fn rename(tree: &[u8], mapping: &[u8], out: &mut [u8]) -> Answer
     ensures { λ r. ⌜ Answered (renameOutcome (now (tree .entry)) (now (mapping .entry))) (now (out .entry)) (now (out .exit)) r ⌝ }
 {
-    let mut starts = [0u16; 1024];
-    let mut sizes = [0u16; 1024];
+    let mut table = [[0u16; 2]; 1024];
     let mut hints = [0u16; 4096];
     if tree.len() <= 1536 {
         let mut spots = [[0u16; 3]; 512];
-        return rename_with(
-            tree,
-            &mut starts,
-            &mut sizes,
-            &mut hints,
-            &mut spots,
-            mapping,
-            out,
-        );
+        return rename_with(tree, &mut table, &mut hints, &mut spots, mapping, out);
     }
     if tree.len() <= 6144 {
         let mut spots = [[0u16; 3]; 2048];
-        return rename_with(
-            tree,
-            &mut starts,
-            &mut sizes,
-            &mut hints,
-            &mut spots,
-            mapping,
-            out,
-        );
+        return rename_with(tree, &mut table, &mut hints, &mut spots, mapping, out);
     }
     let mut spots = [[0u16; 3]; 5462];
-    rename_with(
-        tree,
-        &mut starts,
-        &mut sizes,
-        &mut hints,
-        &mut spots,
-        mapping,
-        out,
-    )
+    rename_with(tree, &mut table, &mut hints, &mut spots, mapping, out)
 }

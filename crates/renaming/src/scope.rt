@@ -4,6 +4,7 @@ use emit::put;
 use emit::put_all;
 use lines::check::Noting;
 use lines::fields::Spot;
+use names::Entry;
 use names::wide;
 use reading::note_tree;
 use text::piece;
@@ -14,7 +15,7 @@ ghost use mathlib.Core.List.{[], _∷_};
 ghost use mathlib.Core.Bool.{cond};
 ghost use lib.Dec.{eqb};
 ghost use lib.ListN.{length};
-ghost use Rattle.names.specs.bridge.Names.{listing, nameAt};
+ghost use Rattle.names.specs.bridge.Names.{listing, nameAt, startsOf, sizesOf};
 ghost use Rattle.emit.specs.bridge.Emit.{em, puts};
 ghost use Rattle.answers.specs.Outcome.{Answered};
 ghost use Rattle.renaming.specs.Scope.{scopeOutcome};
@@ -24,8 +25,7 @@ ghost use Rattle.renaming.specs.bridge.Code.{Surveyed, chosenText, tabbe
 // The names whose flags from `base` on are set, each after a tab.
 fn put_names(
     tree: &[u8],
-    starts: &[u16; 1024],
-    sizes: &[u16; 1024],
+    table: &[Entry; 1024],
     n: usize,
     flags: &[u8; 2048],
     base: usize,
@@ -33,12 +33,12 @@ fn put_names(
     at: usize,
 ) -> usize
     requires { ⌜ (n ≤ 1024) × (base ≤ 1024) ⌝ }
-    ensures { λ r. ⌜ em r (now (out .exit)) ≡ tabbed (chosen base (now (flags .entry)) (listing (now (tree .entry)) (now (starts .entry)) (now (sizes .entry)) n)) (em at (now (out .entry))) ⌝ }
+    ensures { λ r. ⌜ em r (now (out .exit)) ≡ tabbed (chosen base (now (flags .entry)) (listing (now (tree .entry)) (startsOf (now (table .entry))) (sizesOf (now (table .entry))) n)) (em at (now (out .entry))) ⌝ }
 {
     let mut to = at;
     let mut k = 0;
     while k < n {
-        to = put_name(tree, starts, sizes, k, flags[base + k], out, to);
+        to = put_name(tree, table, k, flags[base + k], out, to);
         k += 1;
     }
     to
@@ -47,21 +47,21 @@ fn put_names(
 // The name at an entry, after a tab, if its flag is set.
 fn put_name(
     tree: &[u8],
-    starts: &[u16; 1024],
-    sizes: &[u16; 1024],
+    table: &[Entry; 1024],
     k: usize,
     flag: u8,
     out: &mut [u8],
     at: usize,
 ) -> usize
     requires { ⌜ k < 1024 ⌝ }
-    ensures { λ r. ⌜ em r (now (out .exit)) ≡ tabbed (cond (eqb flag 0) [] (nameAt (now (tree .entry)) (now (starts .entry)) (now (sizes .entry)) k ∷ [])) (em at (now (out .entry))) ⌝ }
+    ensures { λ r. ⌜ em r (now (out .exit)) ≡ tabbed (cond (eqb flag 0) [] (nameAt (now (tree .entry)) (startsOf (now (table .entry))) (sizesOf (now (table .entry))) k ∷ [])) (em at (now (out .entry))) ⌝ }
 {
     if flag == 0 {
         return at;
     }
     let to = put(out, at, 9);
-    put_all(out, to, piece(tree, wide(starts[k]), wide(sizes[k])))
+    let e = table[k];
+    put_all(out, to, piece(tree, wide(e[0]), wide(e[1])))
 }
 
 const IN: [u8; 2] = *b"in";
@@ -71,53 +71,50 @@ const HID: [u8; 3] = *b"hid";
 // The two lines.
 fn put_scope(
     tree: &[u8],
-    starts: &[u16; 1024],
-    sizes: &[u16; 1024],
+    table: &[Entry; 1024],
     n: usize,
     flags: &[u8; 2048],
     out: &mut [u8],
     at: usize,
 ) -> usize
     requires { ⌜ n ≤ 1024 ⌝ }
-    ensures { λ r. ⌜ em r (now (out .exit)) ≡ puts (chosenText (now (flags .entry)) (listing (now (tree .entry)) (now (starts .entry)) (now (sizes .entry)) n)) (em at (now (out .entry))) ⌝ }
+    ensures { λ r. ⌜ em r (now (out .exit)) ≡ puts (chosenText (now (flags .entry)) (listing (now (tree .entry)) (startsOf (now (table .entry))) (sizesOf (now (table .entry))) n)) (em at (now (out .entry))) ⌝ }
 {
     let a = put_all(out, at, &IN);
-    let b = put_names(tree, starts, sizes, n, flags, 0, out, a);
+    let b = put_names(tree, table, n, flags, 0, out, a);
     let c = put(out, b, 10);
     let d = put_all(out, c, &HID);
-    let e = put_names(tree, starts, sizes, n, flags, 1024, out, d);
+    let e = put_names(tree, table, n, flags, 1024, out, d);
     put(out, e, 10)
 }
 
 // The answer for a tree whose variables were noted: measured on a buffer without room, and written if it fits.
 fn scope_of(
     tree: &[u8],
-    starts: &[u16; 1024],
-    sizes: &[u16; 1024],
+    table: &[Entry; 1024],
     n: usize,
     spots: &[Spot],
     k: usize,
     out: &mut [u8],
 ) -> Answer
-    requires { ⌜ Surveyed (now tree) (now starts) (now sizes) n (now spots) k ⌝ }
+    requires { ⌜ Surveyed (now tree) (startsOf (now table)) (sizesOf (now table)) n (now spots) k ⌝ }
     ensures { λ r. ⌜ Answered (scopeOutcome (now (tree .entry))) (now (out .entry)) (now (out .exit)) r ⌝ }
 {
     let mut flags = [0u8; 2048];
     note_places(spots, k, &mut flags);
     let mut none = [0u8; 0];
-    let need = put_scope(tree, starts, sizes, n, &flags, &mut none, 0);
+    let need = put_scope(tree, table, n, &flags, &mut none, 0);
     if out.len() < need {
         return Answer::TooShort;
     }
-    let size = put_scope(tree, starts, sizes, n, &flags, out, 0);
+    let size = put_scope(tree, table, n, &flags, out, 0);
     Answer::Written(size)
 }
 
 // The same for any text, where the spots have room for all that a text within the bounds can have.
 fn scope_over(
     tree: &[u8],
-    starts: &mut [u16; 1024],
-    sizes: &mut [u16; 1024],
+    table: &mut [Entry; 1024],
     hints: &mut [u16; 4096],
     spots: &mut [Spot],
     out: &mut [u8],
@@ -125,8 +122,8 @@ fn scope_over(
     requires { ⌜ (length (now tree) ≤ 16384 → length (now tree) ≤ 3 * length (now spots)) ⌝ }
     ensures { λ r. ⌜ Answered (scopeOutcome (now (tree .entry))) (now (out .entry)) (now (out .exit)) r ⌝ }
 {
-    match note_tree(tree, starts, sizes, hints, spots) {
-        Noting::Good(n, k) => scope_of(tree, starts, sizes, n, spots, k, out),
+    match note_tree(tree, table, hints, spots) {
+        Noting::Good(n, k) => scope_of(tree, table, n, spots, k, out),
         Noting::Malformed => Answer::Malformed,
         Noting::OverBound => Answer::OverBound,
     }
@@ -136,17 +133,16 @@ fn scope_over(
 pub fn scope(tree: &[u8], out: &mut [u8]) -> Answer
     ensures { λ r. ⌜ Answered (scopeOutcome (now (tree .entry))) (now (out .entry)) (now (out .exit)) r ⌝ }
 {
-    let mut starts = [0u16; 1024];
-    let mut sizes = [0u16; 1024];
+    let mut table = [[0u16; 2]; 1024];
     let mut hints = [0u16; 4096];
     if tree.len() <= 1536 {
         let mut spots = [[0u16; 3]; 512];
-        return scope_over(tree, &mut starts, &mut sizes, &mut hints, &mut spots, out);
+        return scope_over(tree, &mut table, &mut hints, &mut spots, out);
     }
     if tree.len() <= 6144 {
         let mut spots = [[0u16; 3]; 2048];
-        return scope_over(tree, &mut starts, &mut sizes, &mut hints, &mut spots, out);
+        return scope_over(tree, &mut table, &mut hints, &mut spots, out);
     }
     let mut spots = [[0u16; 3]; 5462];
-    scope_over(tree, &mut starts, &mut sizes, &mut hints, &mut spots, out)
+    scope_over(tree, &mut table, &mut hints, &mut spots, out)
 }

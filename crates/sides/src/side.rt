@@ -7,6 +7,7 @@ use crate::list::read_positions;
 use emit::put;
 use emit::put_all;
 use lines::fields::Spot;
+use names::Entry;
 use names::wide;
 use naming::put_decimal;
 use naming::standardize_variables;
@@ -26,7 +27,7 @@ ghost use Rattle.text.specs.Word.{bytes};
 ghost use Rattle.cursor.specs.bridge.Cursor.{left};
 ghost use Rattle.algebra.specs.Tree.{Pattern};
 ghost use Rattle.algebra.specs.Query.{Pair};
-ghost use Rattle.names.specs.bridge.Names.{listing};
+ghost use Rattle.names.specs.bridge.Names.{listing, startsOf, sizesOf};
 ghost use Rattle.emit.specs.bridge.Emit.{em, puts};
 ghost use Rattle.scoping.specs.Numbering.{numbered};
 ghost use Rattle.scoping.specs.bridge.Pushes.{allPushes, newName};
@@ -104,8 +105,7 @@ fn join_entries(spots: &[Spot], at: &[u16; 64], m: usize, joins: &mut [u16; 64])
 // standardize_variables for a tree whose variables were noted: each name of the table gets its new name.
 fn name_side(
     text: &[u8],
-    starts: &[u16; 1024],
-    sizes: &[u16; 1024],
+    table: &[Entry; 1024],
     n: usize,
     spots: &[Spot],
     prefix: u8,
@@ -116,14 +116,13 @@ fn name_side(
     spans: &mut [u16; 1024],
 )
     requires { ⌜ (n ≤ 1024) × Inside 1024 (now spots) (length (now spots)) × (m ≤ 64) × ((i : ℕ) → i < m → getD (now joins) i 0 < n) × (16384 ≤ length (now pool)) × (length (now targets) ≡ 1024) × (length (now spans) ≡ 1024) × ((k : ℕ) → getD (now spans) k 0 ≡ 0) ⌝ }
-    ensures { λ _. ⌜ ((at : ℕ) (p : Pattern) → TreeIn (now (text .entry)) at (now (starts .entry)) (now (sizes .entry)) n (now (spots .entry)) p → Renames (listing (now (text .entry)) (now (starts .entry)) (now (sizes .entry)) n) n (now (pool .exit)) (now (targets .exit)) (now (spans .exit)) (newName (allPushes prefix (numbered p) (namesAt (now (text .entry)) (now (starts .entry)) (now (sizes .entry)) (now (joins .entry)) m 0)))) ⌝ }
+    ensures { λ _. ⌜ ((at : ℕ) (p : Pattern) → TreeIn (now (text .entry)) at (startsOf (now (table .entry))) (sizesOf (now (table .entry))) n (now (spots .entry)) p → Renames (listing (now (text .entry)) (startsOf (now (table .entry))) (sizesOf (now (table .entry))) n) n (now (pool .exit)) (now (targets .exit)) (now (spans .exit)) (newName (allPushes prefix (numbered p) (namesAt (now (text .entry)) (startsOf (now (table .entry))) (sizesOf (now (table .entry))) (now (joins .entry)) m 0)))) ⌝ }
 {
     let mut flags = [0u8; 2048];
     note_places(spots, spots.len(), &mut flags);
     standardize_variables(
         text,
-        starts,
-        sizes,
+        table,
         n,
         &flags,
         prefix,
@@ -158,8 +157,7 @@ fn name_columns(
     from: usize,
     inner: usize,
     columns: usize,
-    starts: &[u16; 1024],
-    sizes: &[u16; 1024],
+    table: &[Entry; 1024],
     n: usize,
     spots: &[Spot],
     prefix: u8,
@@ -170,15 +168,14 @@ fn name_columns(
     spans: &mut [u16; 1024],
     line: &mut [u8],
 ) -> usize
-    requires { ⌜ Letter prefix × (16384 ≤ length (now pool)) × (length (now targets) ≡ 1024) × (length (now spans) ≡ 1024) × ((i : ℕ) → getD (now spans) i 0 ≡ 0) × (length (now line) ≡ 8336) × (m ≤ 64) × (length (now at) ≡ 64) × ((x : Projection) × Placed (now text) from (now starts) (now sizes) n (now spots) inner columns x × (inside (x .columns) (take m (now at)) ≡ true)) ⌝ }
-    ensures { λ r. ⌜ (r ≤ 8336) × ((x : Projection) → Placed (now (text .entry)) from (now (starts .entry)) (now (sizes .entry)) n (now (spots .entry)) inner columns x → inside (x .columns) (take m (now (at .entry))) ≡ true → Renames (listing (now (text .entry)) (now (starts .entry)) (now (sizes .entry)) n) n (now (pool .exit)) (now (targets .exit)) (now (spans .exit)) (sideName prefix (x .columns) (x .inner) (take m (now (at .entry)))) × (columnsIn (now (line .exit)) r ≡ map (sideName prefix (x .columns) (x .inner) (take m (now (at .entry)))) (x .columns))) ⌝ }
+    requires { ⌜ Letter prefix × (16384 ≤ length (now pool)) × (length (now targets) ≡ 1024) × (length (now spans) ≡ 1024) × ((i : ℕ) → getD (now spans) i 0 ≡ 0) × (length (now line) ≡ 8336) × (m ≤ 64) × (length (now at) ≡ 64) × ((x : Projection) × Placed (now text) from (startsOf (now table)) (sizesOf (now table)) n (now spots) inner columns x × (inside (x .columns) (take m (now at)) ≡ true)) ⌝ }
+    ensures { λ r. ⌜ (r ≤ 8336) × ((x : Projection) → Placed (now (text .entry)) from (startsOf (now (table .entry))) (sizesOf (now (table .entry))) n (now (spots .entry)) inner columns x → inside (x .columns) (take m (now (at .entry))) ≡ true → Renames (listing (now (text .entry)) (startsOf (now (table .entry))) (sizesOf (now (table .entry))) n) n (now (pool .exit)) (now (targets .exit)) (now (spans .exit)) (sideName prefix (x .columns) (x .inner) (take m (now (at .entry)))) × (columnsIn (now (line .exit)) r ≡ map (sideName prefix (x .columns) (x .inner) (take m (now (at .entry)))) (x .columns))) ⌝ }
 {
     let mut joins = [0u16; 64];
     join_entries(spots, at, m, &mut joins);
     name_side(
         text,
-        starts,
-        sizes,
+        table,
         n,
         spots,
         prefix,
@@ -195,8 +192,7 @@ fn name_columns(
         spots,
         0,
         columns,
-        starts,
-        sizes,
+        table,
         n,
         pool,
         targets,
@@ -211,8 +207,7 @@ fn name_columns(
 pub fn prepare(
     text: &[u8],
     from: usize,
-    starts: &[u16; 1024],
-    sizes: &[u16; 1024],
+    table: &[Entry; 1024],
     n: usize,
     spots: &[Spot],
     prefix: u8,
@@ -226,8 +221,8 @@ pub fn prepare(
     at: &mut [u16; 64],
     lines: &mut [u16; 64],
 ) -> Prepared
-    requires { ⌜ Asked (now text) from (now starts) (now sizes) n (now spots) (now pairs) (now constants) × Letter prefix × (16384 ≤ length (now pool)) × (length (now targets) ≡ 1024) × (length (now spans) ≡ 1024) × ((k : ℕ) → getD (now spans) k 0 ≡ 0) × (length (now line) ≡ 8336) × (length (now at) ≡ 64) × (length (now lines) ≡ 64) ⌝ }
-    ensures { λ r. ⌜ (length (now (at .exit)) ≡ 64) × ((x : Projection) (js ks : List Pair) → TreeIn (now (text .entry)) from (now (starts .entry)) (now (sizes .entry)) n (now (spots .entry)) (tree x) → length (x .columns) ≤ 64 → Listed (now (pairs .entry)) js → Listed (now (constants .entry)) ks → PreparedIs (now (text .entry)) (now (starts .entry)) (now (sizes .entry)) n prefix second (now (constants .entry)) x js ks (now (pool .exit)) (now (targets .exit)) (now (spans .exit)) (now (line .exit)) (now (at .exit)) (now (lines .exit)) r) ⌝ }
+    requires { ⌜ Asked (now text) from (startsOf (now table)) (sizesOf (now table)) n (now spots) (now pairs) (now constants) × Letter prefix × (16384 ≤ length (now pool)) × (length (now targets) ≡ 1024) × (length (now spans) ≡ 1024) × ((k : ℕ) → getD (now spans) k 0 ≡ 0) × (length (now line) ≡ 8336) × (length (now at) ≡ 64) × (length (now lines) ≡ 64) ⌝ }
+    ensures { λ r. ⌜ (length (now (at .exit)) ≡ 64) × ((x : Projection) (js ks : List Pair) → TreeIn (now (text .entry)) from (startsOf (now (table .entry))) (sizesOf (now (table .entry))) n (now (spots .entry)) (tree x) → length (x .columns) ≤ 64 → Listed (now (pairs .entry)) js → Listed (now (constants .entry)) ks → PreparedIs (now (text .entry)) (startsOf (now (table .entry))) (sizesOf (now (table .entry))) n prefix second (now (constants .entry)) x js ks (now (pool .exit)) (now (targets .exit)) (now (spans .exit)) (now (line .exit)) (now (at .exit)) (now (lines .exit)) r) ⌝ }
 {
     let found = find_columns(text, from);
     let columns = found.columns;
@@ -245,8 +240,7 @@ pub fn prepare(
         from,
         found.inner,
         columns,
-        starts,
-        sizes,
+        table,
         n,
         spots,
         prefix,
@@ -316,8 +310,7 @@ fn put_values(
 // The lines of a side: its inner pattern under new names, and its constants bound.
 pub fn put_side(
     text: &[u8],
-    starts: &[u16; 1024],
-    sizes: &[u16; 1024],
+    table: &[Entry; 1024],
     n: usize,
     spots: &[Spot],
     pool: &[u8],
@@ -331,8 +324,8 @@ pub fn put_side(
     out: &mut [u8],
     at: usize,
 ) -> usize
-    requires { ⌜ ((from : ℕ) × (x : Projection) × Placed (now text) from (now starts) (now sizes) n (now spots) (side .inner) (side .columns) x) × (side .constants ≤ 64) × (length (now positions) ≡ 64) × (side .end ≤ length (now line)) × (ones (side .constant) ≡ length (picked 1 (side .constant) (columnsIn (now line) (side .end)))) ⌝ }
-    ensures { λ r. ⌜ ((from : ℕ) (x : Projection) (new : Bytes → Bytes) (ks : List Pair) → Placed (now (text .entry)) from (now (starts .entry)) (now (sizes .entry)) n (now (spots .entry)) (side .inner) (side .columns) x → Renames (listing (now (text .entry)) (now (starts .entry)) (now (sizes .entry)) n) n (now (pool .entry)) (now (targets .entry)) (now (spans .entry)) new → Kept (now (constants .entry)) ks false (now (positions .entry)) (now (lines .entry)) (side .constants) → (t : List Line) → puts (textOf t) (em r (now (out .exit))) ≡ puts (textOf (joinLine (side .constants) (put (renameInGraphPattern new (x .inner)) (valuesLines (side .constants) (ones (side .constant)) (picked 1 (side .constant) (columnsIn (now (line .entry)) (side .end))) (termsFrom ks 0 64) t)))) (em at (now (out .entry)))) ⌝ }
+    requires { ⌜ ((from : ℕ) × (x : Projection) × Placed (now text) from (startsOf (now table)) (sizesOf (now table)) n (now spots) (side .inner) (side .columns) x) × (side .constants ≤ 64) × (length (now positions) ≡ 64) × (side .end ≤ length (now line)) × (ones (side .constant) ≡ length (picked 1 (side .constant) (columnsIn (now line) (side .end)))) ⌝ }
+    ensures { λ r. ⌜ ((from : ℕ) (x : Projection) (new : Bytes → Bytes) (ks : List Pair) → Placed (now (text .entry)) from (startsOf (now (table .entry))) (sizesOf (now (table .entry))) n (now (spots .entry)) (side .inner) (side .columns) x → Renames (listing (now (text .entry)) (startsOf (now (table .entry))) (sizesOf (now (table .entry))) n) n (now (pool .entry)) (now (targets .entry)) (now (spans .entry)) new → Kept (now (constants .entry)) ks false (now (positions .entry)) (now (lines .entry)) (side .constants) → (t : List Line) → puts (textOf t) (em r (now (out .exit))) ≡ puts (textOf (joinLine (side .constants) (put (renameInGraphPattern new (x .inner)) (valuesLines (side .constants) (ones (side .constant)) (picked 1 (side .constant) (columnsIn (now (line .entry)) (side .end))) (termsFrom ks 0 64) t)))) (em at (now (out .entry)))) ⌝ }
 {
     let a = put_join(side.constants, out, at);
     let b = put_renamed(
@@ -342,8 +335,7 @@ pub fn put_side(
         spots,
         side.columns,
         spots.len(),
-        starts,
-        sizes,
+        table,
         n,
         pool,
         targets,

@@ -15,10 +15,7 @@ use Rattle.text.specs.declared.Number.{Number}
 use Rattle.text.specs.declared.Number.the-variants.{Is, Not}
 use Rattle.text.proofs.Basics.{same-eq}
 use Rattle.algebra.specs.Valid.{mem}
-use Rattle.words.specs.bridge.Code.{Tidy}
 use Rattle.words.specs.declared.Row.{Row as Code}
-use Rattle.words.specs.declared.Found.{Found}
-use Rattle.words.specs.declared.Found.the-variants as W
 use Rattle.names.specs.bridge.Names.{nameAt, listing, Hinted}
 use Rattle.names.proofs.Laws.{listing-long, listing-at, listed}
 use Rattle.cursor.specs.bridge.Cursor.{left}
@@ -57,11 +54,6 @@ second-number s at next end n h e = e ∙ ap (λ (l : List Bytes). numberIn (get
 -- the fields of a whole line
 pub line-split : (s : Bytes) (from end w : ℕ) → end < length s → from ≤ end → First 9 s from end w → split 9 (part from end s) ≡ part from w s ∷ left s (w + 1) end
 line-split s from end w k h f = sym (left-all s from end h) ∙ next-field s from end w k h f
-
--- ---- the row of a word
-
-pub tidy-is : (s : ℕ) (f : Found) (c : Code) → Tidy s f → f ≡ W.Is c → Tidy s (W.Is c)
-tidy-is s f c t q = subst (Tidy s) q t
 
 -- ---- noting
 

@@ -76,10 +76,6 @@ module _ {ns : List Bytes} {a : List (List ℕ)} {k : ℕ} {xs : List Spot} (x :
   pub spotted-long : length xs ≡ k
   spotted-long = ap length (sym (x .are)) ∙ spots-long ns a k
 
-  -- fewer of them
-  pub spotted-take : (j : ℕ) → j ≤ k → Spotted ns a j (take j xs)
-  spotted-take j h = record { many = let m = x .many in omega arith; are = spots-take ns a k j h ∙ ap (take j) (x .are); inside = λ i l. x .inside i (omega arith) }
-
   pub spotted-inside : Inside (length ns) a k
   spotted-inside = record { many = x .many; each = x .inside }
 

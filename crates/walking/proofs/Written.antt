@@ -14,6 +14,7 @@ use Rattle.text.proofs.Basics.{and-left, and-right}
 use Rattle.text.proofs.Numbers.{number-back}
 use Rattle.algebra.specs.Valid.{Fits, AllFit, mem}
 use Rattle.algebra.specs.bridge.Table.{Slot}
+use Rattle.lines.proofs.SpotsLaw.{number-fixed, cell-fixed}
 use Rattle.emit.specs.bridge.Emit.{Em, put1, puts}
 use Rattle.emit.proofs.Laws.{puts-append}
 use Rattle.scoping.specs.Sets.{indexOf}
@@ -35,32 +36,7 @@ puts-ended w (g ∷ gs) rest e =
     ∙ puts-ended g gs rest (put1 9 (puts w e))
     ∙ sym (puts-append w (9 ∷ ended (g ∷ gs) rest) e)
 
--- ---- fields that are no variables
-
--- a variable begins with ?
-not-variable : (f : Bytes) → (getD f 0 0 ≡ 63 → ⊥) → isVar f ≡ false
-unfolding isVar
-not-variable f h = rw (ne-eqb (getD f 0 0) 63 h, and-none (leb (length f) 129), and-none (leb 2 (length f)))
-
-no-digit : (ds : Bytes) (n : ℕ) → numberOf (63 ∷ ds) ≡ some n → ⊥
-unfolding numberOf digitsOf
-no-digit [] n e = let z : _≡_ {A = ℕ} 0 1 = cc in omega arith
-no-digit (d ∷ ds) n e = let z : _≡_ {A = ℕ} 0 1 = cc in omega arith
-
--- a number is no variable
-number-fixed : (f : Bytes) (n : ℕ) → numberOf f ≡ some n → isVar f ≡ false
-unfolding isVar
-number-fixed [] n e = refl
-number-fixed (d ∷ ds) n e = not-variable (d ∷ ds) (λ q. no-digit ds n (ap (λ (x : ℕ). numberOf (x ∷ ds)) (sym q) ∙ e))
-
-no-cell : (f : Bytes) → getD f 0 0 ≡ 63 → isKind cell f ≡ false
-unfolding isKind isIri isLiteral isDash
-no-cell f q = rw (q, and-none (leb 2 (length f)), and-none (leb 1 (length f)), and-none (eqb (length f) 1))
-
--- an IRI, a literal or a dash begins with another byte
-pub cell-fixed : (f : Bytes) → Fits cell f → isVar f ≡ false
-unfolding fits
-cell-fixed f h = not-variable f (λ q. true≢false (sym (and-right (clean f) (isKind cell f) h) ∙ no-cell f q))
+-- ---- fields
 
 pub variable-is : (v : Bytes) → Fits variable v → isVar v ≡ true
 unfolding fits isKind

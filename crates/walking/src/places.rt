@@ -1,6 +1,7 @@
 // The places of a tree's variables, as its check noted them: the text written under new names, and which names stand visible or covered.
 use emit::put_all;
 use lines::fields::Spot;
+use names::Entry;
 use names::wide;
 use text::piece;
 ghost use mathlib.Core.Path.{_≡_};
@@ -8,7 +9,7 @@ ghost use Prim.Native.Nat.{_≤_, _<_};
 ghost use mathlib.Core.List.{List};
 ghost use lib.ListN.{length, getD, drop};
 ghost use Rattle.text.specs.Text.{Bytes, piece as pieceOf};
-ghost use Rattle.names.specs.bridge.Names.{listing, nameAt};
+ghost use Rattle.names.specs.bridge.Names.{listing, nameAt, startsOf, sizesOf};
 ghost use Rattle.emit.specs.bridge.Emit.{em, puts};
 ghost use Rattle.scoping.specs.Sets.{Once};
 ghost use Rattle.lines.specs.bridge.Spotted.{markAt, spotsOf};
@@ -52,11 +53,12 @@ fn put_new(
 }
 
 // How many bytes the name at an entry has.
-fn name_size(text: &[u8], starts: &[u16; 1024], sizes: &[u16; 1024], entry: usize) -> usize
+fn name_size(text: &[u8], table: &[Entry; 1024], entry: usize) -> usize
     requires { ⌜ entry < 1024 ⌝ }
-    ensures { λ r. ⌜ r ≡ length (nameAt (now (text .entry)) (now (starts .entry)) (now (sizes .entry)) entry) ⌝ }
+    ensures { λ r. ⌜ r ≡ length (nameAt (now (text .entry)) (startsOf (now (table .entry))) (sizesOf (now (table .entry))) entry) ⌝ }
 {
-    piece(text, wide(starts[entry]), wide(sizes[entry])).len()
+    let e = table[entry];
+    piece(text, wide(e[0]), wide(e[1])).len()
 }
 
 // The text between two places, the variables from number i up to k under their new names. All that stays is copied in as few pieces as can be.
@@ -67,8 +69,7 @@ pub fn put_renamed(
     spots: &[Spot],
     i: usize,
     k: usize,
-    starts: &[u16; 1024],
-    sizes: &[u16; 1024],
+    table: &[Entry; 1024],
     n: usize,
     pool: &[u8],
     targets: &[u16; 1024],
@@ -76,8 +77,8 @@ pub fn put_renamed(
     out: &mut [u8],
     at: usize,
 ) -> usize
-    requires { ⌜ (n ≤ 1024) × Once (listing (now text) (now starts) (now sizes) n) × Inside n (now spots) k × (i ≤ k) × Stands (now text) from to (drop i (spotsOf (listing (now text) (now starts) (now sizes) n) (now spots) k)) ⌝ }
-    ensures { λ r. ⌜ em r (now (out .exit)) ≡ rewritten (renames (now (text .entry)) (now (starts .entry)) (now (sizes .entry)) n (now (pool .entry)) (now (targets .entry)) (now (spans .entry))) (now (text .entry)) (drop i (spotsOf (listing (now (text .entry)) (now (starts .entry)) (now (sizes .entry)) n) (now (spots .entry)) k)) from to (em at (now (out .entry))) ⌝ }
+    requires { ⌜ (n ≤ 1024) × Once (listing (now text) (startsOf (now table)) (sizesOf (now table)) n) × Inside n (now spots) k × (i ≤ k) × Stands (now text) from to (drop i (spotsOf (listing (now text) (startsOf (now table)) (sizesOf (now table)) n) (now spots) k)) ⌝ }
+    ensures { λ r. ⌜ em r (now (out .exit)) ≡ rewritten (renames (now (text .entry)) (startsOf (now (table .entry))) (sizesOf (now (table .entry))) n (now (pool .entry)) (now (targets .entry)) (now (spans .entry))) (now (text .entry)) (drop i (spotsOf (listing (now (text .entry)) (startsOf (now (table .entry))) (sizesOf (now (table .entry))) n) (now (spots .entry)) k)) from to (em at (now (out .entry))) ⌝ }
 {
     let mut done = from;
     let mut put = at;
@@ -88,7 +89,7 @@ pub fn put_renamed(
         let entry = wide(s[1]);
         let copied = put_all(out, put, &text[done..start]);
         put = put_new(pool, targets, spans, entry, out, copied);
-        done = start + name_size(text, starts, sizes, entry);
+        done = start + name_size(text, table, entry);
         j = next_renamed(spots, j + 1, k, spans);
     }
     put_all(out, put, &text[done..to])

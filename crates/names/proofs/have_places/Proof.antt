@@ -13,6 +13,4 @@ have-places-spec =
     (λ c κs. search needs)
     (λ c. λ e. let z : _≡_ {A = ℕ} 0 1 = cc in absurd (omega arith))
     (λ c κs. search needs)
-    (λ c. λ e. let z : _≡_ {A = ℕ} 0 1 = cc in absurd (omega arith))
-    (λ c κs. search needs)
     (λ c. search needs))

@@ -1,7 +1,9 @@
 -- `names::is_name` meets its contract. Assumes nothing.
 use borrow.Author.Needs.{needs}
 use mathlib.Core.Path.{_≡_, refl, sym, _∙_, ap}
+use denote.Ref.{now}
 use Rattle.text.specs.Text.{same, piece}
+use Rattle.names.proofs.Columns.{column-at}
 use Rattle.names.proofs.is_name.Statement.{statement}
 use Rattle.names.proofs.is_name.Tie as tie
 
@@ -11,10 +13,10 @@ is-name-spec =
     (tie.spec
     (λ c. search needs)
     (λ c. search needs)
-    (λ c κs. search needs)
-    (λ c. search needs)
     (λ c. search needs)
     (λ c κs. search needs)
+    (λ c. search needs)
     (λ c κs. search needs)
     (λ c κs. search needs)
-    (λ c. cc))
+    (λ c κs. search needs)
+    (λ c. let a = c .before .before .before .before .before .before .before .args in rw (column-at 0 (now (a .table)) (a .i), column-at 1 (now (a .table)) (a .i)) cc))

@@ -1,5 +1,7 @@
 -- `names::no_names` meets its contract. Assumes nothing.
 use borrow.Author.Needs.{needs}
+use mathlib.Core.Path.{_∙_}
+use Rattle.names.proofs.Columns.{column-length}
 use Rattle.names.proofs.no_names.Statement.{statement}
 use Rattle.names.proofs.no_names.Tie as tie
 
@@ -8,6 +10,6 @@ no-names-spec =
     tie.close
     (tie.spec
     (λ c κs. search needs)
-    (λ c. c .before .have-places .ensures (c .if1 .taken))
+    (λ c. let e = c .before .have-places .ensures (c .if1 .taken) in (column-length 0 _ ∙ e .0, column-length 1 _ ∙ e .0, e .1))
     (λ c κs. search needs)
-    (λ c. search needs))
+    (λ c. let e = c .clear .ensures in (column-length 0 _ ∙ e .0, column-length 1 _ ∙ e .0, e .1)))

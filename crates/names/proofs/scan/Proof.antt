@@ -7,15 +7,15 @@ use lib.ListN.{length, getD, drop}
 use Rattle.names.proofs.Laws as L
 use Rattle.algebra.specs.Valid.{mem}
 use mathlib.Core.Bool.{true, false}
-use Rattle.names.specs.bridge.Names.{listing}
+use Rattle.names.specs.bridge.Names.{listing, startsOf, sizesOf}
 use Rattle.names.proofs.scan.Statement.{statement}
 use Rattle.names.proofs.scan.Tie as tie
 
 abbrev Inv-loop : tie.InvT-loop
-Inv-loop f s starts sizes n i₀ i = (i ≤ n) × (mem f (listing s starts sizes i) ≡ false)
+Inv-loop f s table n i₀ i = (i ≤ n) × (mem f (listing s (startsOf table) (sizesOf table) i) ≡ false)
 
 abbrev μ-loop : tie.MeasureT-loop
-μ-loop f s starts sizes n i₀ i = n - i
+μ-loop f s table n i₀ i = n - i
 
 pub scan-spec : {M : Type 1} → statement M
 scan-spec =

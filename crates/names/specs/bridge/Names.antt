@@ -1,7 +1,7 @@
 -- The variable table in arrays: the names that it lists, in their order, and hints at where they stand. Assumes nothing.
 use Prim.Native.Nat.{ℕ, zero, suc, _+_, _*_, _%_, _≤_, _<_}
 use mathlib.Core.Path.{_≡_}
-use mathlib.Core.List.{List, [], _∷_, _++_}
+use mathlib.Core.List.{List, [], _∷_, _++_, map}
 use mathlib.Core.Bool.{Bool, cond}
 use lib.ListN.{length, getD, set}
 use Rattle.text.specs.Text.{Bytes, piece}
@@ -11,6 +11,16 @@ use Rattle.algebra.specs.Valid.{mem}
 unfoldable pub hashOf : ℕ → Bytes → ℕ
 hashOf h [] = h
 hashOf h (b ∷ bs) = hashOf ((h * 471 + b) % 4096) bs
+
+-- a column of the table: the starts of its names, and their sizes
+unfoldable pub column : ℕ → List (List ℕ) → List ℕ
+column j t = map (λ e. getD e j 0) t
+
+abbrev pub startsOf : List (List ℕ) → List ℕ
+startsOf t = column 0 t
+
+abbrev pub sizesOf : List (List ℕ) → List ℕ
+sizesOf t = column 1 t
 
 -- the name at an entry: the piece of the text s that the start and the size there tell
 abbrev pub nameAt : Bytes → List ℕ → List ℕ → ℕ → Bytes
@@ -70,8 +80,3 @@ pub record Lists (s : Bytes) (a l : List ℕ) (n : ℕ) (a′ l′ : List ℕ) (
   pub more : m ≤ 1024 → (length a ≡ 1024) × (length l ≡ 1024) → (xs : List Bytes) × (listing s a′ l′ m ≡ listing s a l n ++ xs)
   pub inside : m ≤ 1024 → entry < m
   pub here : m ≤ 1024 → (length a ≡ 1024) × (length l ≡ 1024) → getD (listing s a′ l′ m) entry [] ≡ f
-
--- n entries, all 0
-pub record Zeros (n : ℕ) (a : List ℕ) : Type 0 where
-  pub size : length a ≡ n
-  pub each : (i : ℕ) → getD a i 0 ≡ 0

@@ -1,4 +1,6 @@
 -- `naming::base_at` meets its contract. Assumes nothing.
+use Rattle.names.specs.bridge.Names.{startsOf, sizesOf}
+use Rattle.names.proofs.Columns as R
 use borrow.Author.Needs.{needs}
 use Rattle.naming.proofs.Book as L
 use Rattle.naming.proofs.base_at.Statement.{statement}
@@ -10,10 +12,10 @@ base-at-spec =
     (tie.spec
     (λ c. search needs)
     (λ c. search needs)
-    (λ c κs. search needs)
-    (λ c. search needs)
     (λ c. search needs)
     (λ c κs. search needs)
+    (λ c. search needs)
     (λ c κs. search needs)
     (λ c κs. search needs)
-    (λ c. L.base-at _ (c .before .before .before .before .before .before .before .args .starts .now) (c .before .before .before .before .before .before .before .args .sizes .now) (c .before .before .before .before .before .before .before .args .k) _ _ _ _ (c .before .before .before .before .wide .ensures) (c .before .before .wide2 .ensures) (c .before .piece .ensures) (c .base-size .ensures)))
+    (λ c κs. search needs)
+    (λ c. L.base-at _ (startsOf (c .before .before .before .before .before .before .args .table .now)) (sizesOf (c .before .before .before .before .before .before .args .table .now)) (c .before .before .before .before .before .before .args .k) _ _ _ _ (R.column-is 0 (c .before .before .before .before .before .before .args .table .now) (c .before .before .before .before .before .before .args .k) _ (c .before .before .before .wide .ensures .0), c .before .before .before .wide .ensures .1) (R.column-is 1 (c .before .before .before .before .before .before .args .table .now) (c .before .before .before .before .before .before .args .k) _ (c .before .before .wide2 .ensures .0), c .before .before .wide2 .ensures .1) (c .before .piece .ensures) (c .base-size .ensures)))

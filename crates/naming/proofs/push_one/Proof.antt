@@ -14,4 +14,4 @@ push-one-spec =
     (λ c. let q = N.one-none _ _ (c .if1 .taken) in (N.pushes-none _ _ _ _ q, omega (arith, ap length q), c .before .before .pre .2))
     (λ c κs. search needs)
     (λ c. search needs)
-    (λ c. let q = N.one-some _ _ (c .before .before .before .before .before .before .if1 .left) in (c .push .ensures .0 ∙ N.pushes-one _ _ _ _ _ q, omega (arith, ap length q), c .push .ensures .1)))
+    (λ c. let q = N.one-some _ _ (c .before .before .before .before .before .if1 .left) in (c .push .ensures .0 ∙ N.pushes-one _ _ _ _ _ q, omega (arith, ap length q), c .push .ensures .1)))

@@ -8,14 +8,15 @@ use Rattle.naming.specs.bridge.Code.{book, SettledTo}
 use Rattle.naming.proofs.Written as W
 use Rattle.naming.proofs.set_new_names.Statement.{statement}
 use Rattle.naming.proofs.set_new_names.Tie as tie
+use Rattle.names.specs.bridge.Names.{startsOf, sizesOf}
 
 abbrev Inv-loop : tie.InvT-loop
-Inv-loop text starts sizes n froms lens hints tags numbers m pool₀ targets₀ spans₀ at₀ k₀ pool targets spans at k =
+Inv-loop text table n listed hints tags numbers m pool₀ targets₀ spans₀ at₀ k₀ pool targets spans at k =
     (length pool ≡ length pool₀) × (length targets ≡ 1024) × (length spans ≡ 1024) × (k ≤ n) × (at ≤ 12 * k)
-    × SettledTo (book text froms lens tags numbers m) text starts sizes k at pool targets spans spans₀
+    × SettledTo (book text (startsOf listed) (sizesOf listed) tags numbers m) text (startsOf table) (sizesOf table) k at pool targets spans spans₀
 
 abbrev μ-loop : tie.MeasureT-loop
-μ-loop text starts sizes n froms lens hints tags numbers m pool₀ targets₀ spans₀ at₀ k₀ pool targets spans at k =
+μ-loop text table n listed hints tags numbers m pool₀ targets₀ spans₀ at₀ k₀ pool targets spans at k =
     n - k
 
 pub set-new-names-spec : {M : Type 1} → statement M
@@ -29,12 +30,12 @@ set-new-names-spec =
     (λ c. search needs)
     (λ c. search needs)
     (λ c. let t = c .before .before .before .before .before .before .before .before .before .before .loop-test .taken in let p = c .before .before .before .before .before .before .before .before .before .before .before .before .before .before .before .before .pre .0 in let q = c .before .before .before .before .before .before .before .before .before .before .before .loop .inv .4 in let g = c .before .before .before .before .before .before .before .before .before .before .before .loop .inv .0 in let r = c .before .before .before .before .before .before .before .before .before .before .before .before .before .before .before .before .pre .3 in (
-      c .before .before .before .before .before .before .set-new-name .kept .1 .1 .1 .1 .1 .1 .1 .1 .1 .1 .0 ∙ g,
-      c .before .before .before .before .before .before .set-new-name .kept .1 .1 .1 .1 .1 .1 .1 .1 .1 .1 .1 .1 .0 ∙ c .before .before .before .before .before .before .before .before .before .before .before .loop .inv .1,
-      c .before .before .before .before .before .before .set-new-name .kept .1 .1 .1 .1 .1 .1 .1 .1 .1 .1 .1 .1 .1 .0 ∙ c .before .before .before .before .before .before .before .before .before .before .before .loop .inv .2,
+      c .before .before .before .before .before .before .set-new-name .kept .1 .1 .1 .1 .1 .1 .1 .1 .0 ∙ g,
+      c .before .before .before .before .before .before .set-new-name .kept .1 .1 .1 .1 .1 .1 .1 .1 .1 .1 .0 ∙ c .before .before .before .before .before .before .before .before .before .before .before .loop .inv .1,
+      c .before .before .before .before .before .before .set-new-name .kept .1 .1 .1 .1 .1 .1 .1 .1 .1 .1 .1 .0 ∙ c .before .before .before .before .before .before .before .before .before .before .before .loop .inv .2,
       omega arith,
       omega (arith, q, c .before .before .before .before .before .before .set-new-name .ensures .high),
-      W.settled-next _ _ _ _ _ _ _ _ _ _ _ _ _ _ (c .before .before .before .before .before .before .before .before .before .before .before .loop .inv .5) (c .before .before .before .before .before .before .set-new-name .ensures) (omega arith) (c .before .before .before .before .before .before .set-new-name .kept .1 .1 .1 .1 .1 .1 .1 .1 .1 .1 .0),
+      W.settled-next _ _ _ _ _ _ _ _ _ _ _ _ _ _ (c .before .before .before .before .before .before .before .before .before .before .before .loop .inv .5) (c .before .before .before .before .before .before .set-new-name .ensures) (omega arith) (c .before .before .before .before .before .before .set-new-name .kept .1 .1 .1 .1 .1 .1 .1 .1 .0),
     ))
     (λ c. c .before .loop .inv .0)
     (λ c. c .before .loop .inv .1 ∙ sym (c .before .before .before .before .before .before .pre .4))

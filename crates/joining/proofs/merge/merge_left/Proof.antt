@@ -15,9 +15,9 @@ merge-left-spec =
     (tie.spec
     (λ c κs. search needs)
     (λ c. search needs)
-    (λ c. K.tree-count _ _ _ _ (c .before .before .before .before .before .before .before .before .before .before .before .before .before .before .before .before .before .args .left-spots .now) _ _ _ _ (c .before .before .before .left-n .given .1) (c .before .before .before .before .before .before .before .before .before .before .before .before .before .before .before .before .before .pre .0) (c .before .before .before .before .before .before .note-tree .ensures))
-    (λ c. sym (K.taken-long _ _ (K.tree-count _ _ _ _ (c .before .before .before .before .before .before .before .before .before .before .before .before .before .before .before .before .before .before .args .left-spots .now) _ _ _ _ (c .before .before .before .before .left-n .given .1) (c .before .before .before .before .before .before .before .before .before .before .before .before .before .before .before .before .before .before .pre .0) (c .before .before .before .before .before .before .before .note-tree .ensures))))
-    (λ c κs. (K.good-tree _ _ _ _ (c .before .before .before .before .before .before .before .before .before .before .before .before .before .before .before .before .before .before .before .before .args .left-spots .now) _ _ _ _ (c .before .before .before .before .before .before .left-n .given .1) (c .before .before .before .before .before .before .before .before .before .before .before .before .before .before .before .before .before .before .before .before .pre .0) (c .before .before .before .before .before .before .before .before .before .note-tree .ensures), c .before .before .before .before .before .before .before .before .before .before .before .before .before .before .before .before .before .before .before .before .pre .1))
+    (λ c. K.tree-count _ _ _ _ (c .before .before .before .before .before .before .before .before .before .before .before .before .before .before .before .args .left-spots .now) _ _ _ _ (c .before .before .left-n .given .1) (c .before .before .before .before .before .before .before .before .before .before .before .before .before .before .before .pre .0) (c .before .before .before .before .before .note-tree .ensures))
+    (λ c. sym (K.taken-long _ _ (K.tree-count _ _ _ _ (c .before .before .before .before .before .before .before .before .before .before .before .before .before .before .before .before .args .left-spots .now) _ _ _ _ (c .before .before .before .left-n .given .1) (c .before .before .before .before .before .before .before .before .before .before .before .before .before .before .before .before .pre .0) (c .before .before .before .before .before .before .note-tree .ensures))))
+    (λ c κs. (K.good-tree _ _ _ _ (c .before .before .before .before .before .before .before .before .before .before .before .before .before .before .before .before .before .before .args .left-spots .now) _ _ _ _ (c .before .before .before .before .before .left-n .given .1) (c .before .before .before .before .before .before .before .before .before .before .before .before .before .before .before .before .before .before .pre .0) (c .before .before .before .before .before .before .before .before .note-tree .ensures), c .before .before .before .before .before .before .before .before .before .before .before .before .before .before .before .before .before .before .pre .1))
     (λ c. search needs)
     (λ c. search needs)
     (λ c. search needs)

@@ -15,9 +15,9 @@ merge-left-query-spec =
     (tie.spec
     (λ c κs. search needs)
     (λ c. search needs)
-    (λ c. K.query-count _ _ _ _ (c .before .before .before .before .before .before .before .before .before .before .before .before .before .before .before .before .before .args .left-spots .now) _ _ _ _ (c .before .before .before .left-n .given .1) (c .before .before .before .before .before .before .before .before .before .before .before .before .before .before .before .before .before .pre .0) (c .before .before .before .before .before .before .note-query .ensures))
-    (λ c. sym (K.taken-long _ _ (K.query-count _ _ _ _ (c .before .before .before .before .before .before .before .before .before .before .before .before .before .before .before .before .before .before .args .left-spots .now) _ _ _ _ (c .before .before .before .before .left-n .given .1) (c .before .before .before .before .before .before .before .before .before .before .before .before .before .before .before .before .before .before .pre .0) (c .before .before .before .before .before .before .before .note-query .ensures))))
-    (λ c κs. (K.good-query _ _ _ _ (c .before .before .before .before .before .before .before .before .before .before .before .before .before .before .before .before .before .before .before .before .args .left-spots .now) _ _ _ _ (c .before .before .before .before .before .before .left-n .given .1) (c .before .before .before .before .before .before .before .before .before .before .before .before .before .before .before .before .before .before .before .before .pre .0) (c .before .before .before .before .before .before .before .before .before .note-query .ensures), c .before .before .before .before .before .before .before .before .before .before .before .before .before .before .before .before .before .before .before .before .pre .1))
+    (λ c. K.query-count _ _ _ _ (c .before .before .before .before .before .before .before .before .before .before .before .before .before .before .before .args .left-spots .now) _ _ _ _ (c .before .before .left-n .given .1) (c .before .before .before .before .before .before .before .before .before .before .before .before .before .before .before .pre .0) (c .before .before .before .before .before .note-query .ensures))
+    (λ c. sym (K.taken-long _ _ (K.query-count _ _ _ _ (c .before .before .before .before .before .before .before .before .before .before .before .before .before .before .before .before .args .left-spots .now) _ _ _ _ (c .before .before .before .left-n .given .1) (c .before .before .before .before .before .before .before .before .before .before .before .before .before .before .before .before .pre .0) (c .before .before .before .before .before .before .note-query .ensures))))
+    (λ c κs. (K.good-query _ _ _ _ (c .before .before .before .before .before .before .before .before .before .before .before .before .before .before .before .before .before .before .args .left-spots .now) _ _ _ _ (c .before .before .before .before .before .left-n .given .1) (c .before .before .before .before .before .before .before .before .before .before .before .before .before .before .before .before .before .before .pre .0) (c .before .before .before .before .before .before .before .before .note-query .ensures), c .before .before .before .before .before .before .before .before .before .before .before .before .before .before .before .before .before .before .pre .1))
     (λ c. search needs)
     (λ c. search needs)
     (λ c. search needs)

@@ -26,4 +26,4 @@ push-of-spec =
     (λ c. A.answered (written (c .before .before .before .before .before .before .before .before .before .before .before .before .args .query .now)) (pushConstantsOutcome (c .before .before .before .before .before .before .before .before .before .before .before .before .args .query .now) (c .before .before .before .before .before .before .before .before .before .before .before .before .args .constants .now)) (c .before .before .before .before .before .before .before .before .before .before .before .before .args .out .now) (c .before .before .copy2 .last .1 .0) (c .before .before .copy2 .result) (Calls.other-root _ _ _ (c .before .before .before .before .before .before .before .before .before .before .before .before .pre .0 .read) (c .before .before .before .before .before .before .before .before .before .before .before .before .pre .1) (c .before .before .before .before .before .before .before .before .is-select-or-ask .result) (c .before .before .before .before .before .before .before .before .is-select-or-ask .ensures _ (c .before .before .before .before .before .before .before .before .before .before .before .before .pre .0 .read)) (c .before .before .before .before .before .before .before .if1 .left) (O.no-project _ _ _ ((c .before .before .before .before .before .before .tree-start .ensures .1 _ (c .before .before .before .before .before .before .before .before .before .before .before .before .pre .0 .read)) .lines) _ (c .before .before .before .before .before .is-project .ensures) (c .before .before .before .before .if2 .taken))) (c .before .before .copy2 .ensures))
     (λ c κs. (((O.a-project _ _ _ ((c .before .before .before .tree-start .ensures .1 _ (c .before .before .before .before .before .before .before .before .before .pre .0 .read)) .lines) _ (c .before .before .is-project .ensures) (c .before .if2 .left)) .0, K.stands-as _ _ _ _ _ _ _ _ ((O.a-project _ _ _ ((c .before .before .before .tree-start .ensures .1 _ (c .before .before .before .before .before .before .before .before .before .pre .0 .read)) .lines) _ (c .before .before .is-project .ensures) (c .before .if2 .left)) .2) (K.query-stands _ _ _ _ _ (c .before .before .before .before .before .before .before .before .before .pre .0) _ (c .before .before .before .tree-start .ensures .0) (c .before .before .before .tree-start .ensures .1 _ (c .before .before .before .before .before .before .before .before .before .pre .0 .read)))), (c .before .before .before .before .before .before .before .before .before .pre .1)))
     (λ c. search needs)
-    (λ c. let x = (O.a-project _ _ _ ((c .before .before .before .before .before .before .tree-start .ensures .1 _ (c .before .before .before .before .before .before .before .before .before .before .before .before .pre .0 .read)) .lines) _ (c .before .before .before .before .before .is-project .ensures) (c .before .before .before .before .if2 .left)) in A.answered (pushedBehind (take (c .before .before .before .before .before .before .tree-start .result) (c .before .before .before .before .before .before .before .before .before .before .before .before .args .query .now)) (x .0) (c .before .before .before .before .before .before .before .before .before .before .before .before .pre .1 .list)) (pushConstantsOutcome (c .before .before .before .before .before .before .before .before .before .before .before .before .args .query .now) (c .before .before .before .before .before .before .before .before .before .before .before .before .args .constants .now)) (c .before .before .before .before .before .before .before .before .before .before .before .before .args .out .now) (c .before .before .push-in-project .last .1 .1 .1 .1 .1 .1 .1 .0) (c .before .before .push-in-project .result) (Calls.pushes _ _ _ (c .before .before .before .before .before .before .before .before .before .before .before .before .pre .0 .read) (c .before .before .before .before .before .before .before .before .before .before .before .before .pre .1) (c .before .before .before .before .before .before .before .before .is-select-or-ask .result) (c .before .before .before .before .before .before .before .before .is-select-or-ask .ensures _ (c .before .before .before .before .before .before .before .before .before .before .before .before .pre .0 .read)) (c .before .before .before .before .before .before .before .if1 .left) _ _ (c .before .before .before .before .before .before .tree-start .ensures .1 _ (c .before .before .before .before .before .before .before .before .before .before .before .before .pre .0 .read)) (x .1)) (c .before .before .push-in-project .ensures (x .0) (c .before .before .before .before .before .before .before .before .before .before .before .before .pre .1 .list) (K.stands-as _ _ _ _ _ _ _ _ (x .2) (K.query-stands _ _ _ _ _ (c .before .before .before .before .before .before .before .before .before .before .before .before .pre .0) _ (c .before .before .before .before .before .before .tree-start .ensures .0) (c .before .before .before .before .before .before .tree-start .ensures .1 _ (c .before .before .before .before .before .before .before .before .before .before .before .before .pre .0 .read)))) (c .before .before .before .before .before .before .before .before .before .before .before .before .pre .1 .terms))))
+    (λ c. let x = (O.a-project _ _ _ ((c .before .before .before .before .before .before .tree-start .ensures .1 _ (c .before .before .before .before .before .before .before .before .before .before .before .before .pre .0 .read)) .lines) _ (c .before .before .before .before .before .is-project .ensures) (c .before .before .before .before .if2 .left)) in A.answered (pushedBehind (take (c .before .before .before .before .before .before .tree-start .result) (c .before .before .before .before .before .before .before .before .before .before .before .before .args .query .now)) (x .0) (c .before .before .before .before .before .before .before .before .before .before .before .before .pre .1 .list)) (pushConstantsOutcome (c .before .before .before .before .before .before .before .before .before .before .before .before .args .query .now) (c .before .before .before .before .before .before .before .before .before .before .before .before .args .constants .now)) (c .before .before .before .before .before .before .before .before .before .before .before .before .args .out .now) (c .before .before .push-in-project .last .1 .1 .1 .1 .1 .1 .0) (c .before .before .push-in-project .result) (Calls.pushes _ _ _ (c .before .before .before .before .before .before .before .before .before .before .before .before .pre .0 .read) (c .before .before .before .before .before .before .before .before .before .before .before .before .pre .1) (c .before .before .before .before .before .before .before .before .is-select-or-ask .result) (c .before .before .before .before .before .before .before .before .is-select-or-ask .ensures _ (c .before .before .before .before .before .before .before .before .before .before .before .before .pre .0 .read)) (c .before .before .before .before .before .before .before .if1 .left) _ _ (c .before .before .before .before .before .before .tree-start .ensures .1 _ (c .before .before .before .before .before .before .before .before .before .before .before .before .pre .0 .read)) (x .1)) (c .before .before .push-in-project .ensures (x .0) (c .before .before .before .before .before .before .before .before .before .before .before .before .pre .1 .list) (K.stands-as _ _ _ _ _ _ _ _ (x .2) (K.query-stands _ _ _ _ _ (c .before .before .before .before .before .before .before .before .before .before .before .before .pre .0) _ (c .before .before .before .before .before .before .tree-start .ensures .0) (c .before .before .before .before .before .before .tree-start .ensures .1 _ (c .before .before .before .before .before .before .before .before .before .before .before .before .pre .0 .read)))) (c .before .before .before .before .before .before .before .before .before .before .before .before .pre .1 .terms))))

@@ -15,9 +15,9 @@ push-with-spec =
     (tie.spec
     (λ c κs. search needs)
     (λ c. search needs)
-    (λ c. K.query-count _ _ _ _ (c .before .before .before .before .before .before .before .before .before .before .before .before .before .before .args .spots .now) _ _ _ _ (c .before .before .before .n .given .1) (c .before .before .before .before .before .before .before .before .before .before .before .before .before .before .pre) (c .before .before .before .before .before .before .note-query .ensures))
-    (λ c. sym (K.taken-long _ _ (K.query-count _ _ _ _ (c .before .before .before .before .before .before .before .before .before .before .before .before .before .before .before .args .spots .now) _ _ _ _ (c .before .before .before .before .n .given .1) (c .before .before .before .before .before .before .before .before .before .before .before .before .before .before .before .pre) (c .before .before .before .before .before .before .before .note-query .ensures))))
-    (λ c κs. K.good-query _ _ _ _ (c .before .before .before .before .before .before .before .before .before .before .before .before .before .before .before .before .args .spots .now) _ _ _ _ (c .before .before .before .before .before .n .given .1) (c .before .before .before .before .before .before .before .before .before .before .before .before .before .before .before .before .pre) (c .before .before .before .before .before .before .before .before .note-query .ensures))
+    (λ c. K.query-count _ _ _ _ (c .before .before .before .before .before .before .before .before .before .before .before .before .args .spots .now) _ _ _ _ (c .before .before .n .given .1) (c .before .before .before .before .before .before .before .before .before .before .before .before .pre) (c .before .before .before .before .before .note-query .ensures))
+    (λ c. sym (K.taken-long _ _ (K.query-count _ _ _ _ (c .before .before .before .before .before .before .before .before .before .before .before .before .before .args .spots .now) _ _ _ _ (c .before .before .before .n .given .1) (c .before .before .before .before .before .before .before .before .before .before .before .before .before .pre) (c .before .before .before .before .before .before .note-query .ensures))))
+    (λ c κs. K.good-query _ _ _ _ (c .before .before .before .before .before .before .before .before .before .before .before .before .before .before .args .spots .now) _ _ _ _ (c .before .before .before .before .n .given .1) (c .before .before .before .before .before .before .before .before .before .before .before .before .before .before .pre) (c .before .before .before .before .before .before .before .note-query .ensures))
     (λ c. search needs)
     (λ c. search needs)
     (λ c. search needs)

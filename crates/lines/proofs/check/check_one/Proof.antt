@@ -10,7 +10,7 @@ check-one-spec =
     tie.close
     (tie.spec
     (λ c. search needs)
-    (λ c κs. let c5 = c .before .before .before .before .before in c5 .pre)
+    (λ c κs. let c5 = c .before .before .before .before in c5 .pre)
     (λ c. search needs)
     (λ c. search needs)
     (λ c. search needs)

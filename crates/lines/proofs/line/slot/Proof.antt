@@ -15,9 +15,9 @@ pub slot-spec : {M : Type 1} → statement M
 slot-spec =
     tie.close
     (tie.spec
-    (λ c κs. let c6 = c .before .before .before .before .before .before in c6 .pre)
+    (λ c κs. let c6 = c .before .before .before .before .before in c6 .pre)
     (λ c. search needs)
-    (λ c. let c2 = c .before .before in let c7 = c2 .before .before .before .before .before in let c9 = c7 .before .before in rw (L.slot-term (c9 .args .role) (kindAt (c9 .args .kind)) (c7 .if1 .taken)) ((c2 .term-field .ensures .0, L.term-zero (kindAt (c9 .args .kind)) (leftAt (now (c9 .args .s)) (c9 .args .c)), search needs), (c2 .term-field .ensures .1 .0, c2 .term-field .ensures .1 .1)))
+    (λ c. let c2 = c .before .before in let c7 = c2 .before .before .before .before in let c9 = c7 .before .before in rw (L.slot-term (c9 .args .role) (kindAt (c9 .args .kind)) (c7 .if1 .taken)) ((c2 .term-field .ensures .0, L.term-zero (kindAt (c9 .args .kind)) (leftAt (now (c9 .args .s)) (c9 .args .c)), search needs), (c2 .term-field .ensures .1 .0, c2 .term-field .ensures .1 .1)))
     (λ c κs. let c3 = c .before .before .before in c3 .pre)
     (λ c. let c4 = c .before .before .before .before in rw (L.slot-text (c4 .args .role) (kindAt (c4 .args .kind)) (c .before .if2 .taken)) ((c .text-field .ensures, L.text-zero (kindAt (c4 .args .kind)) (leftAt (now (c4 .args .s)) (c4 .args .c)), search needs), (λ want h. L.keeps-same _ _ _ _ _ _ want (L.text-bare (kindAt (c4 .args .kind)) (leftAt (now (c4 .args .s)) (c4 .args .c))) h, λ h ss. D.text-adds _ _ _ _ _ ss (c4 .pre) _ (c .text-field .ensures) h)))
     (λ c κs. let c4 = c .before .before .before .before in c4 .pre)

@@ -1,17 +1,17 @@
 -- `renaming::rename/find_targets` meets its contract. Assumes nothing.
 use borrow.Author.Needs.{needs}
 use Prim.Native.Nat.{_-_}
-use Rattle.names.specs.bridge.Names.{listing}
+use Rattle.names.specs.bridge.Names.{listing, startsOf, sizesOf}
 use Rattle.lists.specs.bridge.Pairs.{pairsIn}
 use Rattle.renaming.proofs.Targets as T
 use Rattle.renaming.proofs.rename.find_targets.Statement.{statement}
 use Rattle.renaming.proofs.rename.find_targets.Tie as tie
 
 abbrev Inv-loop : tie.InvT-loop
-Inv-loop tree starts sizes hints n mapping keys m targets₀ spans₀ i₀ targets spans i = T.Underway (listing tree starts sizes n) n mapping (pairsIn mapping keys m) i targets spans
+Inv-loop tree table hints n mapping keys m targets₀ spans₀ i₀ targets spans i = T.Underway (listing tree (startsOf table) (sizesOf table) n) n mapping (pairsIn mapping keys m) i targets spans
 
 abbrev μ-loop : tie.MeasureT-loop
-μ-loop tree starts sizes hints n mapping keys m targets₀ spans₀ i₀ targets spans i = m - i
+μ-loop tree table hints n mapping keys m targets₀ spans₀ i₀ targets spans i = m - i
 
 pub find-targets-spec : {M : Type 1} → statement M
 find-targets-spec =

@@ -11,7 +11,7 @@ rename-with-spec =
     (tie.spec
     (λ c κs. search needs)
     (λ c. search needs)
-    (λ c κs. T.good-noted _ _ _ _ (c .before .before .before .before .before .before .before .before .before .before .before .before .before .before .before .before .before .args .spots .now) _ _ (c .before .before .before .before .before .before .before .before .before .note-tree .ensures) _ _ (c .before .before .before .before .before .before .before .before .before .before .before .before .before .before .before .before .before .pre) (c .before .before .before .before .before .before .n .given .1))
+    (λ c κs. T.good-noted _ _ _ _ (c .before .before .before .before .before .before .before .before .before .before .before .before .before .before .before .args .spots .now) _ _ (c .before .before .before .before .before .before .before .before .note-tree .ensures) _ _ (c .before .before .before .before .before .before .before .before .before .before .before .before .before .before .before .pre) (c .before .before .before .before .before .n .given .1))
     (λ c. search needs)
     (λ c. search needs)
     (λ c. search needs)

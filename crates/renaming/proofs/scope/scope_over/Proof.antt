@@ -11,7 +11,7 @@ scope-over-spec =
     (tie.spec
     (λ c κs. search needs)
     (λ c. search needs)
-    (λ c κs. let g = T.good-noted _ _ _ _ (c .before .before .before .before .before .before .before .before .before .before .before .before .before .before .before .args .spots .now) _ _ (c .before .before .before .before .before .before .before .before .note-tree .ensures) _ _ (c .before .before .before .before .before .before .before .before .before .before .before .before .before .before .before .pre) (c .before .before .before .before .before .n .given .1) in T.surveyed _ _ _ _ _ _ _ (g .0) (g .1))
+    (λ c κs. let g = T.good-noted _ _ _ _ (c .before .before .before .before .before .before .before .before .before .before .before .before .before .args .spots .now) _ _ (c .before .before .before .before .before .before .before .note-tree .ensures) _ _ (c .before .before .before .before .before .before .before .before .before .before .before .before .before .pre) (c .before .before .before .before .n .given .1) in T.surveyed _ _ _ _ _ _ _ (g .0) (g .1))
     (λ c. search needs)
     (λ c. search needs)
     (λ c. search needs)

@@ -8,13 +8,14 @@ use Rattle.emit.specs.bridge.Emit.{em}
 use Rattle.walking.proofs.Spotted as L
 use Rattle.walking.proofs.places.put_renamed.Statement.{statement}
 use Rattle.walking.proofs.places.put_renamed.Tie as tie
+use Rattle.names.specs.bridge.Names.{startsOf, sizesOf}
 
 abbrev Inv-loop : tie.InvT-loop
-Inv-loop text from to spots i k starts sizes n pool targets spans out₀ at done₀ put₀ j₀ out done put j =
-    (length out ≡ length out₀) × L.Going text starts sizes n pool targets spans spots k from to i (em at out₀) j done (em put out)
+Inv-loop text from to spots i k table n pool targets spans out₀ at done₀ put₀ j₀ out done put j =
+    (length out ≡ length out₀) × L.Going text (startsOf table) (sizesOf table) n pool targets spans spots k from to i (em at out₀) j done (em put out)
 
 abbrev μ-loop : tie.MeasureT-loop
-μ-loop text from to spots i k starts sizes n pool targets spans out₀ at done₀ put₀ j₀ out done put j = k - j
+μ-loop text from to spots i k table n pool targets spans out₀ at done₀ put₀ j₀ out done put j = k - j
 
 pub put-renamed-spec : {M : Type 1} → statement M
 put-renamed-spec =
