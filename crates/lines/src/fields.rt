@@ -11,10 +11,11 @@ use text::piece;
 use words::extra_kind;
 ghost use mathlib.Core.Path.{_≡_};
 ghost use Prim.Native.Nat.{ℕ, _+_, _≤_, _<_};
+ghost use mathlib.Core.Bool.{true};
 ghost use mathlib.Core.List.{List, [], _∷_};
 ghost use lib.ListN.{length, getD, set};
 ghost use Rattle.text.specs.Text.{piece as pieceOf};
-ghost use Rattle.text.specs.Field.{variable};
+ghost use Rattle.text.specs.Field.{variable, isKind};
 ghost use Rattle.text.specs.bridge.Code.{kindAt};
 ghost use Rattle.algebra.specs.Tally.{notes};
 ghost use Rattle.algebra.specs.bridge.Table.{Slot, term, text, count, choice};
@@ -105,6 +106,16 @@ pub fn text_field(s: &[u8], c: Cursor, kind: u8) -> Cursor
     }
 }
 
+// A field is a variable, and may be one by its kind: so are most terms, which then need no further look.
+fn is_var_of(kind: u8, f: &[u8]) -> bool
+    ensures { λ r. ⌜ (r ≡ true → isKind (kindAt kind) (now (f .entry)) ≡ true) ⌝ }
+{
+    if 3 < kind {
+        return false;
+    }
+    is_var(f)
+}
+
 // A term of a kind, whose variable goes into the table and is noted.
 pub fn term_field(
     s: &[u8],
@@ -126,6 +137,14 @@ pub fn term_field(
     let field = c.next_field(s);
     match field {
         Field::At(e, next) => {
+            if is_var_of(kind, &s[at..e]) {
+                let m = note_field(s, at, e - at, mark, table, hints, n, spots, k);
+                return Noted {
+                    cursor: next,
+                    names: m.names,
+                    spots: m.spots,
+                };
+            }
             if is_kind(kind, &s[at..e]) {
                 let m = note_field(s, at, e - at, mark, table, hints, n, spots, k);
                 return Noted {
