@@ -3,4 +3,5 @@ pub mod Mapping
 pub mod Tables
 pub mod Scoped
 pub mod Targets
+pub mod Long
 pub mod Renamed

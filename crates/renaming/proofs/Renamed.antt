@@ -1,10 +1,13 @@
 -- The call rename, from the bytes that are put to the renamed tree's layout. Assumes nothing.
-use Prim.Native.Nat.{ℕ, _≤_, _<_}
+use Prim.Native.Nat.{ℕ, _/_, _≤_, _<_, min}
 use mathlib.Core.Path.{_≡_, refl, sym, ap, _∙_}
 use mathlib.Core.List.{List, []}
-use mathlib.Core.Bool.{true, false}
-use native.Mathlib.Nat.{le-refl}
+use mathlib.Core.Bool.{Bool, true, false, false≢true}
+use native.Mathlib.Nat.{zero-add, le-refl}
+use native.Mathlib.Omega.{arith}
 use lib.ListN.{length, drop}
+use lib.Dec.{leb}
+use borrow.Author.Tests.{leb-true, leb-false}
 use Rattle.text.specs.Text.{Bytes, textOf}
 use Rattle.algebra.specs.Tree.{Pattern}
 use Rattle.algebra.specs.Query.{mapping}
@@ -12,8 +15,8 @@ use Rattle.algebra.specs.Valid.{mem}
 use Rattle.algebra.specs.Layout.{layout}
 use Rattle.algebra.specs.Reader.{refuses, malformed, overBound}
 use Rattle.algebra.specs.Texts.{readTree, readPairs}
-use Rattle.emit.specs.bridge.Emit.{em, last, puts}
-use Rattle.emit.proofs.Laws.{puts-nil}
+use Rattle.emit.specs.bridge.Emit.{Em, em, last, puts}
+use Rattle.emit.proofs.Laws.{puts-nil, puts-at}
 use Rattle.names.specs.bridge.Names.{listing}
 use Rattle.names.proofs.Laws.{listing-long}
 use Rattle.scoping.specs.bridge.Places.{visible, places, namesOf}
@@ -31,7 +34,8 @@ use Rattle.answers.specs.declared.Answer.the-variants.{Written, Malformed, Over
 use Rattle.answers.specs.Outcome.{written, Reported, Answered}
 use Rattle.renaming.specs.Rename.{becomes, renameOutcome}
 use Rattle.heads.specs.bridge.Known.{Known}
-use Rattle.renaming.specs.bridge.Code.{Surveyed, Targets}
+use Rattle.renaming.specs.bridge.Code.{Surveyed, Targets, renamedSize}
+use Rattle.renaming.proofs.Long.{renamed-long}
 use Rattle.renaming.proofs.Tables.{known-valid, known-depth, known-names, known-lines}
 use Rattle.scoping.proofs.Alike.{rename-alike}
 use Rattle.answers.proofs.Answers.{too-short, all-written, answered}
@@ -54,9 +58,13 @@ module _ (s : Bytes) (a l : List ℕ) (n : ℕ) (spots : List (List ℕ)) (k : �
       let is-var = named pattern visible (known-valid s a l (x .hints) n (x .known)) .at v i in
       t .found v (ap (mem v) (known-names s a l (x .hints) n (x .known)) ∙ by-place-mem pattern v is-var ∙ i)
 
+  -- the code's new names make the tree that the mapping's make
+  alike : renameInGraphPattern new pattern ≡ renameInGraphPattern (becomes (t .list)) pattern
+  alike = rename-alike new (becomes (t .list)) pattern visible agrees
+
   outcome-is : renameOutcome s pairs ≡ written (layout (renameInGraphPattern new pattern))
   unfolding renameOutcome
-  outcome-is = rw (x .known .read, t .read) (ap (λ (q : Pattern). written (layout q)) (sym (rename-alike new (becomes (t .list)) pattern visible agrees)))
+  outcome-is = rw (x .known .read, t .read) (ap (λ (q : Pattern). written (layout q)) (sym alike))
 
   -- what is put, the tree's variables under their new names
   renamed-puts : (at : ℕ) (out out′ : Bytes) → em at out′ ≡ rewritten new s (drop 0 (spotsOf (listing s a l n) spots k)) 0 (length s) (em 0 out) → em at out′ ≡ puts (layout (renameInGraphPattern new pattern)) (em 0 out)
@@ -67,13 +75,48 @@ module _ (s : Bytes) (a l : List ℕ) (n : ℕ) (spots : List (List ℕ)) (k : �
       ∙ sym (puts-nil _)
       ∙ rewritten-tree s 0 (listing s a l n) spots k (x .noted) pattern (known-lines s a l (x .hints) n (x .known)) (known-valid s a l (x .hints) n (x .known)) (known-depth s a l (x .hints) n (x .known)) new keeps [] (em 0 out)
 
-  module _ (out : Bytes) (need : ℕ) (tiny tiny′ : Bytes) (measure : em need tiny′ ≡ rewritten new s (drop 0 (spotsOf (listing s a l n) spots k)) 0 (length s) (em 0 tiny)) where
-    pub rename-short : length out < need → Answered (renameOutcome s pairs) out out TooShort
-    rename-short i = answered _ _ out out TooShort outcome-is (too-short _ out need tiny tiny′ (renamed-puts need tiny tiny′ measure) i)
+  -- where that ends
+  ends : (at : ℕ) (out out′ : Bytes) → em at out′ ≡ rewritten new s (drop 0 (spotsOf (listing s a l n) spots k)) 0 (length s) (em 0 out) → at ≡ min (length (layout (renameInGraphPattern new pattern))) last
+  ends at out out′ e = ap (λ (z : Em). z .at) (renamed-puts at out out′ e) ∙ puts-at (layout (renameInGraphPattern new pattern)) (em 0 out) (omega arith) ∙ ap (λ (m : ℕ). min m last) (zero-add (length (layout (renameInGraphPattern new pattern))))
 
-    pub rename-written : (size : ℕ) (out′ : Bytes) → need ≤ length out → length out < last
-        → em size out′ ≡ rewritten new s (drop 0 (spotsOf (listing s a l n) spots k)) 0 (length s) (em 0 out) → Answered (renameOutcome s pairs) out out′ (Written size)
-    rename-written size out′ i j w = answered _ _ out out′ (Written size) outcome-is (all-written _ out need tiny tiny′ (renamed-puts need tiny tiny′ measure) size out′ i j (renamed-puts size out out′ w))
+  -- the bytes that the answer needs
+  abbrev need : ℕ
+  need = renamedSize s a l n spots k pairs targets spans
+
+  -- what is put over no buffer
+  abbrev counted : Em
+  counted = rewritten new s (drop 0 (spotsOf (listing s a l n) spots k)) 0 (length s) (em 0 [])
+
+  -- they are the renamed tree's, up to the last number
+  need-ends : need ≡ min (length (layout (renameInGraphPattern new pattern))) last
+  unfolding renamedSize
+  need-ends = ends (counted .at) [] (counted .out) refl
+
+  -- there is room for it: in a buffer of 44 times the tree, and by what was measured
+  abbrev Roomy : ℕ → Bool → Type 0
+  Roomy room r = (r ≡ true → need ≤ room) × (r ≡ false → room < need)
+
+  pub rename-roomy : (room : ℕ) → length s ≤ room / 44 → Roomy room true
+  rename-roomy room h =
+      let r = renamed-long s pairs pattern (t .list) (x .known .read) (t .read) in
+      (λ z. omega (arith, h, need-ends, r, ap (λ (q : Pattern). length (layout q)) alike), λ z. absurd (false≢true (sym z)))
+
+  pub rename-measured : (room at : ℕ) (out out′ : Bytes) → em at out′ ≡ rewritten new s (drop 0 (spotsOf (listing s a l n) spots k)) 0 (length s) (em 0 out) → Roomy room (leb at room)
+  rename-measured room at out out′ e =
+      let m : at ≡ need = ends at out out′ e ∙ sym need-ends in
+      (λ z. let i = leb-true at room z in omega arith, λ z. let i = leb-false at room z in omega arith)
+
+  -- so it is a measure, whether any code took it or not
+  measure : em need (counted .out) ≡ puts (layout (renameInGraphPattern new pattern)) (em 0 [])
+  unfolding renamedSize
+  measure = renamed-puts (counted .at) [] (counted .out) refl
+
+  pub rename-short : (out : Bytes) → length out < need → Answered (renameOutcome s pairs) out out TooShort
+  rename-short out i = answered _ _ out out TooShort outcome-is (too-short _ out need [] (counted .out) measure i)
+
+  pub rename-written : (out : Bytes) (size : ℕ) (out′ : Bytes) → need ≤ length out → length out < last
+      → em size out′ ≡ rewritten new s (drop 0 (spotsOf (listing s a l n) spots k)) 0 (length s) (em 0 out) → Answered (renameOutcome s pairs) out out′ (Written size)
+  rename-written out size out′ i j w = answered _ _ out out′ (Written size) outcome-is (all-written _ out need [] (counted .out) measure size out′ i j (renamed-puts size out out′ w))
 
 -- ---- a text that is refused
 

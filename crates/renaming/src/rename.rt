@@ -11,7 +11,8 @@ use names::find_name;
 use reading::note_tree;
 use walking::places::put_renamed;
 ghost use mathlib.Core.Path.{_≡_};
-ghost use Prim.Native.Nat.{ℕ, _*_, _≤_};
+ghost use Prim.Native.Nat.{ℕ, _*_, _≤_, _<_};
+ghost use mathlib.Core.Bool.{true, false};
 ghost use mathlib.Core.List.{[]};
 ghost use lib.ListN.{length, getD};
 ghost use Rattle.names.specs.bridge.Names.{listing, startsOf, sizesOf};
@@ -21,7 +22,7 @@ ghost use Rattle.walking.specs.bridge.Code.{Named};
 ghost use Rattle.answers.specs.Outcome.{Answered};
 ghost use Rattle.renaming.specs.Rename.{renameOutcome};
 ghost use Rattle.heads.specs.bridge.Known.{Known};
-ghost use Rattle.renaming.specs.bridge.Code.{Surveyed, KnownPairs, Targets, Settled};
+ghost use Rattle.renaming.specs.bridge.Code.{Surveyed, KnownPairs, Targets, Settled, renamedSize};
 
 // A pair of the mapping: the entry of its first name, if that is in the table, gets the second.
 fn set_target(
@@ -66,8 +67,8 @@ fn find_targets(
     }
 }
 
-// The answer for a tree, a mapping and what it makes of each name: measured on a buffer without room, and written if it fits.
-fn rename_over(
+// The answer fits a buffer of so many bytes: it is at most 44 times as long as its tree, and is measured only where that says nothing.
+fn is_room(
     tree: &[u8],
     table: &[Entry; 1024],
     n: usize,
@@ -76,11 +77,14 @@ fn rename_over(
     mapping: &[u8],
     targets: &[u16; 1024],
     spans: &[u16; 1024],
-    out: &mut [u8],
-) -> Answer
+    room: usize,
+) -> bool
     requires { ⌜ Surveyed (now tree) (startsOf (now table)) (sizesOf (now table)) n (now spots) k × Targets (listing (now tree) (startsOf (now table)) (sizesOf (now table)) n) n (now mapping) (now targets) (now spans) ⌝ }
-    ensures { λ r. ⌜ Answered (renameOutcome (now (tree .entry)) (now (mapping .entry))) (now (out .entry)) (now (out .exit)) r ⌝ }
+    ensures { λ r. ⌜ (r ≡ true → renamedSize (now (tree .entry)) (startsOf (now (table .entry))) (sizesOf (now (table .entry))) n (now (spots .entry)) k (now (mapping .entry)) (now (targets .entry)) (now (spans .entry)) ≤ room) × (r ≡ false → room < renamedSize (now (tree .entry)) (startsOf (now (table .entry))) (sizesOf (now (table .entry))) n (now (spots .entry)) k (now (mapping .entry)) (now (targets .entry)) (now (spans .entry))) ⌝ }
 {
+    if tree.len() <= room / 44 {
+        return true;
+    }
     let end = tree.len();
     let mut none = [0u8; 0];
     let need = put_renamed(
@@ -98,9 +102,28 @@ fn rename_over(
         &mut none,
         0,
     );
-    if out.len() < need {
+    need <= room
+}
+
+// The answer for a tree, a mapping and what it makes of each name: written if it fits.
+fn rename_over(
+    tree: &[u8],
+    table: &[Entry; 1024],
+    n: usize,
+    spots: &[Spot],
+    k: usize,
+    mapping: &[u8],
+    targets: &[u16; 1024],
+    spans: &[u16; 1024],
+    out: &mut [u8],
+) -> Answer
+    requires { ⌜ Surveyed (now tree) (startsOf (now table)) (sizesOf (now table)) n (now spots) k × Targets (listing (now tree) (startsOf (now table)) (sizesOf (now table)) n) n (now mapping) (now targets) (now spans) ⌝ }
+    ensures { λ r. ⌜ Answered (renameOutcome (now (tree .entry)) (now (mapping .entry))) (now (out .entry)) (now (out .exit)) r ⌝ }
+{
+    if !is_room(tree, table, n, spots, k, mapping, targets, spans, out.len()) {
         return Answer::TooShort;
     }
+    let end = tree.len();
     let size = put_renamed(
         tree,
         0,

@@ -7,7 +7,7 @@ use Rattle.text.specs.Text.{Bytes, Line}
 use Rattle.algebra.specs.Tree.{Triple, Pattern, bgp, path, join, union, minus, leftjoin, filter, graph, extend, values, orderby, project, distinct, reduced, slice, group, service}
 use Rattle.algebra.specs.Tree.{Expression, term, bound, exists, apply, call, Condition, always, provided, Expressions, eend, econs, Orders, oend, ocons, Aggregates, aend, agg, aggall}
 use Rattle.algebra.specs.Layout.{putTriples, putRows, put, putE, putC, putEs, putOs, putAs}
-use Rattle.room.proofs.Sizes.{width, size}
+use Rattle.walking.proofs.Sizes.{width, size}
 
 triples-same : (ts : List Triple) (a b : List Line) → size (putTriples ts a) + size b ≡ size (putTriples ts b) + size a
 unfolding putTriples size width

@@ -23,8 +23,8 @@ use Rattle.filtering.specs.Bindings.{cellOf, boundVariables, valuesOf, joinedWi
 use Rattle.filtering.proofs.Valid.{bound-length}
 use Rattle.room.specs.Room.{bindingsRoom}
 use Rattle.room.proofs.Enough.{Enough, then-enough, test-enough}
-use Rattle.room.proofs.Sizes.{width, size, text-size, tree-size}
-use Rattle.room.proofs.Fields.{column-short, integer-some}
+use Rattle.walking.proofs.Sizes.{width, size, text-size, tree-size}
+use Rattle.walking.proofs.Fields.{column-short, integer-some}
 use Rattle.room.proofs.Added.{put-same}
 use Rattle.room.proofs.Values.{cell-short}
 use Rattle.room.proofs.Modified.{modified-size}

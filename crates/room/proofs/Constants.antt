@@ -26,8 +26,8 @@ use Rattle.merging.specs.Request.{position, constantsIn, placed, byPosition, po
 use Rattle.merging.proofs.Given.{made-reads}
 use Rattle.merging.proofs.Lists.{sorted-length, map-length}
 use Rattle.merging.proofs.MergedColumns.{at-sym}
-use Rattle.room.proofs.Sizes.{width, size, text-size}
-use Rattle.room.proofs.Fields.{integer-some}
+use Rattle.walking.proofs.Sizes.{width, size, text-size}
+use Rattle.walking.proofs.Fields.{integer-some}
 
 -- ---- columns
 

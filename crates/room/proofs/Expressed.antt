@@ -18,8 +18,8 @@ use Rattle.merging.specs.Request.{position}
 use Rattle.filtering.specs.Values.{expressionTerm}
 use Rattle.filtering.specs.Bindings.{orNone}
 use Rattle.filtering.specs.Functions.{asTerm, referenced, if-some, tryExpressionFromUnary, tryExpressionFromBinary, tryExpressionFromFunction, tryExpressionFromTree, tryExpressionsFromParts}
-use Rattle.room.proofs.Sizes.{width, size}
-use Rattle.room.proofs.Fields.{column-short, integer-some}
+use Rattle.walking.proofs.Sizes.{width, size}
+use Rattle.walking.proofs.Fields.{column-short, integer-some}
 use Rattle.room.proofs.Values.{term-short}
 
 -- what is so of what there is

@@ -22,7 +22,7 @@ use Rattle.filtering.specs.Functions.{isConstantTrue, tryExpressionFromTree}
 use Rattle.filtering.specs.Filters.{placedExpression, andThose, expressions, both, conjunction, filtered, patternWithFilters, referencesInside, filtersOutcome}
 use Rattle.room.specs.Room.{filtersRoom}
 use Rattle.room.proofs.Enough.{Enough, then-enough, test-enough}
-use Rattle.room.proofs.Sizes.{width, size, text-size, tree-size}
+use Rattle.walking.proofs.Sizes.{width, size, text-size, tree-size}
 use Rattle.room.proofs.Added.{put-same, putE-same}
 use Rattle.room.proofs.Modified.{modified-size}
 use Rattle.room.proofs.Expressed.{Given, filter-some, expressed-size}

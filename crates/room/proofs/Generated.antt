@@ -19,7 +19,7 @@ use Rattle.scoping.proofs.Agree.{renamed-by-pushes}
 use Rattle.scoping.proofs.Theorem.{columns-length}
 use Rattle.scoping.proofs.NewVariables.{numbered-few}
 use Rattle.room.proofs.Digits.{four-digits}
-use Rattle.room.proofs.Fields.{variable-long}
+use Rattle.walking.proofs.Fields.{variable-long}
 
 generated-short : (prefix n : ℕ) → n < 10000 → length (generated prefix n) ≤ 6
 unfolding generated

@@ -1,13 +1,10 @@
 pub mod Enough
-pub mod Sizes
 pub mod Digits
 pub mod Modified
 pub mod Negate
 pub mod Names
 pub mod Spread
 pub mod Scope
-pub mod Grown
-pub mod Fields
 pub mod Rename
 pub mod Added
 pub mod Values

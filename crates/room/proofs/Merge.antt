@@ -30,7 +30,7 @@ use Rattle.merging.proofs.Others.{tree-valid, tree-names}
 use Rattle.merging.proofs.Promise.{TreeRead, tree-read}
 use Rattle.room.specs.Room.{mergeRoom}
 use Rattle.room.proofs.Enough.{Enough, then-enough, some-enough, test-enough}
-use Rattle.room.proofs.Sizes.{width, width-append, size, tree-size, query-size}
+use Rattle.walking.proofs.Sizes.{width, width-append, size, tree-size, query-size}
 use Rattle.room.proofs.Added.{put-same}
 use Rattle.room.proofs.Names.{keep-width}
 use Rattle.room.proofs.Side.{side-size}

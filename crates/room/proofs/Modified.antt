@@ -8,7 +8,7 @@ use Rattle.algebra.specs.Tree.{Pattern, bgp, path, join, union, minus, leftjoin
 use Rattle.algebra.specs.Layout.{put, putAs, putOs}
 use Rattle.algebra.specs.Valid.{AllFit, Valid}
 use Rattle.merging.specs.Negate.{modifyOutermostProjection}
-use Rattle.room.proofs.Sizes.{width, size}
+use Rattle.walking.proofs.Sizes.{width, size}
 
 module _ (f : List Bytes → Pattern → Pattern) (n : ℕ) (grows : (cs : List Bytes) (p : Pattern) (t : List Line) → AllFit variable cs → size (put (f cs p) t) ≤ size (put p t) + n) where
   pub modified-size : (p : Pattern) (t : List Line) → Valid p → size (put (modifyOutermostProjection f p) t) ≤ size (put p t) + n

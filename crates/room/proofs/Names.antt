@@ -12,7 +12,7 @@ use Rattle.algebra.proofs.Lines.{different-head, different-tail}
 use Rattle.scoping.specs.Sets.{Once, keep}
 use Rattle.scoping.proofs.Sets.{mem-keep, not-same}
 use Rattle.counting.proofs.Basics.{mem-here, mem-there}
-use Rattle.room.proofs.Sizes.{width}
+use Rattle.walking.proofs.Sizes.{width}
 
 pub keep-width : (f : Bytes → Bool) (vs : List Bytes) → width (keep f vs) ≤ width vs
 unfolding keep width

@@ -20,7 +20,7 @@ use Rattle.merging.specs.Negate.{negateProjectPattern, negateQuery, negateOutco
 use Rattle.merging.proofs.Others.{tree-valid}
 use Rattle.room.specs.Room.{negateRoom}
 use Rattle.room.proofs.Enough.{Enough, then-enough}
-use Rattle.room.proofs.Sizes.{width, size, query-size}
+use Rattle.walking.proofs.Sizes.{width, size, query-size}
 use Rattle.room.proofs.Modified.{modified-size}
 
 negated-size : (p : Pattern) → Valid p → size (put (negateProjectPattern p) []) ≤ size (put p []) + 24

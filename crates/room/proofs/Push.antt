@@ -25,7 +25,7 @@ use Rattle.merging.proofs.Given.{project-of}
 use Rattle.merging.proofs.Promise.{TreeRead}
 use Rattle.room.specs.Room.{pushRoom}
 use Rattle.room.proofs.Enough.{Enough, then-enough, test-enough}
-use Rattle.room.proofs.Sizes.{width, size, query-size}
+use Rattle.walking.proofs.Sizes.{width, size, query-size}
 use Rattle.room.proofs.Side.{side-size}
 use Rattle.room.proofs.Merge.{query-tree}
 

@@ -23,7 +23,7 @@ use Rattle.scoping.proofs.Numbered.{in-scope-once, hidden-once}
 use Rattle.renaming.specs.Scope.{scopeText, scopeOutcome}
 use Rattle.room.specs.Room.{scopeRoom}
 use Rattle.room.proofs.Enough.{Enough, then-enough}
-use Rattle.room.proofs.Sizes.{width, size, text-size, tree-size}
+use Rattle.walking.proofs.Sizes.{width, size, text-size, tree-size}
 use Rattle.room.proofs.Names.{once-width}
 use Rattle.room.proofs.Spread.{spread, spread-size}
 

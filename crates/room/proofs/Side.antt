@@ -19,10 +19,10 @@ use Rattle.scoping.specs.Rename.{renameInGraphPattern}
 use Rattle.merging.specs.Sides.{Constant, Side, constantColumns, constantTerms, columnAt, bindConstants, renamedPattern, freeColumns, standardized}
 use Rattle.merging.specs.Request.{Projection, tree, positions, readConstants}
 use Rattle.merging.proofs.Lists.{constants-good, map-length}
-use Rattle.room.proofs.Sizes.{width, size}
+use Rattle.walking.proofs.Sizes.{width, size}
 use Rattle.room.proofs.Digits.{two-digits}
 use Rattle.room.proofs.Added.{put-same}
-use Rattle.room.proofs.Grown.{grown-names, grown}
+use Rattle.walking.proofs.Grown.{grown-names, grown}
 use Rattle.room.proofs.Generated.{side-name-short}
 use Rattle.room.proofs.Constants.{parted-width, terms-short}
 

@@ -12,7 +12,7 @@ use Rattle.algebra.specs.Layout.{putTriples, putRows, put, putE, putC, putEs, p
 use Rattle.scoping.specs.Sets.{variablesOf, tripleVariables}
 use Rattle.scoping.specs.bridge.Places.{Mark, silent, under, Place, marked, places, placesE, placesC, placesEs, placesOs, placesAs, namesOf}
 use Rattle.scoping.proofs.FirstPlaces.{namesOf-append, namesOf-marked}
-use Rattle.room.proofs.Sizes.{width, width-append, size}
+use Rattle.walking.proofs.Sizes.{width, width-append, size}
 use Rattle.room.proofs.Digits.{digits-some}
 use Rattle.room.proofs.Names.{keep-width}
 

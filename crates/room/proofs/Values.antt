@@ -9,7 +9,7 @@ use Rattle.algebra.specs.Query.{Domain, PlainString, LanguageTaggedString, Iri,
 use Rattle.algebra.specs.Word.{spellV}
 use Rattle.filtering.specs.Values.{typed, groundTerm, expressionTerm}
 use Rattle.filtering.specs.Bindings.{orNone}
-use Rattle.room.proofs.Sizes.{width}
+use Rattle.walking.proofs.Sizes.{width}
 
 quoted-length : (l after : Bytes) → length (34 ∷ (l ++ (34 ∷ after))) ≡ length l + length after + 2
 quoted-length l after = omega (arith, length-append l (34 ∷ after))

@@ -10,3 +10,6 @@ pub mod Rewriting
 pub mod Noted
 pub mod Spotted
 pub mod Chosen
+pub mod Sizes
+pub mod Fields
+pub mod Grown

@@ -3,7 +3,7 @@ use Prim.Native.Nat.{ℕ, _≤_}
 use mathlib.Core.Path.{_≡_}
 use mathlib.Core.List.{List, [], _∷_}
 use mathlib.Core.Bool.{true, cond}
-use lib.ListN.{length, getD}
+use lib.ListN.{length, drop, getD}
 use Rattle.text.specs.Text.{Bytes, same, textOf}
 use Rattle.text.specs.Word.{bytes}
 use Rattle.algebra.specs.Valid.{mem}
@@ -11,10 +11,12 @@ use Rattle.algebra.specs.Reader.{reads}
 use Rattle.algebra.specs.Query.{Pair, mapping}
 use Rattle.algebra.specs.Texts.{readPairs}
 use Rattle.names.specs.bridge.Names.{listing}
-use Rattle.lines.specs.bridge.Spotted.{Noted}
+use Rattle.lines.specs.bridge.Spotted.{Noted, spotsOf}
 use Rattle.lists.specs.bridge.Pairs.{PairsTold}
-use Rattle.emit.specs.bridge.Emit.{Em, puts}
+use Rattle.emit.specs.bridge.Emit.{Em, em, puts}
 use Rattle.scoping.specs.bridge.Becomes.{replacement, chosen}
+use Rattle.walking.specs.bridge.Code.{renames}
+use Rattle.walking.specs.bridge.Rewritten.{rewritten}
 use Rattle.heads.specs.bridge.Known.{Known}
 use Rattle.renaming.specs.Rename.{becomes}
 
@@ -45,6 +47,11 @@ pub record Targets (ns : List Bytes) (n : ℕ) (pairs : Bytes) (targets spans : 
   pub read : readPairs mapping pairs ≡ reads list
   pub found : (f : Bytes) → mem f ns ≡ true → replacement ns pairs targets spans f ≡ becomes list f
   pub behind : (k : ℕ) → n ≤ k → getD spans k 0 ≡ 0
+
+-- where a tree's text under its new names ends: the bytes of the answer, as counted over a buffer without room
+unfoldable pub renamedSize : Bytes → List ℕ → List ℕ → ℕ → List (List ℕ) → ℕ → Bytes → List ℕ → List ℕ → ℕ
+unfolding rewritten
+renamedSize s starts sizes n spots k pairs targets spans = rewritten (renames s starts sizes n pairs targets spans) s (drop 0 (spotsOf (listing s starts sizes n) spots k)) 0 (length s) (em 0 []) .at
 
 -- a pair of the mapping was taken: its first name becomes its second, and the others stay
 pub record Settled (ns : List Bytes) (n : ℕ) (pairs : Bytes) (x : Pair) (targets spans targets′ spans′ : List ℕ) : Type 0 where

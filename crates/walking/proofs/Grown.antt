@@ -15,9 +15,13 @@ use Rattle.algebra.specs.Word.{arity}
 use Rattle.algebra.specs.Layout.{putTriples, putRows, putArity, putFlag, put, putE, putC, putEs, putOs, putAs}
 use Rattle.algebra.specs.Valid.{Fits, AllFit, Valid, ValidE, ValidC, ValidEs, ValidOs, ValidAs}
 use Rattle.scoping.specs.Rename.{renameInTerm, renameInTriple, renameInGraphPattern, renameInExpression, renameInCondition, renameInExpressions, renameInOrders, renameAggregates}
 use Rattle.walking.proofs.Parts.{count-renamed, ocount-renamed, acount-renamed}
-use Rattle.merging.proofs.Lists.{map-length}
-use Rattle.room.proofs.Sizes.{width, size}
+use Rattle.walking.proofs.Sizes.{width, size}
+
+-- as many under a function
+map-length : {A B : Type 0} (f : A → B) (xs : List A) → length (map f xs) ≡ length xs
+map-length f [] = refl
+map-length f (x ∷ xs) = ap suc (map-length f xs)
 
 module _ (k : ℕ) (least : (a : ℕ) → a ≤ k * a) where
   -- ---- fields and lines

@@ -11,7 +11,6 @@ use Rattle.text.specs.Text.{Bytes}
 use Rattle.text.specs.Field.{clean, isVar, isKind, fits, allFit, numberOf, variable, integer}
 use Rattle.text.proofs.Basics.{and-left, and-right}
 use Rattle.algebra.specs.Valid.{Fits, AllFit}
-use Rattle.merging.specs.Sides.{columnAt}
 
 pub variable-long : (v : Bytes) → isVar v ≡ true → 2 ≤ length v
 unfolding isVar
@@ -26,7 +25,7 @@ unfolding fits isKind
 fits-variable v h = and-right (clean v) (isVar v) h
 
 -- a column takes no more, nor does none
-pub column-short : (cs : List Bytes) (i : ℕ) → AllFit variable cs → length (columnAt cs i) ≤ 129
+pub column-short : (cs : List Bytes) (i : ℕ) → AllFit variable cs → length (getD cs i []) ≤ 129
 unfolding allFit
 column-short [] i h = omega arith
 column-short (c ∷ cs) zero h = variable-short c (fits-variable c (and-left (fits variable c) (allFit variable cs) h))
