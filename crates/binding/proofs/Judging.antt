@@ -10,11 +10,13 @@ use borrow.Author.Tests.{lt-ltb, le-ltb, eq-eqb, ne-eqb}
 use Rattle.text.specs.Text.{Bytes, Line, same, split, part, linesFrom, First}
 use Rattle.text.specs.Word.{bytes}
 use Rattle.text.proofs.Places.{lines-next, lines-end}
+use Rattle.words.specs.bridge.Key.{keyOf, Keyed}
+use Rattle.words.proofs.ByKey.{small, tells, is-word, other-key}
 use Rattle.cursor.specs.bridge.Cursor.{left}
 use Rattle.cursor.proofs.Laws.{left-none}
 use Rattle.scoping.specs.Sets.{all}
-use Rattle.walking.specs.bridge.Code.{LineEnd}
-use Rattle.walking.proofs.Lines.{nothing-here}
+use Rattle.reader.specs.bridge.Lines.{LineEnd}
+use Rattle.reader.proofs.Laws.{nothing-here}
 use Rattle.walking.proofs.Laws.{line-split}
 use Rattle.merging.specs.Request.{position}
 use Rattle.filtering.specs.bridge.Terms.{formOf}
@@ -22,7 +24,8 @@ use Rattle.filtering.specs.bridge.SetLines.{setsIn, isUsable, allUsable, rowUsa
 use Rattle.placing.specs.declared.field.Field.{Field}
 use Rattle.placing.specs.bridge.Fields.{FieldIs}
 use Rattle.placing.proofs.Repeated.{with-true, and-next}
-use Rattle.binding.specs.bridge.Judged.{allBelow, atBelow, JudgedAll}
+use Rattle.binding.specs.bridge.Judged.{allBelow, atBelow, JudgedLine, JudgedAll}
+use Rattle.binding.specs.declared.judge.Judged.{Judged}
 
 -- ---- the fields of a line
 
@@ -61,70 +64,74 @@ module _ (s : Bytes) (next end : ℕ) where
 
 -- ---- one line
 
-module _ (s : Bytes) (from end w : ℕ) (h : from ≤ end) (i : end < length s) (f : First 9 s from end w) where
+module _ (s : Bytes) (from end w : ℕ) (h : from ≤ end) (i : end < length s) (f : First 9 s from end w) (k : ℕ) (keyed : Keyed (part from w s) k) (width : ℕ) (j : Judged) where
   abbrev Fields : List Bytes
   Fields = left s (w + 1) end
 
-  fields : split 9 (part from end s) ≡ part from w s ∷ Fields
-  fields = line-split s from end w i h f
+  abbrev Line-here : Line
+  Line-here = split 9 (part from end s)
 
-  module _ (b : Bool) (is : b ≡ same (part from w s) (bytes "at")) (width : ℕ) where
-    pub at-line : b ≡ true → (r : Bool) → r ≡ allBelow width Fields → r ≡ atBelow width (split 9 (part from end s))
-    unfolding atBelow
-    at-line t r e = rw (fields, sym is ∙ t) e
+  begins : (v : Bytes) → tells v ≡ true → k ≡ keyOf 0 v → Line-here ≡ v ∷ Fields
+  begins v t e = line-split s from end w i h f ∙ ap (λ (x : Bytes). x ∷ Fields) (is-word (part from w s) k keyed v t e)
 
-    pub at-other : b ≡ false → true ≡ atBelow width (split 9 (part from end s))
-    unfolding atBelow
-    at-other t = rw (fields, sym is ∙ t)
+  pub set-line : k ≡ keyOf 0 (bytes "set") → JudgedLine width Line-here j (record { inside = j .inside; usable = j .usable; sets = j .sets + 1 })
+  unfolding atBelow rowUsable same small tells
+  set-line e =
+      let l = begins (bytes "set") refl e in record { inside = rw l (sym (with-true (j .inside))); usable = rw l (sym (with-true (j .usable))); sets = rw l refl; few = omega arith }
 
-  module _ (b : Bool) (is : b ≡ same (part from w s) (bytes "row")) where
-    pub row-line : b ≡ true → (r : Bool) → r ≡ allUsable Fields → r ≡ rowUsable (split 9 (part from end s))
-    unfolding rowUsable
-    row-line t r e = rw (fields, sym is ∙ t) e
+  pub at-line : k ≡ keyOf 0 (bytes "at") → (b r : Bool) → b ≡ allBelow width Fields → r ≡ (j .inside && b) → JudgedLine width Line-here j (record { inside = r; usable = j .usable; sets = j .sets })
+  unfolding atBelow rowUsable same small tells
+  at-line e b r p q =
+      let l = begins (bytes "at") refl e in record { inside = rw l (q ∙ ap (λ (x : Bool). j .inside && x) p); usable = rw l (sym (with-true (j .usable))); sets = rw l refl; few = omega arith }
 
-    pub row-other : b ≡ false → true ≡ rowUsable (split 9 (part from end s))
-    unfolding rowUsable
-    row-other t = rw (fields, sym is ∙ t)
+  pub row-line : k ≡ keyOf 0 (bytes "row") → (b r : Bool) → b ≡ allUsable Fields → r ≡ (j .usable && b) → JudgedLine width Line-here j (record { inside = j .inside; usable = r; sets = j .sets })
+  unfolding atBelow rowUsable same small tells
+  row-line e b r p q =
+      let l = begins (bytes "row") refl e in record { inside = rw l (sym (with-true (j .inside))); usable = rw l (q ∙ ap (λ (x : Bool). j .usable && x) p); sets = rw l refl; few = omega arith }
 
-  module _ (b : Bool) (is : b ≡ same (part from w s) (bytes "set")) (n : ℕ) where
-    pub set-line : b ≡ true → n + 1 ≡ cond (same (getD (split 9 (part from end s)) 0 []) (bytes "set")) (n + 1) n
-    set-line t = rw (fields, sym is ∙ t)
-
-    pub set-other : b ≡ false → n ≡ cond (same (getD (split 9 (part from end s)) 0 []) (bytes "set")) (n + 1) n
-    set-other t = rw (fields, sym is ∙ t)
+  pub other-line : (k ≡ keyOf 0 (bytes "set") → ⊥) → (k ≡ keyOf 0 (bytes "at") → ⊥) → (k ≡ keyOf 0 (bytes "row") → ⊥) → JudgedLine width Line-here j j
+  unfolding atBelow rowUsable small tells
+  other-line a b c =
+      let l = line-split s from end w i h f in
+      record {
+        inside = rw (l, other-key (part from w s) k keyed (bytes "at") refl b) (sym (with-true (j .inside)));
+        usable = rw (l, other-key (part from w s) k keyed (bytes "row") refl c) (sym (with-true (j .usable)));
+        sets = rw (l, other-key (part from w s) k keyed (bytes "set") refl a) refl;
+        few = omega arith;
+      }
 
 -- ---- line by line
 
 -- what was found so far, with what is still to be found
-pub record Going (w : ℕ) (s : Bytes) (from : ℕ) (inside usable : Bool) (count : ℕ) : Type 0 where
-  pub below : (inside && all (atBelow w) (linesFrom s from)) ≡ all (atBelow w) (linesFrom s 0)
-  pub cells : (usable && all rowUsable (linesFrom s from)) ≡ all rowUsable (linesFrom s 0)
-  pub sets : count + setsIn (linesFrom s from) ≡ setsIn (linesFrom s 0)
-  pub few : count ≤ from
+pub record Going (w : ℕ) (s : Bytes) (from : ℕ) (j : Judged) : Type 0 where
+  pub below : (j .inside && all (atBelow w) (linesFrom s from)) ≡ all (atBelow w) (linesFrom s 0)
+  pub cells : (j .usable && all rowUsable (linesFrom s from)) ≡ all rowUsable (linesFrom s 0)
+  pub sets : j .sets + setsIn (linesFrom s from) ≡ setsIn (linesFrom s 0)
+  pub few : j .sets ≤ from
 
-pub going-start : (w : ℕ) (s : Bytes) → Going w s 0 true true 0
+pub going-start : (w : ℕ) (s : Bytes) → Going w s 0 (record { inside = true; usable = true; sets = 0 })
 going-start w s = record { below = refl; cells = refl; sets = omega arith; few = omega arith }
 
 and-true : (b c x : Bool) → c ≡ true → (b && c) ≡ x → b ≡ x
 and-true true c x e h = sym e ∙ h
 and-true false c x e h = h
 
-module _ (w : ℕ) (s : Bytes) (from : ℕ) (a u : Bool) (n : ℕ) (g : Going w s from a u n) where
+module _ (w : ℕ) (s : Bytes) (from : ℕ) (j : Judged) (g : Going w s from j) where
   -- nothing is left
   module _ (ls : List Line) (q : linesFrom s from ≡ ls) (x : all (atBelow w) ls ≡ true) (y : all rowUsable ls ≡ true) (z : setsIn ls ≡ 0) where
-    over : JudgedAll w (linesFrom s 0) (record { inside = a; usable = u; sets = n })
+    over : JudgedAll w (linesFrom s 0) j
     over = record {
-      inside = and-true a (all (atBelow w) (linesFrom s from)) _ (ap (all (atBelow w)) q ∙ x) (g .below);
-      usable = and-true u (all rowUsable (linesFrom s from)) _ (ap (all rowUsable) q ∙ y) (g .cells);
+      inside = and-true (j .inside) (all (atBelow w) (linesFrom s from)) _ (ap (all (atBelow w)) q ∙ x) (g .below);
+      usable = and-true (j .usable) (all rowUsable (linesFrom s from)) _ (ap (all rowUsable) q ∙ y) (g .cells);
       sets = let e = g .sets in let i = ap setsIn q ∙ z in omega arith;
     }
 
-  pub going-done : length s ≤ from → JudgedAll w (linesFrom s 0) (record { inside = a; usable = u; sets = n })
+  pub going-done : length s ≤ from → JudgedAll w (linesFrom s 0) j
   unfolding all setsIn
   going-done h = over [] (lines-end s from h) refl refl refl
 
   module _ (end : ℕ) (l : LineEnd s from end) where
-    pub going-stop : end ≡ length s → JudgedAll w (linesFrom s 0) (record { inside = a; usable = u; sets = n })
+    pub going-stop : end ≡ length s → JudgedAll w (linesFrom s 0) j
     unfolding all setsIn atBelow rowUsable same
     going-stop e = ⊎-elim (λ q. over [] q refl refl refl) (λ q. over ([] ∷ []) q refl refl refl) (nothing-here s from end l e)
 
@@ -142,12 +149,11 @@ module _ (w : ℕ) (s : Bytes) (from : ℕ) (a u : Bool) (n : ℕ) (g : Going w 
       count-next true k m r x e h = omega arith
       count-next false k m r x e h = omega arith
 
-      pub going-next : (b v : Bool) (m : ℕ) → b ≡ (a && atBelow w (split 9 (part from end s))) → v ≡ (u && rowUsable (split 9 (part from end s)))
-          → (m ≡ cond (same (getD (split 9 (part from end s)) 0 []) (bytes "set")) (n + 1) n) × (m ≤ from + 1) → Going w s (end + 1) b v m
+      pub going-next : (r : Judged) → JudgedLine w (split 9 (part from end s)) j r → Going w s (end + 1) r
       unfolding all setsIn
-      going-next b v m p q r = record {
-        below = and-next a b _ (all (atBelow w) (linesFrom s (end + 1))) _ p (ap (λ (ls : List Line). a && all (atBelow w) ls) (sym here) ∙ g .below);
-        cells = and-next u v _ (all rowUsable (linesFrom s (end + 1))) _ q (ap (λ (ls : List Line). u && all rowUsable ls) (sym here) ∙ g .cells);
-        sets = count-next (same (getD (split 9 (part from end s)) 0 []) (bytes "set")) n m (setsIn (linesFrom s (end + 1))) _ (r .0) (ap (λ (ls : List Line). n + setsIn ls) (sym here) ∙ g .sets);
-        few = let x = going-low in let y = r .1 in omega arith;
+      going-next r t = record {
+        below = and-next (j .inside) (r .inside) _ (all (atBelow w) (linesFrom s (end + 1))) _ (t .inside) (ap (λ (ls : List Line). j .inside && all (atBelow w) ls) (sym here) ∙ g .below);
+        cells = and-next (j .usable) (r .usable) _ (all rowUsable (linesFrom s (end + 1))) _ (t .usable) (ap (λ (ls : List Line). j .usable && all rowUsable ls) (sym here) ∙ g .cells);
+        sets = count-next (same (getD (split 9 (part from end s)) 0 []) (bytes "set")) (j .sets) (r .sets) (setsIn (linesFrom s (end + 1))) _ (t .sets) (ap (λ (ls : List Line). j .sets + setsIn ls) (sym here) ∙ g .sets);
+        few = let x = going-low in let y = t .few in let z = g .few in omega arith;
       }

@@ -1,7 +1,7 @@
 -- The lines of the Values, field by field and line by line. Assumes nothing.
 use Prim.Native.Nat.{ℕ, _+_, _≤_, _<_}
 use mathlib.Core.Path.{_≡_, refl, sym, ap, ap₂, subst, _∙_}
-use mathlib.Core.Bool.{Bool, true, false}
+use mathlib.Core.Bool.{false}
 use mathlib.Core.List.{List, [], _∷_, _++_, map, append-nil}
 use mathlib.Core.Logic.{⊎-elim}
 use native.Mathlib.Omega.{arith}
@@ -10,14 +10,16 @@ use Rattle.text.specs.Text.{Bytes, Line, same, ended, textOf, split, part, line
 use Rattle.text.specs.Word.{bytes}
 use Rattle.text.proofs.Texts.{Ended, glue, glue-split}
 use Rattle.text.proofs.Places.{lines-next, lines-end}
+use Rattle.words.specs.bridge.Key.{keyOf, Keyed}
+use Rattle.words.proofs.ByKey.{small, tells, same-key, other-key}
 use Rattle.cursor.specs.bridge.Cursor.{left}
 use Rattle.cursor.proofs.Laws.{left-none}
 use Rattle.parted.proofs.Laws.{part-join}
 use Rattle.emit.specs.bridge.Emit.{Em, puts}
 use Rattle.emit.proofs.Laws.{puts-append, puts-nil}
 use Rattle.walking.specs.bridge.Walk.{tabbed}
-use Rattle.walking.specs.bridge.Code.{LineEnd}
-use Rattle.walking.proofs.Lines.{nothing-here}
+use Rattle.reader.specs.bridge.Lines.{LineEnd}
+use Rattle.reader.proofs.Laws.{nothing-here}
 use Rattle.walking.proofs.Laws.{line-split}
 use Rattle.walking.proofs.Written.{puts-ended}
 use Rattle.merging.specs.Request.{position}
@@ -95,19 +97,26 @@ module _ (cs : List Bytes) (s : Bytes) (from end w : ℕ) (h : from ≤ end) (i 
   tail-tabbed : part w end s ≡ tabbed Fields
   tail-tabbed = cancel (part from w s) (part w end s) (tabbed Fields) (part-join s from w end (f .low) (f .high) ∙ sym (glue-split 9 (part from end s)) ∙ ap (glue 9) fields ∙ glue-tabbed (part from w s) Fields)
 
-  module _ (b : Bool) (is : b ≡ same (part from w s) (bytes "set")) (e x y : Em) where
-    pub set-line : b ≡ true → x ≡ puts (bytes "values") e → y ≡ puts (part w end s) x → puts (10 ∷ []) y ≡ puts (ended (valuesLine cs (split 9 (part from end s))) []) e
-    unfolding valuesLine
-    set-line t p q = rw (fields, sym is ∙ t) (line-put (bytes "values") Fields e x y p (q ∙ ap (λ (v : Bytes). puts v x) tail-tabbed))
+  module _ (k : ℕ) (keyed : Keyed (part from w s) k) (e x y : Em) where
+    abbrev Becomes : Type 0
+    Becomes = puts (10 ∷ []) y ≡ puts (ended (valuesLine cs (split 9 (part from end s))) []) e
 
-    module _ (no : b ≡ false) (c : Bool) (at : c ≡ same (part from w s) (bytes "at")) where
-      pub at-line : c ≡ true → x ≡ puts (bytes "cols") e → y ≡ puts (tabbed (boundFrom cs Fields)) x → puts (10 ∷ []) y ≡ puts (ended (valuesLine cs (split 9 (part from end s))) []) e
-      unfolding valuesLine
-      at-line t p q = rw (fields, sym is ∙ no, sym at ∙ t) (line-put (bytes "cols") (boundFrom cs Fields) e x y p q)
+    pub set-line : k ≡ keyOf 0 (bytes "set") → x ≡ puts (bytes "values") e → y ≡ puts (part w end s) x → Becomes
+    unfolding valuesLine small tells
+    set-line t p q = rw (fields, same-key (part from w s) k keyed (bytes "set") refl t) (line-put (bytes "values") Fields e x y p (q ∙ ap (λ (v : Bytes). puts v x) tail-tabbed))
 
-      pub row-line : c ≡ false → x ≡ puts (bytes "row") e → y ≡ puts (tabbed (cellsFrom Fields)) x → puts (10 ∷ []) y ≡ puts (ended (valuesLine cs (split 9 (part from end s))) []) e
-      unfolding valuesLine
-      row-line t p q = rw (fields, sym is ∙ no, sym at ∙ t) (line-put (bytes "row") (cellsFrom Fields) e x y p q)
+    module _ (no : k ≡ keyOf 0 (bytes "set") → ⊥) where
+      no-set : same (part from w s) (bytes "set") ≡ false
+      unfolding small tells
+      no-set = other-key (part from w s) k keyed (bytes "set") refl no
+
+      pub at-line : k ≡ keyOf 0 (bytes "at") → x ≡ puts (bytes "cols") e → y ≡ puts (tabbed (boundFrom cs Fields)) x → Becomes
+      unfolding valuesLine small tells
+      at-line t p q = rw (fields, no-set, same-key (part from w s) k keyed (bytes "at") refl t) (line-put (bytes "cols") (boundFrom cs Fields) e x y p q)
+
+      pub row-line : (k ≡ keyOf 0 (bytes "at") → ⊥) → x ≡ puts (bytes "row") e → y ≡ puts (tabbed (cellsFrom Fields)) x → Becomes
+      unfolding valuesLine small tells
+      row-line t p q = rw (fields, no-set, other-key (part from w s) k keyed (bytes "at") refl t) (line-put (bytes "row") (cellsFrom Fields) e x y p q)
 
 -- ---- line by line
 

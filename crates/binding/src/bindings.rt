@@ -23,7 +23,7 @@ ghost use Rattle.algebra.specs.Tree.{Pattern};
 ghost use Rattle.algebra.specs.Query.{BindingSet};
 ghost use Rattle.algebra.specs.Reader.{reads};
 ghost use Rattle.algebra.specs.Texts.{readTree, readSets};
-ghost use Rattle.names.specs.bridge.Names.{listing};
+ghost use Rattle.placing.specs.bridge.Fields.{columnsIn};
 ghost use Rattle.emit.specs.bridge.Emit.{em, puts};
 ghost use Rattle.answers.specs.Outcome.{Answered};
 ghost use Rattle.filtering.specs.Bindings.{bindingsOutcome};
@@ -36,20 +36,19 @@ fn put_bindings(
     tree: &[u8],
     inner: usize,
     end: usize,
-    starts: &[u16; 64],
-    sizes: &[u16; 64],
+    columns: &[Entry; 64],
     n: usize,
     sets: &[u8],
     joins: usize,
     out: &mut [u8],
 ) -> usize
     requires { ⌜ (inner ≤ end) × (end ≤ length (now tree)) × (n ≤ 64) × Ended (linesFrom (now sets) 0) ⌝ }
-    ensures { λ r. ⌜ em r (now (out .exit)) ≡ puts (boundAt (now (tree .entry)) inner end joins (listing (now (tree .entry)) (now (starts .entry)) (now (sizes .entry)) n) (linesFrom (now (sets .entry)) 0)) (em 0 (now (out .entry))) ⌝ }
+    ensures { λ r. ⌜ em r (now (out .exit)) ≡ puts (boundAt (now (tree .entry)) inner end joins (columnsIn (now (tree .entry)) (now (columns .entry)) n) (linesFrom (now (sets .entry)) 0)) (em 0 (now (out .entry))) ⌝ }
 {
     let a = put_all(out, 0, &tree[..inner]);
     let b = put_repeated(&JOIN, joins, out, a);
     let c = put_all(out, b, &tree[inner..end]);
-    let d = put_values(tree, starts, sizes, n, sets, out, c);
+    let d = put_values(tree, columns, n, sets, out, c);
     put_all(out, d, &tree[end..])
 }
 
@@ -58,21 +57,20 @@ fn has_room(
     tree: &[u8],
     inner: usize,
     end: usize,
-    starts: &[u16; 64],
-    sizes: &[u16; 64],
+    columns: &[Entry; 64],
     n: usize,
     sets: &[u8],
     joins: usize,
     room: usize,
 ) -> bool
     requires { ⌜ (inner ≤ end) × (end ≤ length (now tree)) × (n ≤ 64) × Ended (linesFrom (now sets) 0) × (length (now tree) ≤ 16384) × (length (now sets) ≤ 16384) ⌝ }
-    ensures { λ r. ⌜ Holds (length (now (tree .entry)) + 65 * length (now (sets .entry))) (length (boundAt (now (tree .entry)) inner end joins (listing (now (tree .entry)) (now (starts .entry)) (now (sizes .entry)) n) (linesFrom (now (sets .entry)) 0))) room r ⌝ }
+    ensures { λ r. ⌜ Holds (length (now (tree .entry)) + 65 * length (now (sets .entry))) (length (boundAt (now (tree .entry)) inner end joins (columnsIn (now (tree .entry)) (now (columns .entry)) n) (linesFrom (now (sets .entry)) 0))) room r ⌝ }
 {
     if tree.len() + 65 * sets.len() <= room {
         return true;
     }
     let mut none = [0u8; 0];
-    let size = put_bindings(tree, inner, end, starts, sizes, n, sets, joins, &mut none);
+    let size = put_bindings(tree, inner, end, columns, n, sets, joins, &mut none);
     size <= room
 }
 
@@ -84,9 +82,8 @@ fn bindings_of(tree: &[u8], sets: &[u8], out: &mut [u8]) -> Answer
     let Outermost::At(line, inner) = outermost_projection(tree, 0) else {
         return copy(tree, out);
     };
-    let mut starts = [0u16; 64];
-    let mut sizes = [0u16; 64];
-    let n = read_columns(tree, line, &mut starts, &mut sizes);
+    let mut columns = [[0u16; 2]; 64];
+    let n = read_columns(tree, line, &mut columns);
     let judged = judge(sets, n);
     if !judged.inside {
         return Answer::Outside;
@@ -99,8 +96,7 @@ fn bindings_of(tree: &[u8], sets: &[u8], out: &mut [u8]) -> Answer
         tree,
         inner,
         end,
-        &starts,
-        &sizes,
+        &columns,
         n,
         sets,
         judged.sets,
@@ -108,7 +104,7 @@ fn bindings_of(tree: &[u8], sets: &[u8], out: &mut [u8]) -> Answer
     ) {
         return Answer::TooShort;
     }
-    let put = put_bindings(tree, inner, end, &starts, &sizes, n, sets, judged.sets, out);
+    let put = put_bindings(tree, inner, end, &columns, n, sets, judged.sets, out);
     Answer::Written(put)
 }
 

@@ -3,25 +3,16 @@ use placing::field::field_at;
 use placing::field::position_of;
 use placing::steps::both;
 use placing::term::form_of;
-use text::equal;
-use text::find;
-use walking::line::line_end;
+use reader::line_end;
+use words::keys;
+use words::word_at;
 ghost use mathlib.Core.Path.{_≡_};
 ghost use Prim.Native.Nat.{_+_, _≤_, _<_};
-ghost use mathlib.Core.Bool.{cond};
-ghost use mathlib.Core.List.{[]};
-ghost use lib.ListN.{length, getD};
-ghost use Rattle.text.specs.Text.{same, part, split, linesFrom};
-ghost use Rattle.text.specs.Word.{bytes};
+ghost use lib.ListN.{length};
+ghost use Rattle.text.specs.Text.{part, split, linesFrom};
 ghost use Rattle.cursor.specs.bridge.Cursor.{left};
-ghost use Rattle.filtering.specs.bridge.SetLines.{rowUsable, allUsable};
-ghost use Rattle.binding.specs.bridge.Judged.{allBelow, atBelow, JudgedAll};
-
-const SET: [u8; 3] = *b"set";
-
-const AT: [u8; 2] = *b"at";
-
-const ROW: [u8; 3] = *b"row";
+ghost use Rattle.filtering.specs.bridge.SetLines.{allUsable};
+ghost use Rattle.binding.specs.bridge.Judged.{allBelow, JudgedLine, JudgedAll};
 
 // Each position from here to the line's end is below the width.
 fn are_inside(sets: &[u8], from: usize, end: usize, width: usize) -> bool
@@ -59,42 +50,6 @@ fn are_usable(sets: &[u8], from: usize, end: usize) -> bool
     true
 }
 
-// The line from here to its end names only positions below the width.
-fn is_inside(sets: &[u8], from: usize, end: usize, width: usize) -> bool
-    requires { ⌜ (from ≤ end) × (end < length (now sets)) ⌝ }
-    ensures { λ r. ⌜ r ≡ atBelow width (split 9 (part from end (now (sets .entry)))) ⌝ }
-{
-    let word = find(sets, from, end, 9);
-    if equal(&sets[from..word], &AT) {
-        return are_inside(sets, word + 1, end, width);
-    }
-    true
-}
-
-// The line has no value that becomes no cell.
-fn is_usable(sets: &[u8], from: usize, end: usize) -> bool
-    requires { ⌜ (from ≤ end) × (end < length (now sets)) ⌝ }
-    ensures { λ r. ⌜ r ≡ rowUsable (split 9 (part from end (now (sets .entry)))) ⌝ }
-{
-    let word = find(sets, from, end, 9);
-    if equal(&sets[from..word], &ROW) {
-        return are_usable(sets, word + 1, end);
-    }
-    true
-}
-
-// One more where the line starts a set.
-fn and_set(count: usize, sets: &[u8], from: usize, end: usize) -> usize
-    requires { ⌜ (from ≤ end) × (end < length (now sets)) × (count ≤ from) ⌝ }
-    ensures { λ r. ⌜ (r ≡ cond (same (getD (split 9 (part from end (now (sets .entry)))) 0 []) (bytes "set")) (count + 1) count) × (r ≤ from + 1) ⌝ }
-{
-    let word = find(sets, from, end, 9);
-    if equal(&sets[from..word], &SET) {
-        return count + 1;
-    }
-    count
-}
-
 // All positions are inside, all values become cells, and there are so many sets.
 pub struct Judged {
     pub inside: bool,
@@ -102,30 +57,49 @@ pub struct Judged {
     pub sets: usize,
 }
 
+// What was found so far, and what the line from here to its end adds to it.
+fn judge_line(sets: &[u8], from: usize, end: usize, width: usize, so_far: Judged) -> Judged
+    requires { ⌜ (from ≤ end) × (end < length (now sets)) × («so_far» .sets ≤ from) ⌝ }
+    ensures { λ r. ⌜ JudgedLine width (split 9 (part from end (now (sets .entry)))) «so_far» r ⌝ }
+{
+    let w = word_at(sets, from, end);
+    let key = w.key;
+    match key {
+        keys::SET => Judged {
+            inside: so_far.inside,
+            usable: so_far.usable,
+            sets: so_far.sets + 1,
+        },
+        keys::AT => Judged {
+            inside: both(so_far.inside, are_inside(sets, w.end + 1, end, width)),
+            usable: so_far.usable,
+            sets: so_far.sets,
+        },
+        keys::ROW => Judged {
+            inside: so_far.inside,
+            usable: both(so_far.usable, are_usable(sets, w.end + 1, end)),
+            sets: so_far.sets,
+        },
+        _ => so_far,
+    }
+}
+
 pub fn judge(sets: &[u8], width: usize) -> Judged
     ensures { λ r. ⌜ JudgedAll width (linesFrom (now (sets .entry)) 0) r ⌝ }
 {
-    let mut inside = true;
-    let mut usable = true;
-    let mut count = 0;
+    let mut judged = Judged {
+        inside: true,
+        usable: true,
+        sets: 0,
+    };
     let mut from = 0;
     while from < sets.len() {
         let end = line_end(sets, from);
         if end == sets.len() {
-            return Judged {
-                inside,
-                usable,
-                sets: count,
-            };
+            return judged;
         }
-        inside = both(inside, is_inside(sets, from, end, width));
-        usable = both(usable, is_usable(sets, from, end));
-        count = and_set(count, sets, from, end);
+        judged = judge_line(sets, from, end, width, judged);
         from = end + 1;
     }
-    Judged {
-        inside,
-        usable,
-        sets: count,
-    }
+    judged
 }

@@ -1,14 +1,15 @@
 // The lines of the Values, each from one line of the sets.
 use emit::put;
 use emit::put_all;
+use names::Entry;
 use placing::columns::column_at;
 use placing::field::field_at;
 use placing::field::position_of;
 use placing::term::form_of;
 use placing::term::put_term;
-use text::equal;
-use text::find;
-use walking::line::line_end;
+use reader::line_end;
+use words::keys;
+use words::word_at;
 ghost use mathlib.Core.Path.{_≡_};
 ghost use Prim.Native.Nat.{_+_, _≤_, _<_};
 ghost use mathlib.Core.List.{[], _∷_, map};
@@ -18,13 +19,9 @@ ghost use Rattle.text.proofs.Texts.{Ended};
 ghost use Rattle.cursor.specs.bridge.Cursor.{left};
 ghost use Rattle.emit.specs.bridge.Emit.{em, puts};
 ghost use Rattle.walking.specs.bridge.Walk.{tabbed};
-ghost use Rattle.names.specs.bridge.Names.{listing};
+ghost use Rattle.placing.specs.bridge.Fields.{columnsIn};
 ghost use Rattle.filtering.specs.bridge.SetLines.{cellsFrom, valuesLine};
 ghost use Rattle.binding.specs.bridge.Bound.{boundFrom};
-
-const SET: [u8; 3] = *b"set";
-
-const AT: [u8; 2] = *b"at";
 
 const VALUES: [u8; 6] = *b"values";
 
@@ -35,8 +32,7 @@ const ROW: [u8; 3] = *b"row";
 // The columns at the positions from here to the line's end, each after a tab.
 fn put_bound(
     tree: &[u8],
-    starts: &[u16; 64],
-    sizes: &[u16; 64],
+    columns: &[Entry; 64],
     n: usize,
     sets: &[u8],
     from: usize,
@@ -45,7 +41,7 @@ fn put_bound(
     at: usize,
 ) -> usize
     requires { ⌜ (n ≤ 64) × (end < length (now sets)) × (from ≤ end + 1) ⌝ }
-    ensures { λ r. ⌜ em r (now (out .exit)) ≡ puts (tabbed (boundFrom (listing (now (tree .entry)) (now (starts .entry)) (now (sizes .entry)) n) (left (now (sets .entry)) from end))) (em at (now (out .entry))) ⌝ }
+    ensures { λ r. ⌜ em r (now (out .exit)) ≡ puts (tabbed (boundFrom (columnsIn (now (tree .entry)) (now (columns .entry)) n) (left (now (sets .entry)) from end))) (em at (now (out .entry))) ⌝ }
 {
     let mut to = at;
     let mut next = from;
@@ -56,7 +52,7 @@ fn put_bound(
         to = put_all(
             out,
             to,
-            column_at(tree, starts, sizes, n, position_of(&sets[next..e])),
+            column_at(tree, columns, n, position_of(&sets[next..e])),
         );
         next = field.next;
     }
@@ -89,8 +85,7 @@ fn put_cells(sets: &[u8], from: usize, end: usize, out: &mut [u8], at: usize) ->
 // The line that the line of the sets from here to its end becomes, without its end.
 fn put_fields(
     tree: &[u8],
-    starts: &[u16; 64],
-    sizes: &[u16; 64],
+    columns: &[Entry; 64],
     n: usize,
     sets: &[u8],
     from: usize,
@@ -99,33 +94,38 @@ fn put_fields(
     at: usize,
 ) -> usize
     requires { ⌜ (n ≤ 64) × (from ≤ end) × (end < length (now sets)) ⌝ }
-    ensures { λ r. ⌜ puts (10 ∷ []) (em r (now (out .exit))) ≡ puts (ended (valuesLine (listing (now (tree .entry)) (now (starts .entry)) (now (sizes .entry)) n) (split 9 (part from end (now (sets .entry))))) []) (em at (now (out .entry))) ⌝ }
+    ensures { λ r. ⌜ puts (10 ∷ []) (em r (now (out .exit))) ≡ puts (ended (valuesLine (columnsIn (now (tree .entry)) (now (columns .entry)) n) (split 9 (part from end (now (sets .entry))))) []) (em at (now (out .entry))) ⌝ }
 {
-    let word = find(sets, from, end, 9);
-    if equal(&sets[from..word], &SET) {
-        let a = put_all(out, at, &VALUES);
-        return put_all(out, a, &sets[word..end]);
+    let w = word_at(sets, from, end);
+    let word = w.end;
+    let key = w.key;
+    match key {
+        keys::SET => {
+            let a = put_all(out, at, &VALUES);
+            put_all(out, a, &sets[word..end])
+        }
+        keys::AT => {
+            let b = put_all(out, at, &COLS);
+            put_bound(tree, columns, n, sets, word + 1, end, out, b)
+        }
+        _ => {
+            let c = put_all(out, at, &ROW);
+            put_cells(sets, word + 1, end, out, c)
+        }
     }
-    if equal(&sets[from..word], &AT) {
-        let b = put_all(out, at, &COLS);
-        return put_bound(tree, starts, sizes, n, sets, word + 1, end, out, b);
-    }
-    let c = put_all(out, at, &ROW);
-    put_cells(sets, word + 1, end, out, c)
 }
 
 // The lines of the Values of all sets.
 pub fn put_values(
     tree: &[u8],
-    starts: &[u16; 64],
-    sizes: &[u16; 64],
+    columns: &[Entry; 64],
     n: usize,
     sets: &[u8],
     out: &mut [u8],
     at: usize,
 ) -> usize
     requires { ⌜ (n ≤ 64) × Ended (linesFrom (now sets) 0) ⌝ }
-    ensures { λ r. ⌜ em r (now (out .exit)) ≡ puts (textOf (map (valuesLine (listing (now (tree .entry)) (now (starts .entry)) (now (sizes .entry)) n)) (linesFrom (now (sets .entry)) 0))) (em at (now (out .entry))) ⌝ }
+    ensures { λ r. ⌜ em r (now (out .exit)) ≡ puts (textOf (map (valuesLine (columnsIn (now (tree .entry)) (now (columns .entry)) n)) (linesFrom (now (sets .entry)) 0))) (em at (now (out .entry))) ⌝ }
 {
     let mut to = at;
     let mut from = 0;
@@ -134,7 +134,7 @@ pub fn put_values(
         if end == sets.len() {
             return to;
         }
-        to = put_fields(tree, starts, sizes, n, sets, from, end, out, to);
+        to = put_fields(tree, columns, n, sets, from, end, out, to);
         to = put(out, to, 10);
         from = end + 1;
     }

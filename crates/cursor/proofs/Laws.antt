@@ -1,4 +1,4 @@
--- Laws of the cursor: what a step leaves of a line, and of the parents. Assumes nothing.
+-- Laws of the cursor: what a step leaves of a line. Assumes nothing.
 use Prim.Native.Nat.{ℕ, suc, _+_, _-_, _≤_, _<_}
 use mathlib.Core.Path.{_≡_, refl, sym, _∙_, ap, subst}
 use mathlib.Core.List.{List, [], _∷_}
@@ -36,24 +36,16 @@ pub left-all : (s : Bytes) (at end : ℕ) → at ≤ end → left s at end ≡ s
 unfolding left
 left-all s at end h = rw (le-leb at end h)
 
--- a count that is 0 more
-pub above-more : (counts : List ℕ) (h i : ℕ) → ((k : ℕ) → k < h → i + 1 ≤ k → getD counts k 0 ≡ 0) → getD counts i 0 ≡ 0 → (k : ℕ) → k < h → i ≤ k → getD counts k 0 ≡ 0
-above-more counts h i f z k l m =
-    ⊎-elim (λ (q : i ≡ k). subst (λ j. getD counts j 0 ≡ 0) q z) (λ (q : i < k). f k l (omega arith)) (eq-or-lt-of-le m)
-
-pub waits-at : (counts : List ℕ) (h : ℕ) → (getD counts (h - 1) 0 ≡ 0 → ⊥) → (i : ℕ) → h ≡ i + 1 → getD counts i 0 ≡ 0 → ⊥
-waits-at counts h f i e z = let q : h - 1 ≡ i = omega arith in f (subst (λ j. getD counts j 0 ≡ 0) (sym q) z)
-
 -- ---- what a step found
 
 pub record Next (s : Bytes) (c : Cursor) (e : ℕ) (d : Cursor) : Type 0 where
   pub first : First 9 s (c .at) (c .end) e
   pub at : d .at ≡ e + 1
   pub end : d .end ≡ c .end
-  pub height : d .height ≡ c .height
+  pub awaited : d .awaited ≡ c .awaited
 
-pub next-at : (s : Bytes) (c : Cursor) (e : ℕ) (d : Cursor) → First 9 s (c .at) (c .end) e → (d .at ≡ e + 1) × (d .end ≡ c .end) × (d .height ≡ c .height) → Next s c e d
-next-at s c e d f h = record { first = f; at = h .0; end = h .1; height = h .2 }
+pub next-at : (s : Bytes) (c : Cursor) (e : ℕ) (d : Cursor) → First 9 s (c .at) (c .end) e → (d .at ≡ e + 1) × (d .end ≡ c .end) × (d .awaited ≡ c .awaited) → Next s c e d
+next-at s c e d f h = record { first = f; at = h .0; end = h .1; awaited = h .2 }
 
 pub reads-at : (s : Bytes) (c : Cursor) (r : Field) (e : ℕ) (d : Cursor) → Reads s c r → r ≡ At e d → Next s c e d
 unfolding Reads

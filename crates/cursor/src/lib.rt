@@ -1,17 +1,18 @@
-// A cursor by value: it steps from line to line and from field to field of a text, and knows how many parents still await children.
+// A cursor by value: it steps from line to line and from field to field of a text, and counts down the lines that are awaited.
+use reader::next_end;
 use text::find;
 ghost use mathlib.Core.Path.{_≡_};
-ghost use Prim.Native.Nat.{ℕ, _+_, _≤_, _<_};
-ghost use lib.ListN.{length, getD};
+ghost use Prim.Native.Nat.{_+_, _-_, _≤_, _<_};
+ghost use lib.ListN.{length};
 ghost use Rattle.text.specs.Text.{First};
-ghost use Rattle.cursor.specs.bridge.Cursor.{Reads, Settled};
+ghost use Rattle.cursor.specs.bridge.Cursor.{Reads};
 
 // `at` is the next byte to read and `end` the end of the line. Behind the last field of a line `at` is one past `end`, where the
 // next line starts; two past `end` says that a field was missing or not what it should be.
 pub struct Cursor {
     pub at: usize,
     pub end: usize,
-    pub height: usize,
+    pub awaited: u64,
 }
 
 // The end of a field, and the cursor behind it.
@@ -20,28 +21,36 @@ pub enum Field {
     None,
 }
 
+// The end of the field that starts at a place of the line up to `end`.
+pub fn field_end(s: &[u8], at: usize, end: usize) -> usize
+    requires { ⌜ (at ≤ end) × (end ≤ length (now s)) ⌝ }
+    ensures { λ r. ⌜ First 9 (now (s .entry)) at end r ⌝ }
+{
+    find(s, at, end, 9)
+}
+
 impl Cursor {
-    pub fn new(height: usize) -> Self
-        ensures { λ r. ⌜ (r .at ≡ 0) × (r .end ≡ 0) × (r .height ≡ height) ⌝ }
+    pub fn new(awaited: u64) -> Self
+        ensures { λ r. ⌜ (r .at ≡ 0) × (r .end ≡ 0) × (r .awaited ≡ awaited) ⌝ }
     {
         Cursor {
             at: 0,
             end: 0,
-            height,
+            awaited,
         }
     }
 
     // The line that starts here, up to its end or that of the text.
     pub fn next_line(self, s: &[u8]) -> Self
         requires { ⌜ self .at ≤ length (now s) ⌝ }
-        ensures { λ r. ⌜ (r .at ≡ self .at) × (r .height ≡ self .height) × First 10 (now (s .entry)) (self .at) (length (now (s .entry))) (r .end) ⌝ }
+        ensures { λ r. ⌜ (r .at ≡ self .at) × (r .awaited ≡ self .awaited) × First 10 (now (s .entry)) (self .at) (length (now (s .entry))) (r .end) ⌝ }
     {
         let at = self.at;
-        let end = find(s, at, s.len(), 10);
+        let end = next_end(s, at);
         Cursor {
             at,
             end,
-            height: self.height,
+            awaited: self.awaited,
         }
     }
 
@@ -55,13 +64,13 @@ impl Cursor {
         if end < at {
             return Field::None;
         }
-        let e = find(s, at, end, 9);
+        let e = field_end(s, at, end);
         Field::At(
             e,
             Cursor {
                 at: e + 1,
                 end,
-                height: self.height,
+                awaited: self.awaited,
             },
         )
     }
@@ -69,48 +78,36 @@ impl Cursor {
     // Behind a field that ends at a place of the line.
     pub fn behind(self, e: usize) -> Self
         requires { ⌜ (e ≤ self .end) × (self .end ≤ 16384) ⌝ }
-        ensures { λ r. ⌜ (r .at ≡ e + 1) × (r .end ≡ self .end) × (r .height ≡ self .height) ⌝ }
+        ensures { λ r. ⌜ (r .at ≡ e + 1) × (r .end ≡ self .end) × (r .awaited ≡ self .awaited) ⌝ }
     {
         Cursor {
             at: e + 1,
             end: self.end,
-            height: self.height,
+            awaited: self.awaited,
         }
     }
 
     // A field was missing or not what it should be.
     pub fn failed(self) -> Self
         requires { ⌜ self .end ≤ 16384 ⌝ }
-        ensures { λ r. ⌜ (r .at ≡ self .end + 2) × (r .end ≡ self .end) × (r .height ≡ self .height) ⌝ }
+        ensures { λ r. ⌜ (r .at ≡ self .end + 2) × (r .end ≡ self .end) × (r .awaited ≡ self .awaited) ⌝ }
     {
         Cursor {
             at: self.end + 2,
             end: self.end,
-            height: self.height,
+            awaited: self.awaited,
         }
     }
 
-    // A child is done: the nearest parent that still awaits children, of which `counts` says how many.
-    pub fn child_done(self, counts: &[u64]) -> Self
-        requires { ⌜ self .height ≤ length (now counts) ⌝ }
-        ensures { λ r. ⌜ (r .at ≡ self .at) × (r .end ≡ self .end) × Settled (now (counts .entry)) (self .height) (r .height) ⌝ }
+    // A line is done that has so many lines directly below it: they are awaited in its place.
+    pub fn child_done(self, below: u64) -> Self
+        requires { ⌜ (0 < self .awaited) × (self .awaited + below < 18446744073709551616) × (self .end ≤ 16384) ⌝ }
+        ensures { λ r. ⌜ (r .at ≡ self .end + 1) × (r .end ≡ self .end) × (r .awaited ≡ self .awaited - 1 + below) ⌝ }
     {
-        let mut h = self.height;
-        while 0 < h {
-            let i = h - 1;
-            if counts[i] != 0 {
-                return Cursor {
-                    at: self.at,
-                    end: self.end,
-                    height: h,
-                };
-            }
-            h = i;
-        }
         Cursor {
-            at: self.at,
+            at: self.end + 1,
             end: self.end,
-            height: h,
+            awaited: self.awaited - 1 + below,
         }
     }
 }

@@ -13,12 +13,14 @@ use Rattle.text.proofs.Basics.{and-left, and-right}
 use Rattle.text.specs.Text.{Bytes, Line, same, textOf, split, part, linesFrom, First}
 use Rattle.text.specs.Word.{bytes}
 use Rattle.text.proofs.Places.{lines-next, lines-end}
+use Rattle.words.specs.bridge.Key.{keyOf, Keyed}
+use Rattle.words.proofs.ByKey.{small, tells, same-key, other-key}
 use Rattle.cursor.specs.bridge.Cursor.{left}
 use Rattle.emit.specs.bridge.Emit.{Em, em, puts}
 use Rattle.emit.proofs.Laws.{puts-append, puts-nil, puts-out}
 use Rattle.scoping.specs.Sets.{all}
-use Rattle.walking.specs.bridge.Code.{LineEnd}
-use Rattle.walking.proofs.Lines.{nothing-here}
+use Rattle.reader.specs.bridge.Lines.{LineEnd}
+use Rattle.reader.proofs.Laws.{nothing-here}
 use Rattle.walking.proofs.Laws.{line-split}
 use Rattle.merging.specs.Request.{position}
 use Rattle.heads.proofs.Cut.{text-append}
@@ -33,17 +35,17 @@ use Rattle.expressing.specs.bridge.Filtered.{refBelow}
 
 -- ---- references
 
-module _ (s : Bytes) (from end w : ℕ) (h : from ≤ end) (i : end < length s) (f : First 9 s from end w) (width : ℕ) (b : Bool) (is : b ≡ same (part from w s) (bytes "ref")) where
+module _ (s : Bytes) (from end w : ℕ) (h : from ≤ end) (i : end < length s) (f : First 9 s from end w) (k : ℕ) (keyed : Keyed (part from w s) k) (width : ℕ) where
   fields : split 9 (part from end s) ≡ part from w s ∷ left s (w + 1) end
   fields = line-split s from end w i h f
 
-  pub ref-other : not b ≡ true → true ≡ refBelow width (split 9 (part from end s))
-  unfolding refBelow
-  ref-other t = rw (fields, sym is ∙ not-true b t)
+  pub ref-other : (k ≡ keyOf 0 (bytes "ref") → ⊥) → true ≡ refBelow width (split 9 (part from end s))
+  unfolding refBelow small tells
+  ref-other n = rw (fields, other-key (part from w s) k keyed (bytes "ref") refl n)
 
-  pub ref-is : not b ≡ false → (n : Field) → FieldIs s (w + 1) end n → (k : ℕ) → k ≡ position (part (w + 1) (n .to) s) → ltb k width ≡ refBelow width (split 9 (part from end s))
-  unfolding refBelow
-  ref-is t n j k p = rw (fields, sym is ∙ not-false b t, sym (j .is)) (ap (λ (m : ℕ). ltb m width) p)
+  pub ref-is : k ≡ keyOf 0 (bytes "ref") → (n : Field) → FieldIs s (w + 1) end n → (m : ℕ) → m ≡ position (part (w + 1) (n .to) s) → ltb m width ≡ refBelow width (split 9 (part from end s))
+  unfolding refBelow small tells
+  ref-is e n j m p = rw (fields, same-key (part from w s) k keyed (bytes "ref") refl e, sym (j .is)) (ap (λ (x : ℕ). ltb x width) p)
 
 module _ (t : Line → Bool) (s : Bytes) (from : ℕ) where
   pub refs-done : length s ≤ from → true ≡ all t (linesFrom s from)

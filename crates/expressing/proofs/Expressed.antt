@@ -7,12 +7,14 @@ use mathlib.Core.Logic.{⊎-elim}
 use mathlib.Core.Option.{Option, none, some}
 use native.Mathlib.Omega.{arith}
 use lib.ListN.{length}
-use Rattle.text.specs.Text.{Bytes, Line, same, textOf, split, part, linesFrom}
+use Rattle.text.specs.Text.{Bytes, Line, same, textOf, split, part, linesFrom, First}
 use Rattle.text.proofs.Places.{lines-next, lines-end}
+use Rattle.cursor.specs.bridge.Cursor.{left as fieldsFrom}
+use Rattle.walking.proofs.Laws.{line-split}
 use Rattle.emit.specs.bridge.Emit.{Em, puts}
 use Rattle.emit.proofs.Laws.{puts-append, puts-nil}
-use Rattle.walking.specs.bridge.Code.{LineEnd}
-use Rattle.walking.proofs.Lines.{nothing-here}
+use Rattle.reader.specs.bridge.Lines.{LineEnd}
+use Rattle.reader.proofs.Laws.{nothing-here}
 use Rattle.heads.proofs.Cut.{text-append}
 use Rattle.filtering.specs.bridge.FilterLines.{partsBelow, expressionLines, Walked, inFront, andThen, severalParts, treeToExpression}
 use Rattle.placing.proofs.Repeated.{with-true, and-next}
@@ -105,6 +107,20 @@ module _ (cs : List Bytes) (s : Bytes) (from left end : ℕ) (some-left : left �
   opened : treeToExpression cs left (linesFrom s from) ≡ inFront (expressionLines cs Line-at) Parts
   unfolding treeToExpression
   opened = let j : left ≡ suc (left - 1) = omega arith in ap₂ (treeToExpression cs) j (lines-next s from end (l .ends ends) ends)
+
+  -- by its word and the fields behind it
+  module _ (w : ℕ) (f : First 9 s from end w) where
+    abbrev Said-so : Line
+    Said-so = part from w s ∷ fieldsFrom s (w + 1) end
+
+    here : Said-so ≡ Line-at
+    here = sym (line-split s from end w ends line-low f)
+
+    pub headed : (e x : Em) (b : Bool) → Heads (expressionLines cs Said-so) e x b → Heads (expressionLines cs Line-at) e x b
+    headed e x b h = subst (λ (m : Line). Heads (expressionLines cs m) e x b) here h
+
+    pub parts-here : (k : ℕ) → k ≡ partsBelow Said-so → k ≡ partsBelow Line-at
+    parts-here k e = e ∙ ap partsBelow here
 
   pub walked : (e start after : Em) (ok : Bool) → Heads (expressionLines cs Line-at) e start ok → (r : Said) → r .expressed ≡ (ok && Parts .expressed) → linesFrom s (r .from) ≡ Parts .left → after ≡ puts (textOf (Parts .lines)) start
       → Walks s (treeToExpression cs left (linesFrom s from)) e after r

@@ -10,6 +10,8 @@ use lib.Dec.{eqb}
 use borrow.Author.Tests.{eq-eqb, ne-eqb, not-true, not-false}
 use Rattle.text.specs.Text.{Bytes, same, ended, textOf, split, part, First}
 use Rattle.text.specs.Word.{bytes}
+use Rattle.words.specs.bridge.Key.{keyOf, Keyed}
+use Rattle.words.proofs.ByKey.{small, tells, same-key, is-word, other-key}
 use Rattle.cursor.specs.bridge.Cursor.{left}
 use Rattle.emit.specs.bridge.Emit.{Em, puts}
 use Rattle.emit.proofs.Laws.{puts-append, puts-nil}
@@ -106,82 +108,84 @@ module _ (n : Bytes) (e : Em) where
       unfolding binaryLines textOf
       binary-none t = rw (sym is ∙ no, sym js ∙ t) (record { is = refl; lines = sym (puts-nil e) })
 
--- ---- a whole line
+-- ---- a whole line, by the key of its word
 
-module _ (s : Bytes) (from end w : ℕ) (h : from ≤ end) (i : end < length s) (f : First 9 s from end w) where
-  abbrev Word : Bytes
-  Word = part from w s
-
+module _ (f : Bytes) (k : ℕ) (keyed : Keyed f k) (s : Bytes) (first end : ℕ) where
   abbrev Fields : List Bytes
-  Fields = left s (w + 1) end
+  Fields = left s first end
 
-  fields : split 9 (part from end s) ≡ Word ∷ Fields
-  fields = line-split s from end w i h f
+  word : (w : Bytes) → tells w ≡ true → k ≡ keyOf 0 w → f ≡ w
+  word = is-word f k keyed
 
-  module _ (cs : List Bytes) (e x : Em) (r : Bool) (b : Bool) (is : b ≡ same Word (bytes "leaf")) where
-    pub head-leaf : b ≡ true → Heads (leafLines (getD Fields 0 []) (getD Fields 1 []) (getD Fields 2 [])) e x r → Heads (expressionLines cs (split 9 (part from end s))) e x r
-    unfolding expressionLines
-    head-leaf t g = rw (fields, sym is ∙ t) g
+  module _ (cs : List Bytes) (e x : Em) (r : Bool) where
+    abbrev Head : Type 0
+    Head = Heads (expressionLines cs (f ∷ Fields)) e x r
 
-    module _ (no : b ≡ false) (c : Bool) (js : c ≡ same Word (bytes "ref")) where
-      pub head-ref : c ≡ true → Heads (some ((bytes "term" ∷ getD cs (position (getD Fields 0 [])) [] ∷ []) ∷ [])) e x r → Heads (expressionLines cs (split 9 (part from end s))) e x r
-      unfolding expressionLines
-      head-ref t g = rw (fields, sym is ∙ no, sym js ∙ t) g
+    pub head-leaf : k ≡ keyOf 0 (bytes "leaf") → Heads (leafLines (getD Fields 0 []) (getD Fields 1 []) (getD Fields 2 [])) e x r → Head
+    unfolding expressionLines same small tells
+    head-leaf t g = rw (word (bytes "leaf") refl t) g
 
-      module _ (not-ref : c ≡ false) (n : Field) (j : FieldIs s (w + 1) end n) (d : Bool) (ks : d ≡ same Word (bytes "un")) where
-        pub head-un : d ≡ true → Heads (unaryLines (part (w + 1) (n .to) s)) e x r → Heads (expressionLines cs (split 9 (part from end s))) e x r
-        unfolding expressionLines
-        head-un t g = rw (fields, sym is ∙ no, sym js ∙ not-ref, sym ks ∙ t, sym (j .is)) g
+    pub head-ref : k ≡ keyOf 0 (bytes "ref") → Heads (some ((bytes "term" ∷ getD cs (position (getD Fields 0 [])) [] ∷ []) ∷ [])) e x r → Head
+    unfolding expressionLines same small tells
+    head-ref t g = rw (word (bytes "ref") refl t) g
 
-        module _ (not-un : d ≡ false) (q : Bool) (ls : q ≡ same Word (bytes "bin")) where
-          pub head-bin : q ≡ true → Heads (binaryLines (part (w + 1) (n .to) s)) e x r → Heads (expressionLines cs (split 9 (part from end s))) e x r
-          unfolding expressionLines
-          head-bin t g = rw (fields, sym is ∙ no, sym js ∙ not-ref, sym ks ∙ not-un, sym ls ∙ t, sym (j .is)) g
+    module _ (n : Field) (j : FieldIs s first end n) where
+      pub head-un : k ≡ keyOf 0 (bytes "un") → Heads (unaryLines (part first (n .to) s)) e x r → Head
+      unfolding expressionLines same small tells
+      head-un t g = rw (word (bytes "un") refl t, sym (j .is)) g
 
-  module _ (cs : List Bytes) (e : Em) (b : Bool) (is : b ≡ same Word (bytes "leaf")) (no : b ≡ false) (c : Bool) (js : c ≡ same Word (bytes "ref")) (not-ref : c ≡ false)
-      (d : Bool) (ks : d ≡ same Word (bytes "un")) (not-un : d ≡ false) (q : Bool) (ls : q ≡ same Word (bytes "bin")) where
-    pub head-none : q ≡ false → Heads (expressionLines cs (split 9 (part from end s))) e e false
-    unfolding expressionLines textOf
-    head-none t = rw (fields, sym is ∙ no, sym js ∙ not-ref, sym ks ∙ not-un, sym ls ∙ t) (record { is = refl; lines = sym (puts-nil e) })
+      pub head-bin : k ≡ keyOf 0 (bytes "bin") → Heads (binaryLines (part first (n .to) s)) e x r → Head
+      unfolding expressionLines same small tells
+      head-bin t g = rw (word (bytes "bin") refl t, sym (j .is)) g
+
+  pub head-none : (cs : List Bytes) (e : Em) → (k ≡ keyOf 0 (bytes "leaf") → ⊥) → (k ≡ keyOf 0 (bytes "ref") → ⊥) → (k ≡ keyOf 0 (bytes "un") → ⊥) → (k ≡ keyOf 0 (bytes "bin") → ⊥) → Heads (expressionLines cs (f ∷ Fields)) e e false
+  unfolding expressionLines textOf small tells
+  head-none cs e a b c d =
+      rw (other-key f k keyed (bytes "leaf") refl a, other-key f k keyed (bytes "ref") refl b, other-key f k keyed (bytes "un") refl c, other-key f k keyed (bytes "bin") refl d)
+      (record { is = refl; lines = sym (puts-nil e) })
 
   -- ---- how many parts
 
-  module _ (b : Bool) (is : b ≡ same Word (bytes "un")) where
-    pub parts-un : b ≡ true → 1 ≡ partsBelow (split 9 (part from end s))
-    unfolding partsBelow
-    parts-un t = rw (fields, sym is ∙ t)
+  pub parts-un : k ≡ keyOf 0 (bytes "un") → 1 ≡ partsBelow (f ∷ Fields)
+  unfolding partsBelow same small tells
+  parts-un t = rw (word (bytes "un") refl t)
 
-    module _ (not-un : b ≡ false) (c : Bool) (js : c ≡ same Word (bytes "bin")) where
-      pub parts-bin : c ≡ true → 2 ≡ partsBelow (split 9 (part from end s))
-      unfolding partsBelow
-      parts-bin t = rw (fields, sym is ∙ not-un, sym js ∙ t)
+  pub parts-bin : k ≡ keyOf 0 (bytes "bin") → 2 ≡ partsBelow (f ∷ Fields)
+  unfolding partsBelow same small tells
+  parts-bin t = rw (word (bytes "bin") refl t)
 
-      module _ (not-bin : c ≡ false) (d : Bool) (ks : d ≡ same Word (bytes "tern")) where
-        pub parts-tern : d ≡ true → 3 ≡ partsBelow (split 9 (part from end s))
-        unfolding partsBelow
-        parts-tern t = rw (fields, sym is ∙ not-un, sym js ∙ not-bin, sym ks ∙ t)
+  pub parts-tern : k ≡ keyOf 0 (bytes "tern") → 3 ≡ partsBelow (f ∷ Fields)
+  unfolding partsBelow same small tells
+  parts-tern t = rw (word (bytes "tern") refl t)
 
-        module _ (not-tern : d ≡ false) (q : Bool) (ls : q ≡ same Word (bytes "nary")) where
-          pub parts-nary : q ≡ true → (k : ℕ) → k ≡ numberIn (getD Fields 1 []) → k ≡ partsBelow (split 9 (part from end s))
-          unfolding partsBelow
-          parts-nary t k p = rw (fields, sym is ∙ not-un, sym js ∙ not-bin, sym ks ∙ not-tern, sym ls ∙ t) p
+  pub parts-nary : k ≡ keyOf 0 (bytes "nary") → (m : ℕ) → m ≡ numberIn (getD Fields 1 []) → m ≡ partsBelow (f ∷ Fields)
+  unfolding partsBelow same small tells
+  parts-nary t m p = rw (word (bytes "nary") refl t) p
 
-          pub parts-none : q ≡ false → 0 ≡ partsBelow (split 9 (part from end s))
-          unfolding partsBelow
-          parts-none t = rw (fields, sym is ∙ not-un, sym js ∙ not-bin, sym ks ∙ not-tern, sym ls ∙ t)
+  pub parts-none : (k ≡ keyOf 0 (bytes "un") → ⊥) → (k ≡ keyOf 0 (bytes "bin") → ⊥) → (k ≡ keyOf 0 (bytes "tern") → ⊥) → (k ≡ keyOf 0 (bytes "nary") → ⊥) → 0 ≡ partsBelow (f ∷ Fields)
+  unfolding partsBelow small tells
+  parts-none a b c d =
+      rw (other-key f k keyed (bytes "un") refl a, other-key f k keyed (bytes "bin") refl b, other-key f k keyed (bytes "tern") refl c, other-key f k keyed (bytes "nary") refl d)
 
-  -- ---- always true
+-- ---- always true
 
-  module _ (b : Bool) (is : b ≡ same Word (bytes "leaf")) where
-    pub true-other : not b ≡ true → false ≡ isTrueLine (split 9 (part from end s))
+module _ (s : Bytes) (from end w : ℕ) (h : from ≤ end) (i : end < length s) (f : First 9 s from end w) (k : ℕ) (keyed : Keyed (part from w s) k) where
+  fields : split 9 (part from end s) ≡ part from w s ∷ left s (w + 1) end
+  fields = line-split s from end w i h f
+
+  pub true-other : (k ≡ keyOf 0 (bytes "leaf") → ⊥) → false ≡ isTrueLine (split 9 (part from end s))
+  unfolding isTrueLine small tells
+  true-other n = rw (fields, other-key (part from w s) k keyed (bytes "leaf") refl n)
+
+  module _ (e : k ≡ keyOf 0 (bytes "leaf")) (d : Field) (j : FieldIs s (w + 1) end d) (c : Bool) (js : c ≡ same (part (w + 1) (d .to) s) (bytes "Boolean")) where
+    leaf : same (part from w s) (bytes "leaf") ≡ true
+    unfolding small tells
+    leaf = same-key (part from w s) k keyed (bytes "leaf") refl e
+
+    pub true-domain : not c ≡ true → false ≡ isTrueLine (split 9 (part from end s))
     unfolding isTrueLine
-    true-other t = rw (fields, sym is ∙ not-true b t)
+    true-domain t = rw (fields, leaf, sym (j .is), sym js ∙ not-true c t)
 
-    module _ (yes : not b ≡ false) (d : Field) (j : FieldIs s (w + 1) end d) (c : Bool) (js : c ≡ same (part (w + 1) (d .to) s) (bytes "Boolean")) where
-      pub true-domain : not c ≡ true → false ≡ isTrueLine (split 9 (part from end s))
-      unfolding isTrueLine
-      true-domain t = rw (fields, sym is ∙ not-false b yes, sym (j .is), sym js ∙ not-true c t)
-
-      pub true-lexical : not c ≡ false → (l : Field) → FieldIs s (d .next) end l → (r : Bool) → r ≡ same (part (d .next) (l .to) s) (bytes "true") → r ≡ isTrueLine (split 9 (part from end s))
-      unfolding isTrueLine
-      true-lexical t l k r p = rw (fields, sym is ∙ not-false b yes, sym (j .is), sym js ∙ not-false c t) (p ∙ ap (λ (g : Bytes). same g (bytes "true")) (second-field s (w + 1) end d l j k))
+    pub true-lexical : not c ≡ false → (l : Field) → FieldIs s (d .next) end l → (r : Bool) → r ≡ same (part (d .next) (l .to) s) (bytes "true") → r ≡ isTrueLine (split 9 (part from end s))
+    unfolding isTrueLine
+    true-lexical t l m r p = rw (fields, leaf, sym (j .is), sym js ∙ not-false c t) (p ∙ ap (λ (g : Bytes). same g (bytes "true")) (second-field s (w + 1) end d l j m))

@@ -1,13 +1,14 @@
 // From a filter to an expression: a filter calls itself on its parts, the lines left falling.
 use crate::head::parts_below;
 use crate::head::put_head;
+use names::Entry;
 use placing::steps::both;
-use text::find;
-use walking::line::line_end;
+use reader::line_end;
+use words::word_at;
 ghost use Prim.Native.Nat.{_≤_};
 ghost use Rattle.text.specs.Text.{linesFrom};
 ghost use Rattle.emit.specs.bridge.Emit.{em};
-ghost use Rattle.names.specs.bridge.Names.{listing};
+ghost use Rattle.placing.specs.bridge.Fields.{columnsIn};
 ghost use Rattle.filtering.specs.bridge.FilterLines.{treeToExpression};
 ghost use Rattle.expressing.specs.bridge.Walks.{Walks};
 
@@ -21,8 +22,7 @@ pub struct Walked {
 // try_expression_from_tree: the filter that starts here, of which at most so many lines are left.
 pub fn tree_to_expression(
     tree: &[u8],
-    starts: &[u16; 64],
-    sizes: &[u16; 64],
+    columns: &[Entry; 64],
     n: usize,
     filters: &[u8],
     from: usize,
@@ -31,7 +31,7 @@ pub fn tree_to_expression(
     at: usize,
 ) -> Walked
     requires { ⌜ n ≤ 64 ⌝ }
-    ensures { λ r. ⌜ Walks (now (filters .entry)) (treeToExpression (listing (now (tree .entry)) (now (starts .entry)) (now (sizes .entry)) n) left (linesFrom (now (filters .entry)) from)) (em at (now (out .entry))) (em (r .at) (now (out .exit))) r ⌝ }
+    ensures { λ r. ⌜ Walks (now (filters .entry)) (treeToExpression (columnsIn (now (tree .entry)) (now (columns .entry)) n) left (linesFrom (now (filters .entry)) from)) (em at (now (out .entry))) (em (r .at) (now (out .exit))) r ⌝ }
 {
     if left == 0 {
         return Walked {
@@ -48,14 +48,15 @@ pub fn tree_to_expression(
             at,
         };
     }
-    let word = find(filters, from, end, 9);
-    let head = put_head(tree, starts, sizes, n, filters, from, word, end, out, at);
+    let w = word_at(filters, from, end);
+    let first = w.end + 1;
+    let head = put_head(tree, columns, n, filters, w.key, first, end, out, at);
     let mut expressed = head.expressed;
     let mut to = head.at;
     let mut next = end + 1;
-    let mut parts = parts_below(filters, from, word, end);
+    let mut parts = parts_below(filters, w.key, first, end);
     while 0 < parts {
-        let part = tree_to_expression(tree, starts, sizes, n, filters, next, left - 1, out, to);
+        let part = tree_to_expression(tree, columns, n, filters, next, left - 1, out, to);
         expressed = both(expressed, part.expressed);
         to = part.at;
         next = part.from;

@@ -13,11 +13,11 @@ use placing::ends::inner_end;
 use placing::field::field_at;
 use placing::field::position_of;
 use placing::steps::put_repeated;
+use reader::line_end;
 use reading::check_filters;
 use reading::check_tree;
-use text::equal;
-use text::find;
-use walking::line::line_end;
+use words::keys;
+use words::word_at;
 ghost use mathlib.Core.Path.{_≡_};
 ghost use mathlib.Core.Bool.{true};
 ghost use Prim.Native.Nat.{_+_, _*_, _≤_, _<_, min};
@@ -28,7 +28,7 @@ ghost use Rattle.algebra.specs.Tree.{Pattern};
 ghost use Rattle.algebra.specs.Query.{Filter};
 ghost use Rattle.algebra.specs.Reader.{reads};
 ghost use Rattle.algebra.specs.Texts.{readTree, readFilters};
-ghost use Rattle.names.specs.bridge.Names.{listing};
+ghost use Rattle.placing.specs.bridge.Fields.{columnsIn};
 ghost use Rattle.emit.specs.bridge.Emit.{em, last, puts};
 ghost use Rattle.answers.specs.Outcome.{Answered};
 ghost use Rattle.scoping.specs.Sets.{all};
@@ -36,8 +36,6 @@ ghost use Rattle.filtering.specs.bridge.FilterLines.{placedFilters};
 ghost use Rattle.filtering.specs.Filters.{filtersOutcome};
 ghost use Rattle.expressing.specs.bridge.Filtered.{refBelow, filteredAt};
 ghost use Rattle.expressing.specs.bridge.Walks.{allPlaced};
-
-const REF: [u8; 3] = *b"ref";
 
 const FILTER: [u8; 7] = *b"filter\n";
 
@@ -48,11 +46,11 @@ fn is_inside(filters: &[u8], from: usize, end: usize, width: usize) -> bool
     requires { ⌜ (from ≤ end) × (end < length (now filters)) ⌝ }
     ensures { λ r. ⌜ r ≡ refBelow width (split 9 (part from end (now (filters .entry)))) ⌝ }
 {
-    let word = find(filters, from, end, 9);
-    if !equal(&filters[from..word], &REF) {
+    let w = word_at(filters, from, end);
+    if w.key != keys::REF {
         return true;
     }
-    let first = word + 1;
+    let first = w.end + 1;
     let field = field_at(filters, first, end);
     let to = field.to;
     position_of(&filters[first..to]) < width
@@ -81,22 +79,21 @@ fn put_filtered(
     tree: &[u8],
     inner: usize,
     end: usize,
-    starts: &[u16; 64],
-    sizes: &[u16; 64],
+    columns: &[Entry; 64],
     n: usize,
     filters: &[u8],
     ands: usize,
     all: bool,
     out: &mut [u8],
 ) -> usize
-    requires { ⌜ (inner ≤ end) × (end ≤ length (now tree)) × (n ≤ 64) × (all ≡ true → allPlaced (listing (now tree) (now starts) (now sizes) n) (length (now filters)) (linesFrom (now filters) 0) ≡ true) ⌝ }
-    ensures { λ r. ⌜ em r (now (out .exit)) ≡ puts (filteredAt (now (tree .entry)) inner end ands (placedFilters (listing (now (tree .entry)) (now (starts .entry)) (now (sizes .entry)) n) (length (now (filters .entry))) (linesFrom (now (filters .entry)) 0) .lines)) (em 0 (now (out .entry))) ⌝ }
+    requires { ⌜ (inner ≤ end) × (end ≤ length (now tree)) × (n ≤ 64) × (all ≡ true → allPlaced (columnsIn (now tree) (now columns) n) (length (now filters)) (linesFrom (now filters) 0) ≡ true) ⌝ }
+    ensures { λ r. ⌜ em r (now (out .exit)) ≡ puts (filteredAt (now (tree .entry)) inner end ands (placedFilters (columnsIn (now (tree .entry)) (now (columns .entry)) n) (length (now (filters .entry))) (linesFrom (now (filters .entry)) 0) .lines)) (em 0 (now (out .entry))) ⌝ }
 {
     let a = put_all(out, 0, &tree[..inner]);
     let b = put_all(out, a, &FILTER);
     let c = put_all(out, b, &tree[inner..end]);
     let d = put_repeated(&AND, ands, out, c);
-    let e = put_expressions(all, tree, starts, sizes, n, filters, out, d);
+    let e = put_expressions(all, tree, columns, n, filters, out, d);
     put_all(out, e, &tree[end..])
 }
 
@@ -120,13 +117,12 @@ fn filters_of(tree: &[u8], filters: &[u8], out: &mut [u8]) -> Answer
     let Outermost::At(line, inner) = outermost_projection(tree, 0) else {
         return copy(tree, out);
     };
-    let mut starts = [0u16; 64];
-    let mut sizes = [0u16; 64];
-    let n = read_columns(tree, line, &mut starts, &mut sizes);
+    let mut columns = [[0u16; 2]; 64];
+    let n = read_columns(tree, line, &mut columns);
     if !are_inside(filters, n) {
         return Answer::Outside;
     }
-    let placed = measure_filters(tree, &starts, &sizes, n, filters);
+    let placed = measure_filters(tree, &columns, n, filters);
     if placed.many == 0 {
         return copy(tree, out);
     }
@@ -140,8 +136,7 @@ fn filters_of(tree: &[u8], filters: &[u8], out: &mut [u8]) -> Answer
         tree,
         inner,
         end,
-        &starts,
-        &sizes,
+        &columns,
         n,
         filters,
         ands,

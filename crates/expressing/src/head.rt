@@ -1,40 +1,31 @@
 // One line of a filter: the lines that it becomes, and how many parts stand below it.
 use emit::put;
 use emit::put_all;
+use names::Entry;
 use placing::columns::column_at;
 use placing::field::field_at;
 use placing::field::position_of;
 use placing::term::form_of;
 use placing::term::put_term;
 use text::equal;
-use text::find;
 use walking::line::count_at;
+use words::keys;
+use words::word_at;
 ghost use mathlib.Core.Path.{_≡_};
 ghost use Prim.Native.Nat.{_+_, _≤_, _<_};
 ghost use mathlib.Core.List.{[], _∷_};
 ghost use mathlib.Core.Option.{some};
 ghost use lib.ListN.{length, getD, drop};
-ghost use Rattle.text.specs.Text.{part, split, First};
+ghost use Rattle.text.specs.Text.{Bytes, part, split};
 ghost use Rattle.text.specs.Word.{bytes};
 ghost use Rattle.cursor.specs.bridge.Cursor.{left};
+ghost use Rattle.words.specs.bridge.Key.{Keyed};
 ghost use Rattle.emit.specs.bridge.Emit.{em};
-ghost use Rattle.names.specs.bridge.Names.{listing};
+ghost use Rattle.placing.specs.bridge.Fields.{columnsIn};
 ghost use Rattle.merging.specs.Request.{position};
 ghost use Rattle.filtering.specs.bridge.Terms.{isExpressed};
 ghost use Rattle.filtering.specs.bridge.FilterLines.{isTrueLine, partsBelow, leafLines, unaryLines, binaryLines, expressionLines};
 ghost use Rattle.expressing.specs.bridge.Heads.{Heads};
-
-const LEAF: [u8; 4] = *b"leaf";
-
-const REF: [u8; 3] = *b"ref";
-
-const UN: [u8; 2] = *b"un";
-
-const BIN: [u8; 3] = *b"bin";
-
-const TERN: [u8; 4] = *b"tern";
-
-const NARY: [u8; 4] = *b"nary";
 
 const TERM: [u8; 5] = *b"term\t";
 
@@ -109,8 +100,7 @@ fn put_leaf(filters: &[u8], from: usize, end: usize, out: &mut [u8], at: usize) 
 // A reference: the column at its position.
 fn put_ref(
     tree: &[u8],
-    starts: &[u16; 64],
-    sizes: &[u16; 64],
+    columns: &[Entry; 64],
     n: usize,
     filters: &[u8],
     from: usize,
@@ -119,7 +109,7 @@ fn put_ref(
     at: usize,
 ) -> Head
     requires { ⌜ (n ≤ 64) × (end < length (now filters)) × (from ≤ end + 1) ⌝ }
-    ensures { λ r. ⌜ Heads (some ((bytes "term" ∷ getD (listing (now (tree .entry)) (now (starts .entry)) (now (sizes .entry)) n) (position (getD (left (now (filters .entry)) from end) 0 [])) [] ∷ []) ∷ [])) (em at (now (out .entry))) (em (r .at) (now (out .exit))) (r .expressed) ⌝ }
+    ensures { λ r. ⌜ Heads (some ((bytes "term" ∷ getD (columnsIn (now (tree .entry)) (now (columns .entry)) n) (position (getD (left (now (filters .entry)) from end) 0 [])) [] ∷ []) ∷ [])) (em at (now (out .entry))) (em (r .at) (now (out .exit))) (r .expressed) ⌝ }
 {
     let field = field_at(filters, from, end);
     let to = field.to;
@@ -127,7 +117,7 @@ fn put_ref(
     let b = put_all(
         out,
         a,
-        column_at(tree, starts, sizes, n, position_of(&filters[from..to])),
+        column_at(tree, columns, n, position_of(&filters[from..to])),
     );
     let c = put(out, b, 10);
     Head {
@@ -184,63 +174,57 @@ fn put_binary(name: &[u8], out: &mut [u8], at: usize) -> Head
     }
 }
 
-// The lines that the line from here to its end becomes, whose word ends at `word`; its parts' follow.
+// The lines that a line becomes whose word has this key and whose other fields stand from `first` to its end; its parts' follow.
 pub fn put_head(
     tree: &[u8],
-    starts: &[u16; 64],
-    sizes: &[u16; 64],
+    columns: &[Entry; 64],
     n: usize,
     filters: &[u8],
-    from: usize,
-    word: usize,
+    key: u64,
+    first: usize,
     end: usize,
     out: &mut [u8],
     at: usize,
 ) -> Head
-    requires { ⌜ (n ≤ 64) × (from ≤ end) × (end < length (now filters)) × First 9 (now filters) from end word ⌝ }
-    ensures { λ r. ⌜ Heads (expressionLines (listing (now (tree .entry)) (now (starts .entry)) (now (sizes .entry)) n) (split 9 (part from end (now (filters .entry))))) (em at (now (out .entry))) (em (r .at) (now (out .exit))) (r .expressed) ⌝ }
+    requires { ⌜ (n ≤ 64) × (end < length (now filters)) × (first ≤ end + 1) ⌝ }
+    ensures { λ r. ⌜ ((f : Bytes) → Keyed f key → Heads (expressionLines (columnsIn (now (tree .entry)) (now (columns .entry)) n) (f ∷ left (now (filters .entry)) first end)) (em at (now (out .entry))) (em (r .at) (now (out .exit))) (r .expressed)) ⌝ }
 {
-    let first = word + 1;
-    if equal(&filters[from..word], &LEAF) {
-        return put_leaf(filters, first, end, out, at);
-    }
-    if equal(&filters[from..word], &REF) {
-        return put_ref(tree, starts, sizes, n, filters, first, end, out, at);
-    }
-    let name = field_at(filters, first, end);
-    let to = name.to;
-    if equal(&filters[from..word], &UN) {
-        return put_unary(&filters[first..to], out, at);
-    }
-    if equal(&filters[from..word], &BIN) {
-        return put_binary(&filters[first..to], out, at);
-    }
-    Head {
-        expressed: false,
-        at,
+    match key {
+        keys::LEAF => put_leaf(filters, first, end, out, at),
+        keys::REF => put_ref(tree, columns, n, filters, first, end, out, at),
+        keys::UN => {
+            let name = field_at(filters, first, end);
+            let to = name.to;
+            put_unary(&filters[first..to], out, at)
+        }
+        keys::BIN => {
+            let name = field_at(filters, first, end);
+            let to = name.to;
+            put_binary(&filters[first..to], out, at)
+        }
+        _ => Head {
+            expressed: false,
+            at,
+        },
     }
 }
 
-// How many parts stand below the line from here to its end.
-pub fn parts_below(filters: &[u8], from: usize, word: usize, end: usize) -> usize
-    requires { ⌜ (from ≤ end) × (end < length (now filters)) × First 9 (now filters) from end word ⌝ }
-    ensures { λ r. ⌜ r ≡ partsBelow (split 9 (part from end (now (filters .entry)))) ⌝ }
+// How many parts stand below such a line.
+pub fn parts_below(filters: &[u8], key: u64, first: usize, end: usize) -> usize
+    requires { ⌜ end < length (now filters) ⌝ }
+    ensures { λ r. ⌜ ((f : Bytes) → Keyed f key → r ≡ partsBelow (f ∷ left (now (filters .entry)) first end)) ⌝ }
 {
-    if equal(&filters[from..word], &UN) {
-        return 1;
+    match key {
+        keys::UN => 1,
+        keys::BIN => 2,
+        keys::TERN => 3,
+        keys::NARY => {
+            let name = count_at(filters, first, end);
+            let count = count_at(filters, name.next, end);
+            count.number
+        }
+        _ => 0,
     }
-    if equal(&filters[from..word], &BIN) {
-        return 2;
-    }
-    if equal(&filters[from..word], &TERN) {
-        return 3;
-    }
-    if equal(&filters[from..word], &NARY) {
-        let name = count_at(filters, word + 1, end);
-        let count = count_at(filters, name.next, end);
-        return count.number;
-    }
-    0
 }
 
 // is_constant_true, of the filter whose first line goes from here to its end.
@@ -248,11 +232,11 @@ pub fn is_constant_true(filters: &[u8], from: usize, end: usize) -> bool
     requires { ⌜ (from ≤ end) × (end < length (now filters)) ⌝ }
     ensures { λ r. ⌜ r ≡ isTrueLine (split 9 (part from end (now (filters .entry)))) ⌝ }
 {
-    let word = find(filters, from, end, 9);
-    if !equal(&filters[from..word], &LEAF) {
+    let w = word_at(filters, from, end);
+    if w.key != keys::LEAF {
         return false;
     }
-    let first = word + 1;
+    let first = w.end + 1;
     let domain = field_at(filters, first, end);
     let a = domain.to;
     let b = domain.next;

@@ -2,8 +2,9 @@
 use crate::express::Walked;
 use crate::express::tree_to_expression;
 use crate::head::is_constant_true;
+use names::Entry;
 use placing::steps::both;
-use walking::line::line_end;
+use reader::line_end;
 ghost use mathlib.Core.Path.{_≡_};
 ghost use Prim.Native.Nat.{_+_, _≤_, _<_};
 ghost use mathlib.Core.Bool.{cond, true};
@@ -11,15 +12,14 @@ ghost use mathlib.Core.List.{[]};
 ghost use lib.ListN.{length};
 ghost use Rattle.text.specs.Text.{textOf, linesFrom};
 ghost use Rattle.emit.specs.bridge.Emit.{em, puts};
-ghost use Rattle.names.specs.bridge.Names.{listing};
+ghost use Rattle.placing.specs.bridge.Fields.{columnsIn};
 ghost use Rattle.filtering.specs.bridge.FilterLines.{treeToExpression, placedFilters};
 ghost use Rattle.expressing.specs.bridge.Walks.{Walks, Places, allPlaced, Measures};
 
 // A filter, and nothing written.
 fn try_filter(
     tree: &[u8],
-    starts: &[u16; 64],
-    sizes: &[u16; 64],
+    columns: &[Entry; 64],
     n: usize,
     filters: &[u8],
     from: usize,
@@ -27,18 +27,17 @@ fn try_filter(
     at: usize,
 ) -> Walked
     requires { ⌜ n ≤ 64 ⌝ }
-    ensures { λ r. ⌜ Walks (now (filters .entry)) (treeToExpression (listing (now (tree .entry)) (now (starts .entry)) (now (sizes .entry)) n) left (linesFrom (now (filters .entry)) from)) (em at []) (em (r .at) []) r ⌝ }
+    ensures { λ r. ⌜ Walks (now (filters .entry)) (treeToExpression (columnsIn (now (tree .entry)) (now (columns .entry)) n) left (linesFrom (now (filters .entry)) from)) (em at []) (em (r .at) []) r ⌝ }
 {
     let mut none = [0u8; 0];
-    tree_to_expression(tree, starts, sizes, n, filters, from, left, &mut none, at)
+    tree_to_expression(tree, columns, n, filters, from, left, &mut none, at)
 }
 
 // The expression of a filter that is placed.
 fn put_placed(
     placed: bool,
     tree: &[u8],
-    starts: &[u16; 64],
-    sizes: &[u16; 64],
+    columns: &[Entry; 64],
     n: usize,
     filters: &[u8],
     from: usize,
@@ -47,12 +46,12 @@ fn put_placed(
     at: usize,
 ) -> usize
     requires { ⌜ n ≤ 64 ⌝ }
-    ensures { λ r. ⌜ em r (now (out .exit)) ≡ cond placed (puts (textOf (treeToExpression (listing (now (tree .entry)) (now (starts .entry)) (now (sizes .entry)) n) left (linesFrom (now (filters .entry)) from) .lines)) (em at (now (out .entry)))) (em at (now (out .entry))) ⌝ }
+    ensures { λ r. ⌜ em r (now (out .exit)) ≡ cond placed (puts (textOf (treeToExpression (columnsIn (now (tree .entry)) (now (columns .entry)) n) left (linesFrom (now (filters .entry)) from) .lines)) (em at (now (out .entry)))) (em at (now (out .entry))) ⌝ }
 {
     if !placed {
         return at;
     }
-    let w = tree_to_expression(tree, starts, sizes, n, filters, from, left, out, at);
+    let w = tree_to_expression(tree, columns, n, filters, from, left, out, at);
     w.at
 }
 
@@ -74,15 +73,14 @@ pub struct Placed {
 // All filters, one after the other.
 fn put_filters(
     tree: &[u8],
-    starts: &[u16; 64],
-    sizes: &[u16; 64],
+    columns: &[Entry; 64],
     n: usize,
     filters: &[u8],
     out: &mut [u8],
     at: usize,
 ) -> Placed
     requires { ⌜ n ≤ 64 ⌝ }
-    ensures { λ r. ⌜ Places (placedFilters (listing (now (tree .entry)) (now (starts .entry)) (now (sizes .entry)) n) (length (now (filters .entry))) (linesFrom (now (filters .entry)) 0)) (em at (now (out .entry))) (em (r .at) (now (out .exit))) r ⌝ }
+    ensures { λ r. ⌜ Places (placedFilters (columnsIn (now (tree .entry)) (now (columns .entry)) n) (length (now (filters .entry))) (linesFrom (now (filters .entry)) 0)) (em at (now (out .entry))) (em (r .at) (now (out .exit))) r ⌝ }
 {
     let mut many = 0;
     let mut to = at;
@@ -93,9 +91,9 @@ fn put_filters(
         if end == filters.len() {
             return Placed { many, at: to };
         }
-        let tried = try_filter(tree, starts, sizes, n, filters, from, left, 0);
+        let tried = try_filter(tree, columns, n, filters, from, left, 0);
         let placed = both(!is_constant_true(filters, from, end), tried.expressed);
-        to = put_placed(placed, tree, starts, sizes, n, filters, from, left, out, to);
+        to = put_placed(placed, tree, columns, n, filters, from, left, out, to);
         many = one_more(many, placed);
         from = tried.from;
         left -= 1;
@@ -122,13 +120,12 @@ fn placed_end(placed: bool, end: usize, at: usize) -> usize
 // All filters, and nothing written.
 pub fn measure_filters(
     tree: &[u8],
-    starts: &[u16; 64],
-    sizes: &[u16; 64],
+    columns: &[Entry; 64],
     n: usize,
     filters: &[u8],
 ) -> Measured
     requires { ⌜ n ≤ 64 ⌝ }
-    ensures { λ r. ⌜ Measures (listing (now (tree .entry)) (now (starts .entry)) (now (sizes .entry)) n) (now (filters .entry)) r ⌝ }
+    ensures { λ r. ⌜ Measures (columnsIn (now (tree .entry)) (now (columns .entry)) n) (now (filters .entry)) r ⌝ }
 {
     let mut many = 0;
     let mut size = 0;
@@ -147,7 +144,7 @@ pub fn measure_filters(
                 all: false,
             };
         }
-        let tried = try_filter(tree, starts, sizes, n, filters, from, left, size);
+        let tried = try_filter(tree, columns, n, filters, from, left, size);
         let placed = both(!is_constant_true(filters, from, end), tried.expressed);
         size = placed_end(placed, tried.at, size);
         many = one_more(many, placed);
@@ -161,15 +158,14 @@ pub fn measure_filters(
 // The expressions of all filters, each of which is placed.
 fn put_every(
     tree: &[u8],
-    starts: &[u16; 64],
-    sizes: &[u16; 64],
+    columns: &[Entry; 64],
     n: usize,
     filters: &[u8],
     out: &mut [u8],
     at: usize,
 ) -> usize
-    requires { ⌜ (n ≤ 64) × (allPlaced (listing (now tree) (now starts) (now sizes) n) (length (now filters)) (linesFrom (now filters) 0) ≡ true) ⌝ }
-    ensures { λ r. ⌜ em r (now (out .exit)) ≡ puts (textOf (placedFilters (listing (now (tree .entry)) (now (starts .entry)) (now (sizes .entry)) n) (length (now (filters .entry))) (linesFrom (now (filters .entry)) 0) .lines)) (em at (now (out .entry))) ⌝ }
+    requires { ⌜ (n ≤ 64) × (allPlaced (columnsIn (now tree) (now columns) n) (length (now filters)) (linesFrom (now filters) 0) ≡ true) ⌝ }
+    ensures { λ r. ⌜ em r (now (out .exit)) ≡ puts (textOf (placedFilters (columnsIn (now (tree .entry)) (now (columns .entry)) n) (length (now (filters .entry))) (linesFrom (now (filters .entry)) 0) .lines)) (em at (now (out .entry))) ⌝ }
 {
     let mut to = at;
     let mut from = 0;
@@ -178,7 +174,7 @@ fn put_every(
         if filters.len() <= from {
             return to;
         }
-        let walked = tree_to_expression(tree, starts, sizes, n, filters, from, left, out, to);
+        let walked = tree_to_expression(tree, columns, n, filters, from, left, out, to);
         to = walked.at;
         from = walked.from;
         left -= 1;
@@ -190,19 +186,18 @@ fn put_every(
 pub fn put_expressions(
     all: bool,
     tree: &[u8],
-    starts: &[u16; 64],
-    sizes: &[u16; 64],
+    columns: &[Entry; 64],
     n: usize,
     filters: &[u8],
     out: &mut [u8],
     at: usize,
 ) -> usize
-    requires { ⌜ (n ≤ 64) × (all ≡ true → allPlaced (listing (now tree) (now starts) (now sizes) n) (length (now filters)) (linesFrom (now filters) 0) ≡ true) ⌝ }
-    ensures { λ r. ⌜ em r (now (out .exit)) ≡ puts (textOf (placedFilters (listing (now (tree .entry)) (now (starts .entry)) (now (sizes .entry)) n) (length (now (filters .entry))) (linesFrom (now (filters .entry)) 0) .lines)) (em at (now (out .entry))) ⌝ }
+    requires { ⌜ (n ≤ 64) × (all ≡ true → allPlaced (columnsIn (now tree) (now columns) n) (length (now filters)) (linesFrom (now filters) 0) ≡ true) ⌝ }
+    ensures { λ r. ⌜ em r (now (out .exit)) ≡ puts (textOf (placedFilters (columnsIn (now (tree .entry)) (now (columns .entry)) n) (length (now (filters .entry))) (linesFrom (now (filters .entry)) 0) .lines)) (em at (now (out .entry))) ⌝ }
 {
     if all {
-        return put_every(tree, starts, sizes, n, filters, out, at);
+        return put_every(tree, columns, n, filters, out, at);
     }
-    let placed = put_filters(tree, starts, sizes, n, filters, out, at);
+    let placed = put_filters(tree, columns, n, filters, out, at);
     placed.at
 }

@@ -22,8 +22,8 @@ use Rattle.cursor.specs.bridge.Cursor.{left}
 use Rattle.cursor.proofs.Laws.{left-none}
 use Rattle.counting.proofs.Basics.{both-ways}
 use Rattle.merging.specs.Merge.{isSelectOrAsk, mergeable}
-use Rattle.walking.specs.bridge.Code.{LineEnd}
-use Rattle.walking.proofs.Lines.{nothing-here}
+use Rattle.reader.specs.bridge.Lines.{LineEnd}
+use Rattle.reader.proofs.Laws.{nothing-here}
 use Rattle.walking.proofs.Laws.{line-split, next-field}
 use Rattle.heads.specs.bridge.TreeAt.{headLine, TreeAt}
 use Rattle.heads.proofs.Cut.{text-from, text-before}

@@ -1,10 +1,10 @@
 // A query's head line: where the tree behind it starts, its kind, and whether two heads are one; and a text copied as it is.
 use answers::Answer;
+use cursor::field_end;
 use emit::put_all;
 use text::equal;
-use text::find;
 use text::piece;
-use walking::line::line_end;
+use reader::line_end;
 ghost use mathlib.Core.Path.{_≡_};
 ghost use Prim.Native.Nat.{_≤_};
 ghost use lib.ListN.{length};
@@ -35,12 +35,12 @@ pub fn is_select_or_ask(query: &[u8]) -> bool
     ensures { λ r. ⌜ ((q : Query) → readQuery (now (query .entry)) ≡ reads q → r ≡ isSelectOrAsk (q .kind)) ⌝ }
 {
     let end = line_end(query, 0);
-    let word = find(query, 0, end, 9);
+    let word = field_end(query, 0, end);
     if word == end {
         return false;
     }
     let from = word + 1;
-    let to = find(query, from, end, 9);
+    let to = field_end(query, from, end);
     if equal(&query[from..to], &SELECT) {
         return true;
     }

@@ -28,7 +28,7 @@ term-adds s c e d line here A B m κ ss f =
     let h = here .first .high in
     let a = here .at in
     adds-front s A (c .at) B (c .at + (e - c .at) + 1) (d .at) (oneSpot m (c .at) (piece (c .at) (e - c .at) s)) _ _ (omega arith)
-    (found-term s c d line (in-line s c e d line here) (here .end, here .height) (omega arith) (omega arith) m κ ss (field s c e d line here) (left-is s c e d line here)) f
+    (found-term s c d line (in-line s c e d line here) (here .end, here .awaited) (omega arith) (omega arith) m κ ss (field s c e d line here) (left-is s c e d line here)) f
 
 -- a field that is no term
 module _ (s : Bytes) (c d : Cursor) (A : Store) (m : Mark) (ss : List Slot) (line : InLine s c) where

@@ -58,7 +58,7 @@ module _ (s a b h : List ℕ) (ρ : More) (ws : List Want) (sort level width : �
     pub line-open : (us : List Want) (r : Place) → p .from < length s → end ≡ length s → r .fault ≡ 1 → Went s a b h ρ us (run bounds (linesFrom s (p .from)) ρ (this ∷ ws) m) r
     line-open us r low e f = went-wrong s ρ a b h us _ r f (ap (λ (ls : List Line). run bounds ls ρ (this ∷ ws) m) (lines-open s (p .from) end low first e) ∙ run-open ρ (this ∷ ws) m)
 
-    module _ (ended : end < length s) (l : Read) (is : LineIs s a b h (record { at = p .from; end = end; height = 0 }) sort level width m l) where
+    module _ (ended : end < length s) (l : Read) (is : LineIs s a b h (record { at = p .from; end = end; awaited = 0 }) sort level width m l) where
       here : run bounds (linesFrom s (p .from)) ρ (this ∷ ws) m ≡ run bounds (split 9 (part (p .from) end s) ∷ linesFrom s (end + 1)) ρ (this ∷ ws) m
       here = ap (λ (ls : List Line). run bounds ls ρ (this ∷ ws) m) (lines-next s (p .from) end first ended)
 
@@ -70,17 +70,17 @@ module _ (s a b h : List ℕ) (ρ : More) (ws : List Want) (sort level width : �
 
       pub line-wrong : (us : List Want) (r : Place) → l ≡ Malformed → r .fault ≡ 1 → Went s a b h ρ us (run bounds (linesFrom s (p .from)) ρ (this ∷ ws) m) r
       unfolding LineIs
-      line-wrong us r e f = went-wrong s ρ a b h us _ r f (refused-here malformed (subst (LineIs s a b h (record { at = p .from; end = end; height = 0 }) sort level width m) e is))
+      line-wrong us r e f = went-wrong s ρ a b h us _ r f (refused-here malformed (subst (LineIs s a b h (record { at = p .from; end = end; awaited = 0 }) sort level width m) e is))
 
       pub line-over : (us : List Want) (r : Place) → l ≡ OverBound → r .fault ≡ 2 → Went s a b h ρ us (run bounds (linesFrom s (p .from)) ρ (this ∷ ws) m) r
       unfolding LineIs
-      line-over us r e f = went-over s ρ a b h us _ r f (refused-here overBound (subst (LineIs s a b h (record { at = p .from; end = end; height = 0 }) sort level width m) e is))
+      line-over us r e f = went-over s ρ a b h us _ r f (refused-here overBound (subst (LineIs s a b h (record { at = p .from; end = end; awaited = 0 }) sort level width m) e is))
 
       pub line-asks : (x : Asked) → l ≡ Asks x → m .lines ≡ p .lines → Went s a b h ρ (groups 3 (x .row .below) (below sort level) (x .first) (x .second) ++ ws) (run bounds (linesFrom s (p .from)) ρ (this ∷ ws) m) (record { from = end + 1; lines = p .lines + 1; n = x .names; spots = x .spots; fault = 0 })
       unfolding LineIs
-      line-asks x e same = go (subst (LineIs s a b h (record { at = p .from; end = end; height = 0 }) sort level width m) e is)
+      line-asks x e same = go (subst (LineIs s a b h (record { at = p .from; end = end; awaited = 0 }) sort level width m) e is)
         where
-          go : LineIs s a b h (record { at = p .from; end = end; height = 0 }) sort level width m (Asks x) → Went s a b h ρ (groups 3 (x .row .below) (below sort level) (x .first) (x .second) ++ ws) (run bounds (linesFrom s (p .from)) ρ (this ∷ ws) m) (record { from = end + 1; lines = p .lines + 1; n = x .names; spots = x .spots; fault = 0 })
+          go : LineIs s a b h (record { at = p .from; end = end; awaited = 0 }) sort level width m (Asks x) → Went s a b h ρ (groups 3 (x .row .below) (below sort level) (x .first) (x .second) ++ ws) (run bounds (linesFrom s (p .from)) ρ (this ∷ ws) m) (record { from = end + 1; lines = p .lines + 1; n = x .names; spots = x .spots; fault = 0 })
           go q = record {
             on = λ z. (
               q .1,

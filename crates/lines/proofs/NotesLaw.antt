@@ -220,7 +220,7 @@ module _ (s : Bytes) (c : Cursor) (e : ℕ) (d : Cursor) (i : InLine s c) (low :
   plain h = plain-row sort row h (subst (Tidy sort) q tidy .2)
 
   next-at : c .at + length (field s c e d i here) + 1 ≡ d .at
-  next-at = let u = here .first .high in let v = here .at in behind s c d i (in-line s c e d i here) (here .end, here .height) (omega arith) (omega arith) (field s c e d i here) (left-is s c e d i here)
+  next-at = let u = here .first .high in let v = here .at in behind s c d i (in-line s c e d i here) (here .end, here .awaited) (omega arith) (omega arith) (field s c e d i here) (left-is s c e d i here)
 
   end-at : c .at + length (field s c e d i here) + fieldsSize (leftAt s d) + 1 ≡ c .end + 1
   unfolding fieldsSize

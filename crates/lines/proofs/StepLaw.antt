@@ -31,7 +31,7 @@ clean-bytes (x ∷ xs) h i =
 
 -- a cursor that has failed
 abbrev pub Failed : Cursor → Cursor → Type 0
-Failed c d = (d .at ≡ c .end + 2) × (d .end ≡ c .end) × (d .height ≡ c .height)
+Failed c d = (d .at ≡ c .end + 2) × (d .end ≡ c .end) × (d .awaited ≡ c .awaited)
 
 pub failed-follows : (s : Bytes) (c d : Cursor) (o : Option (List Bytes)) → o ≡ none → Failed c d → Follows s c o d
 unfolding Follows
@@ -94,7 +94,7 @@ module _ (s : Bytes) (c : Cursor) (e : ℕ) (d : Cursor) (line : InLine s c) (he
       subst (λ o. Follows s c o d) (sym q) (go (omega arith) (omega arith))
     where
       go : c .at ≤ d .at → d .at ≤ c .end + 1 → Follows s c (some (leftAt s d)) d
-      go x y = ((here .end, here .height), x, y, refl)
+      go x y = ((here .end, here .awaited), x, y, refl)
 
   module _ (κ : Kind) (b : Bool) (is : b ≡ isKind κ field) where
     fits-b : fits κ field ≡ b

@@ -66,11 +66,11 @@ module _ (s : Bytes) where
   -- ---- a line
 
   pub line-walked : (a l : List ℕ) (w : List (List ℕ)) (a′ l′ : List ℕ) (w′ : List (List ℕ)) (p : Place) (sort mark : ℕ) (end : ℕ) → First 10 s (p .from) (length s) end → end < length s → (x : Asked) (line : Read) → line ≡ Asks x → (lines fault : ℕ)
-      → LineNotes s a l (p .n) w (p .spots) a′ l′ w′ (record { at = p .from; end = end; height = 0 }) sort mark line
+      → LineNotes s a l (p .n) w (p .spots) a′ l′ w′ (record { at = p .from; end = end; awaited = 0 }) sort mark line
       → LineWalks s (storeAt a l w p) p (storeAt a′ l′ w′ (record { from = end + 1; lines = lines; n = x .names; spots = x .spots; fault = fault })) sort mark (record { row = x .row; first = x .first; second = x .second; place = record { from = end + 1; lines = lines; n = x .names; spots = x .spots; fault = fault } })
   unfolding LineWalks LineNotes
   line-walked a l w a′ l′ w′ p sort mark end first ended x line e lines fault notes xs k =
-      let q : LineNotes s a l (p .n) w (p .spots) a′ l′ w′ (record { at = p .from; end = end; height = 0 }) sort mark (Asks x) = subst (LineNotes s a l (p .n) w (p .spots) a′ l′ w′ (record { at = p .from; end = end; height = 0 }) sort mark) e notes in
+      let q : LineNotes s a l (p .n) w (p .spots) a′ l′ w′ (record { at = p .from; end = end; awaited = 0 }) sort mark (Asks x) = subst (LineNotes s a l (p .n) w (p .spots) a′ l′ w′ (record { at = p .from; end = end; awaited = 0 }) sort mark) e notes in
       let u = q xs k in
       (u .0, u .1, λ trees. u .2 trees (linesFrom s (end + 1)) ∙ ap (λ (ls : List Line). whole spotLine trees (sortAt sort) (markAt mark) ls (trace (p .from) xs)) (sym (lines-next s (p .from) end first ended)))
 

@@ -127,7 +127,7 @@ fn take_line(
     let c = Cursor {
         at: from,
         end,
-        height: 0,
+        awaited: 0,
     };
     let l = read_line(
         s,

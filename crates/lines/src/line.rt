@@ -367,7 +367,7 @@ pub fn read_line(
     ensures notes { λ r. ⌜ (sort ≤ 7 → LineNotes (now (s .entry)) (startsOf (now (table .entry))) (sizesOf (now (table .entry))) n (now (spots .entry)) k (startsOf (now (table .exit))) (sizesOf (now (table .exit))) (now (spots .exit)) c sort mark r) ⌝ }
 {
     let w = word_at(s, c.at, c.end);
-    let found = row_at(sort, s, c.at, w);
+    let found = row_at(sort, w.key);
     match found {
         Found::Is(row) => {
             let f = fields(

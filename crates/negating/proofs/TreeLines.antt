@@ -13,6 +13,7 @@ use Rattle.algebra.specs.Layout.{put, putOs, putAs}
 use Rattle.merging.specs.Request.{Projection}
 use Rattle.merging.specs.Negate.{modifyOutermostProjection}
 use Rattle.negating.specs.Projections.{outermostProjection}
+use Rattle.algebra.specs.Valid.{mem}
 use Rattle.negating.specs.bridge.Lines.{isPassed, fromProject}
 use Rattle.negating.proofs.Found.{Outermost, here, under-distinct, under-reduced, under-slice, under-orderby, under-group}
 
@@ -64,7 +65,7 @@ tree-lines o t = ap (λ (q : Pattern). put q t) (sym (not-modified o)) ∙ modif
 
 -- it finds the projection's line, and what is behind it are the inner pattern's lines
 pub project-found : {p : Pattern} {x : Projection} (o : Outermost p x) (t : List Line) → fromProject (put p t) ≡ some ((bytes "project" ∷ x .columns) ∷ put (x .inner) (behind o t))
-unfolding put behind fromProject isPassed same
+unfolding put behind fromProject isPassed mem same
 project-found here t = refl
 project-found (under-distinct o) t = project-found o t
 project-found (under-reduced o) t = project-found o t
@@ -74,7 +75,7 @@ project-found (under-group {ks} {p} {rs} o) t = project-found o (putAs rs t)
 
 -- it finds none where there is none
 pub project-not-found : (p : Pattern) (t : List Line) → outermostProjection p ≡ none → fromProject (put p t) ≡ none
-unfolding outermostProjection put fromProject isPassed same
+unfolding outermostProjection put fromProject isPassed mem same
 project-not-found (project cs p) t e = let z : _≡_ {A = ℕ} 0 1 = cc in absurd (omega arith)
 project-not-found (distinct p) t e = project-not-found p t e
 project-not-found (reduced p) t e = project-not-found p t e

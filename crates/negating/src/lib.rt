@@ -5,10 +5,10 @@ use emit::put_all;
 use heads::copy;
 use heads::is_select_or_ask;
 use heads::tree_start;
+use reader::line_end;
 use reading::check_query;
-use text::equal;
-use text::find;
-use walking::line::line_end;
+use words::keys;
+use words::word_at;
 ghost use mathlib.Core.Path.{_≡_};
 ghost use Prim.Native.Nat.{_≤_};
 ghost use lib.ListN.{length};
@@ -18,43 +18,23 @@ ghost use Rattle.algebra.specs.Texts.{readQuery};
 ghost use Rattle.emit.specs.bridge.Emit.{em, puts};
 ghost use Rattle.answers.specs.Outcome.{Answered};
 ghost use Rattle.merging.specs.Negate.{negateOutcome};
-ghost use Rattle.negating.specs.bridge.Lines.{isPassed, Finds};
+ghost use Rattle.words.specs.bridge.Key.{keyIn};
+ghost use Rattle.negating.specs.bridge.Lines.{passed, Finds};
 ghost use Rattle.negating.specs.bridge.Negated.{negatedAt};
 
-const PROJECT: [u8; 7] = *b"project";
-
-const DISTINCT: [u8; 8] = *b"distinct";
-
-const REDUCED: [u8; 7] = *b"reduced";
-
-const SLICE: [u8; 5] = *b"slice";
-
-const ORDERBY: [u8; 7] = *b"orderby";
-
-const GROUP: [u8; 5] = *b"group";
-
-const COLS: [u8; 4] = *b"cols";
-
-// modify_outermost_projection goes down through a line with this word; a group's second line is `cols`.
-fn is_passed(word: &[u8]) -> bool
-    ensures { λ r. ⌜ r ≡ isPassed (now (word .entry)) ⌝ }
+// modify_outermost_projection goes down through a line whose word has this key; a group's second line is `cols`.
+fn is_passed(key: u64) -> bool
+    ensures { λ r. ⌜ r ≡ keyIn key passed ⌝ }
 {
-    if equal(word, &DISTINCT) {
-        return true;
+    match key {
+        keys::DISTINCT => true,
+        keys::REDUCED => true,
+        keys::SLICE => true,
+        keys::ORDERBY => true,
+        keys::GROUP => true,
+        keys::COLS => true,
+        _ => false,
     }
-    if equal(word, &REDUCED) {
-        return true;
-    }
-    if equal(word, &SLICE) {
-        return true;
-    }
-    if equal(word, &ORDERBY) {
-        return true;
-    }
-    if equal(word, &GROUP) {
-        return true;
-    }
-    equal(word, &COLS)
 }
 
 // Where the outermost projection's line and its inner pattern start, or that there is none.
@@ -73,11 +53,11 @@ pub fn outermost_projection(text: &[u8], from: usize) -> Outermost
         if end == text.len() {
             return Outermost::None;
         }
-        let word = find(text, at, end, 9);
-        if equal(&text[at..word], &PROJECT) {
+        let w = word_at(text, at, end);
+        if w.key == keys::PROJECT {
             return Outermost::At(at, end + 1);
         }
-        if !is_passed(&text[at..word]) {
+        if !is_passed(w.key) {
             return Outermost::None;
         }
         at = end + 1;

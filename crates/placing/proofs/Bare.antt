@@ -16,9 +16,12 @@ use Rattle.algebra.specs.Tree.{Pattern}
 use Rattle.algebra.specs.Layout.{put, putOs, putAs}
 use Rattle.algebra.specs.Reader.{reads}
 use Rattle.algebra.specs.Texts.{readTree}
+use Rattle.algebra.specs.Valid.{mem}
+use Rattle.words.specs.bridge.Key.{keyOf, Keyed, keyIn}
+use Rattle.words.proofs.ByKey.{small, tells, same-key, other-key, allWords, in-by-key}
 use Rattle.cursor.specs.bridge.Cursor.{left}
-use Rattle.walking.specs.bridge.Code.{LineEnd}
-use Rattle.walking.proofs.Lines.{nothing-here}
+use Rattle.reader.specs.bridge.Lines.{LineEnd}
+use Rattle.reader.proofs.Laws.{nothing-here}
 use Rattle.walking.proofs.Laws.{line-split}
 use Rattle.merging.specs.Request.{Projection}
 use Rattle.heads.proofs.Cut.{text-from, text-append}
@@ -28,7 +31,7 @@ use Rattle.negating.proofs.TreeLines.{behind}
 use Rattle.filtering.specs.bridge.Copying.{plus, toCome, copying}
 use Rattle.filtering.proofs.Copying.{tree-copy}
 use Rattle.filtering.proofs.Read.{tree-at, tree-valid}
-use Rattle.placing.specs.bridge.Ends.{EndsAt, isBare, bareDown}
+use Rattle.placing.specs.bridge.Ends.{EndsAt, bare, isBare, bareDown}
 use Rattle.placing.proofs.Inner.{Found, way, place, inner-valid}
 
 -- ---- line by line
@@ -39,7 +42,7 @@ past-end s at h = rw (lines-end s at h)
 
 module _ (s : Bytes) (at end : ℕ) (l : LineEnd s at end) where
   pub no-line : end ≡ length s → false ≡ bareDown (linesFrom s at)
-  unfolding bareDown isBare same
+  unfolding bareDown isBare mem same
   no-line e = ⊎-elim (λ (h : linesFrom s at ≡ []). rw h) (λ (h : linesFrom s at ≡ [] ∷ []). rw h) (nothing-here s at end l e)
 
   module _ (more : end ≡ length s → ⊥) (w : ℕ) (f : First 9 s at end w) where
@@ -49,25 +52,33 @@ module _ (s : Bytes) (at end : ℕ) (l : LineEnd s at end) where
         let i : end < length s = omega arith in
         lines-next s at end (l .ends i) i ∙ ap (λ (x : Line). x ∷ linesFrom s (end + 1)) (line-split s at end w i (l .ends i .low) f)
 
-    module _ (b : Bool) (is : b ≡ same (part at w s) (bytes "project")) where
-      pub project-here : b ≡ true → true ≡ bareDown (linesFrom s at)
-      unfolding bareDown
-      project-here h = rw (this-line, sym is ∙ h)
+    module _ (k : ℕ) (keyed : Keyed (part at w s) k) where
+      pub project-here : k ≡ keyOf 0 (bytes "project") → true ≡ bareDown (linesFrom s at)
+      unfolding bareDown small tells
+      project-here e = rw (this-line, same-key (part at w s) k keyed (bytes "project") refl e)
 
-      module _ (no : b ≡ false) (c : Bool) (bare : c ≡ isBare (part at w s)) where
+      module _ (n : k ≡ keyOf 0 (bytes "project") → ⊥) (c : Bool) (known : c ≡ keyIn k bare) where
+        other : same (part at w s) (bytes "project") ≡ false
+        unfolding small tells
+        other = other-key (part at w s) k keyed (bytes "project") refl n
+
+        is : isBare (part at w s) ≡ c
+        unfolding isBare small tells allWords
+        is = in-by-key (part at w s) k keyed bare refl ∙ sym known
+
         pub stops-here : not c ≡ true → false ≡ bareDown (linesFrom s at)
         unfolding bareDown
-        stops-here h = rw (this-line, sym is ∙ no, sym bare ∙ not-true c h)
+        stops-here h = rw (this-line, other, is ∙ not-true c h)
 
         pub goes-on : not c ≡ false → bareDown (linesFrom s (end + 1)) ≡ bareDown (linesFrom s at)
         unfolding bareDown
-        goes-on h = rw (this-line, sym is ∙ no, sym bare ∙ not-false c h)
+        goes-on h = rw (this-line, other, is ∙ not-false c h)
 
 -- ---- the tree
 
 -- nothing stands behind the inner pattern but what follows the tree
 nothing-behind : {p : Pattern} {x : Projection} (o : Outermost p x) (t : List Line) → bareDown (put p t) ≡ true → behind o t ≡ t
-unfolding put behind bareDown isBare same
+unfolding put behind bareDown isBare mem same
 nothing-behind here t h = refl
 nothing-behind (under-distinct o) t h = nothing-behind o t h
 nothing-behind (under-reduced o) t h = nothing-behind o t h

@@ -9,7 +9,7 @@ use native.Mathlib.Decide.{decLt}
 use native.Mathlib.Omega.{arith}
 use lib.ListN.{length, getD, drop, drop-of-length-le}
 use lib.Seq.{drop-cons}
-use Rattle.text.specs.Text.{Bytes, Line, same, ended, textOf, split, part, linesFrom}
+use Rattle.text.specs.Text.{Bytes, Line, same, ended, textOf, split, part, linesFrom, First}
 use Rattle.text.proofs.Texts.{Ended, glue-split, ended-glue}
 use Rattle.text.proofs.Places.{lines-next, lines-open, lines-end}
 use Rattle.algebra.specs.bridge.Table.{Sort, parts, Below, Row, Entry, sorts, rowsOf, entriesOf, table, rowIn, rowFor}
@@ -18,10 +18,11 @@ use Rattle.words.specs.declared.Found.{Found}
 use Rattle.words.specs.declared.Found.the-variants.{Is, None}
 use Rattle.words.specs.bridge.Code.{sortAt, groupOf, slotsIn, groupsIn, rowOf, rowFound, noCode}
 use Rattle.cursor.specs.bridge.Cursor.{left}
+use Rattle.cursor.specs.declared.Cursor.{Cursor}
 use Rattle.parted.proofs.Laws.{part-join, part-line}
 use Rattle.lines.specs.bridge.Below.{amountIn}
 use Rattle.scoping.specs.bridge.Walk.{rowOr, numberIn}
-use Rattle.walking.specs.bridge.Code.{LineEnd}
+use Rattle.reader.specs.bridge.Lines.{LineEnd}
 use Rattle.filtering.specs.bridge.Copying.{plus, amounts, below, toCome, copying}
 use Rattle.filtering.proofs.Copying.{plus-is}
 use Rattle.placing.specs.bridge.Ends.{EndsAt}
@@ -171,6 +172,10 @@ going-done s from at k low high g h = record {
   copied = λ n v. let z : k ≡ 0 = omega arith in g n .1 v ∙ ap (λ (m : ℕ). part from at s ++ textOf (copying (linesFrom s at) m v)) z ∙ ap (λ (ls : List Line). part from at s ++ textOf ls) (none-copied (linesFrom s at) v);
 }
 
+-- the end that the cursor finds
+pub line-there : (s : Bytes) (at end : ℕ) → First 10 s at (length s) end → LineEnd s at end
+line-there s at end f = record { high = f .high; ends = λ _. f; none = λ _ _. f }
+
 module _ (s : Bytes) (from at end k : ℕ) (low : from ≤ at) (high : at ≤ length s) (g : Going s from at k) (l : LineEnd s at end) where
   -- no line is left: there is none that isn't ended
   pub going-stop : end ≡ length s → EndsAt s from end
@@ -217,3 +222,10 @@ module _ (s : Bytes) (from at end k : ℕ) (low : from ≤ at) (high : at ≤ le
           ∙ ap (λ (x : Bytes). part from at s ++ x) (line-text (part at end s) (textOf (copying (linesFrom s (end + 1)) (k - 1 + b) v)))
           ∙ joined (textOf (copying (linesFrom s (end + 1)) (k - 1 + b) v)),
     )
+
+    -- the cursor behind the line
+    pub going-child : (line c : Cursor) → line .at ≡ at → line .awaited ≡ k → (b : ℕ) → b ≡ toCome (split 9 (part (line .at) end s)) → c .at ≡ end + 1 → c .awaited ≡ line .awaited - 1 + b → Going s from (c .at) (c .awaited)
+    going-child line c i j b h e n =
+        subst (λ (m : ℕ). Going s from m (c .awaited)) (sym e)
+        (subst (λ (m : ℕ). Going s from (end + 1) m) (sym (n ∙ ap (λ (m : ℕ). m - 1 + b) j))
+        (going-next b (h ∙ ap (λ (m : ℕ). toCome (split 9 (part m end s))) i)))

@@ -9,39 +9,41 @@ use lib.ListN.{length, getD, set, drop, List·getD-eq-default}
 use lib.Seq.{getD-set-same}
 use Rattle.text.specs.Text.{Bytes, Line, part, piece, linesFrom, First}
 use Rattle.text.proofs.Places.{lines-next}
-use Rattle.names.specs.bridge.Names.{listing}
-use Rattle.names.proofs.Laws.{listing-below, listing-long}
+use Rattle.names.specs.bridge.Names.{listing, startsOf, sizesOf}
+use Rattle.names.proofs.Columns.{column-length, column-set, column-is}
+use Rattle.names.proofs.Laws.{listing-below, listing-long, listing-at}
 use Rattle.cursor.specs.bridge.Cursor.{left}
 use Rattle.cursor.proofs.Laws.{left-none}
-use Rattle.walking.specs.bridge.Code.{LineEnd}
-use Rattle.walking.proofs.Lines.{nothing-here}
-use Rattle.names.proofs.Laws.{listing-at}
+use Rattle.reader.specs.bridge.Lines.{LineEnd}
+use Rattle.reader.proofs.Laws.{nothing-here}
 use Rattle.walking.proofs.Laws.{line-split}
 use Rattle.placing.specs.declared.field.Field.{Field}
-use Rattle.placing.specs.bridge.Fields.{FieldIs, columnsOn}
+use Rattle.placing.specs.bridge.Fields.{FieldIs, columnsIn, columnsOn}
 
 pub columns-start : (s : Bytes) (a l : List ℕ) (cs : List Bytes) → listing s a l 0 ++ cs ≡ cs
 unfolding listing
 columns-start s a l cs = refl
 
-module _ (s : Bytes) (a l : List ℕ) (n next end : ℕ) where
-  module _ (k : next ≤ end) (f : Field) (w : FieldIs s next end f) where
-    -- there is room for it
-    pub columns-room : (c : ℕ) → n + length (left s next end) ≡ c → c ≤ 64 → n < 64
-    columns-room c h r = let e = ap length (w .here k) in omega arith
+module _ (s : Bytes) (n next end : ℕ) where
+  module _ (k : next ≤ end) (f : Field) (w : FieldIs s next end f) (c : ℕ) (h : n + length (left s next end) ≡ c) where
+    -- there is room for it, and its place is small
+    pub columns-fit : c ≤ 64 → end ≤ length s → length s ≤ 16384 → (n < 64) × (next ≤ f .to) × (f .to ≤ 16385)
+    columns-fit r t m = let e = ap length (w .here k) in let low = w .low in let high = w .high in (omega arith, low, omega arith)
 
-    -- one column more
-    pub columns-less : (c : ℕ) → n + length (left s next end) ≡ c → n + 1 + length (left s (f .next) end) ≡ c
-    columns-less c h = let e = ap length (w .here k) in omega arith
+    pub columns-less : n + 1 + length (left s (f .next) end) ≡ c
+    columns-less = let e = ap length (w .here k) in omega arith
 
-    pub columns-next : (cs : List Bytes) → n < length a → n < length l → listing s a l n ++ left s next end ≡ cs → listing s (set a n next) (set l n (f .to - next)) (n + 1) ++ left s (f .next) end ≡ cs
-    unfolding listing
-    columns-next cs i j h =
-        rw (add-one, listing-below s a l n next (f .to - next) n (omega arith), getD-set-same a n next 0 i, getD-set-same l n (f .to - next) 0 j)
-        (append-assoc (listing s a l n) (part next (f .to) s ∷ []) (left s (f .next) end) ∙ ap (λ (r : List Bytes). listing s a l n ++ r) (sym (w .here k)) ∙ h)
+  -- one column more
+  pub columns-next : (k : next ≤ end) (f : Field) (w : FieldIs s next end f) (t : List (List ℕ)) (cs : List Bytes) → n < length t → columnsIn s t n ++ left s next end ≡ cs
+      → columnsIn s (set t n (next ∷ (f .to - next) ∷ [])) (n + 1) ++ left s (f .next) end ≡ cs
+  unfolding listing
+  columns-next k f w t cs i h =
+      let e = next ∷ (f .to - next) ∷ [] in
+      rw (column-set 0 t n e, column-set 1 t n e, add-one, listing-below s (startsOf t) (sizesOf t) n next (f .to - next) n (omega arith), getD-set-same (startsOf t) n next 0 (rw (column-length 0 t) i), getD-set-same (sizesOf t) n (f .to - next) 0 (rw (column-length 1 t) i))
+      (append-assoc (columnsIn s t n) (part next (f .to) s ∷ []) (left s (f .next) end) ∙ ap (λ (r : List Bytes). columnsIn s t n ++ r) (sym (w .here k)) ∙ h)
 
-  pub columns-done : (cs : List Bytes) → end < next → listing s a l n ++ left s next end ≡ cs → listing s a l n ≡ cs
-  columns-done cs h e = sym (append-nil (listing s a l n)) ∙ ap (λ (r : List Bytes). listing s a l n ++ r) (sym (left-none s next end h)) ∙ e
+  pub columns-done : (t : List (List ℕ)) (cs : List Bytes) → end < next → columnsIn s t n ++ left s next end ≡ cs → columnsIn s t n ≡ cs
+  columns-done t cs h e = sym (append-nil (columnsIn s t n)) ∙ ap (λ (r : List Bytes). columnsIn s t n ++ r) (sym (left-none s next end h)) ∙ e
 
   pub columns-few : (c : ℕ) → end < next → n + length (left s next end) ≡ c → n ≡ c
   columns-few c h e = let z = ap length (left-none s next end h) in omega arith
@@ -50,8 +52,8 @@ module _ (s : Bytes) (a l : List ℕ) (n next end : ℕ) where
 pub column-none : (s : Bytes) (a l : List ℕ) (n k : ℕ) → n ≤ k → [] ≡ getD (listing s a l n) k []
 column-none s a l n k h = sym (List·getD-eq-default (listing s a l n) [] (let z = listing-long s a l n in omega arith))
 
-pub column-is : (s : Bytes) (a l : List ℕ) (n k x y : ℕ) → k < n → x ≡ getD a k 0 → y ≡ getD l k 0 → (r : Bytes) → r ≡ piece x y s → r ≡ getD (listing s a l n) k []
-column-is s a l n k x y h p q r e = e ∙ ap₂ (λ (i j : ℕ). piece i j s) p q ∙ sym (listing-at s a l k n h)
+pub column-at-is : (s : Bytes) (t : List (List ℕ)) (n k x y : ℕ) → k < n → x ≡ getD (getD t k []) 0 0 → y ≡ getD (getD t k []) 1 0 → (r : Bytes) → r ≡ piece x y s → r ≡ getD (columnsIn s t n) k []
+column-at-is s t n k x y h p q r e = e ∙ ap₂ (λ (i j : ℕ). piece i j s) (column-is 0 t k x p) (column-is 1 t k y q) ∙ sym (listing-at s (startsOf t) (sizesOf t) k n h)
 
 -- the columns stand behind the word of the projection's line
 module _ (s : Bytes) (line end : ℕ) (l : LineEnd s line end) where

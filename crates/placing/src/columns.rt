@@ -1,36 +1,34 @@
 // A projection's columns, as places in its text.
 use crate::field::field_at;
+use cursor::field_end;
+use names::Entry;
 use names::wide;
-use text::find;
+use reader::line_end;
 use text::piece;
-use walking::line::line_end;
 ghost use mathlib.Core.Path.{_≡_};
 ghost use Prim.Native.Nat.{_≤_};
 ghost use mathlib.Core.List.{[]};
 ghost use lib.ListN.{length, getD};
-ghost use Rattle.names.specs.bridge.Names.{listing};
-ghost use Rattle.placing.specs.bridge.Fields.{columnsOn};
+ghost use Rattle.placing.specs.bridge.Fields.{columnsIn, columnsOn};
 
 // Notes where each column of the projection's line stands, and says how many there are.
 pub fn read_columns(
     tree: &[u8],
     line: usize,
-    starts: &mut [u16; 64],
-    sizes: &mut [u16; 64],
+    columns: &mut [Entry; 64],
 ) -> usize
-    requires { ⌜ (length (now tree) ≤ 16384) × (length (columnsOn (now tree) line) ≤ 64) × (length (now starts) ≡ 64) × (length (now sizes) ≡ 64) ⌝ }
-    ensures { λ r. ⌜ (r ≤ 64) × (listing (now (tree .entry)) (now (starts .exit)) (now (sizes .exit)) r ≡ columnsOn (now (tree .entry)) line) ⌝ }
+    requires { ⌜ (length (now tree) ≤ 16384) × (length (columnsOn (now tree) line) ≤ 64) × (length (now columns) ≡ 64) ⌝ }
+    ensures { λ r. ⌜ (r ≤ 64) × (columnsIn (now (tree .entry)) (now (columns .exit)) r ≡ columnsOn (now (tree .entry)) line) ⌝ }
 {
     let mut n = 0;
     let end = line_end(tree, line);
     if end == tree.len() {
         return n;
     }
-    let mut next = find(tree, line, end, 9) + 1;
+    let mut next = field_end(tree, line, end) + 1;
     while next <= end {
         let field = field_at(tree, next, end);
-        starts[n] = next as u16;
-        sizes[n] = (field.to - next) as u16;
+        columns[n] = [next as u16, (field.to - next) as u16];
         n += 1;
         next = field.next;
     }
@@ -40,16 +38,16 @@ pub fn read_columns(
 // The column at a position, a part of the tree's text; nothing where there is none.
 pub fn column_at<'a>(
     tree: &'a [u8],
-    starts: &[u16; 64],
-    sizes: &[u16; 64],
+    columns: &[Entry; 64],
     n: usize,
     k: usize,
 ) -> &'a [u8]
     requires { ⌜ n ≤ 64 ⌝ }
-    ensures { λ r. ⌜ now r ≡ getD (listing (now (tree .entry)) (now (starts .entry)) (now (sizes .entry)) n) k [] ⌝ }
+    ensures { λ r. ⌜ now r ≡ getD (columnsIn (now (tree .entry)) (now (columns .entry)) n) k [] ⌝ }
 {
     if n <= k {
         return &tree[..0];
     }
-    piece(tree, wide(starts[k]), wide(sizes[k]))
+    let e = columns[k];
+    piece(tree, wide(e[0]), wide(e[1]))
 }

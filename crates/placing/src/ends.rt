@@ -1,37 +1,35 @@
 // Where a pattern ends: line by line while something is to come, by the one table of words.
+use cursor::Cursor;
 use lines::below::amount;
-use text::equal;
-use text::find;
+use reader::line_end;
 use walking::line::count_at;
-use walking::line::line_end;
 use words::Found;
 use words::Row;
-use words::Word;
+use words::keys;
 use words::row_at;
 use words::word_at;
 ghost use mathlib.Core.Path.{_≡_};
 ghost use Prim.Native.Nat.{ℕ, _+_, _≤_, _<_};
 ghost use lib.ListN.{length};
-ghost use Rattle.text.specs.Text.{part, split, linesFrom};
+ghost use Rattle.text.specs.Text.{Bytes, part, split, linesFrom};
 ghost use Rattle.algebra.specs.Tree.{Pattern};
 ghost use Rattle.algebra.specs.Reader.{reads};
 ghost use Rattle.algebra.specs.Texts.{readTree};
 ghost use Rattle.algebra.specs.bridge.Table.{table, rowIn};
 ghost use Rattle.scoping.specs.bridge.Walk.{rowOr};
 ghost use Rattle.words.specs.bridge.Code.{rowOf};
-ghost use Rattle.words.specs.bridge.Key.{Spells};
+ghost use Rattle.words.specs.bridge.Key.{Keyed, keyIn};
 ghost use Rattle.negating.specs.bridge.Lines.{Projects};
 ghost use Rattle.filtering.specs.bridge.Copying.{toCome};
-ghost use Rattle.placing.specs.bridge.Ends.{EndsAt, isBare, bareDown};
+ghost use Rattle.placing.specs.bridge.Ends.{EndsAt, bare, bareDown};
 
-// The row of a word that was read at a place, whatever its sort; one without lines below where it is none.
-fn row_of(text: &[u8], from: usize, w: Word) -> Row
-    requires { ⌜ (from ≤ w .end) × (w .end ≤ length (now text)) × Spells (now text) from w ⌝ }
-    ensures { λ r. ⌜ rowOf r ≡ rowOr (rowIn table (part from (w .end) (now (text .entry)))) ⌝ }
+// The row of a word by its key, whatever its sort; one without lines below where it is none.
+fn row_of(key: u64) -> Row
+    ensures { λ r. ⌜ ((f : Bytes) → Keyed f key → rowOf r ≡ rowOr (rowIn table f)) ⌝ }
 {
     let mut sort = 0;
     while sort < 12 {
-        if let Found::Is(row) = row_at(sort, text, from, w) {
+        if let Found::Is(row) = row_at(sort, key) {
             return row;
         }
         sort += 1;
@@ -50,7 +48,7 @@ fn lines_below(text: &[u8], from: usize, end: usize) -> u64
     ensures { λ r. ⌜ (r ≡ toCome (split 9 (part from end (now (text .entry))))) × (r ≤ 17179869183) ⌝ }
 {
     let w = word_at(text, from, end);
-    let row = row_of(text, from, w);
+    let row = row_of(w.key);
     if row.below == 0 {
         return 0;
     }
@@ -67,38 +65,31 @@ pub fn pattern_end(text: &[u8], from: usize) -> usize
     requires { ⌜ (from ≤ length (now text)) × (length (now text) ≤ 16384) ⌝ }
     ensures { λ r. ⌜ EndsAt (now (text .entry)) from r ⌝ }
 {
-    let mut left: u64 = 1;
-    let mut at = from;
-    while 0 < left {
-        let end = line_end(text, at);
-        if end == text.len() {
-            return end;
+    let mut c = Cursor {
+        at: from,
+        end: from,
+        awaited: 1,
+    };
+    while 0 < c.awaited {
+        let line = c.next_line(text);
+        if line.end == text.len() {
+            return line.end;
         }
-        left = left - 1 + lines_below(text, at, end);
-        at = end + 1;
+        c = line.child_done(lines_below(text, line.at, line.end));
     }
-    at
+    c.at
 }
 
-const PROJECT: [u8; 7] = *b"project";
-
-const DISTINCT: [u8; 8] = *b"distinct";
-
-const REDUCED: [u8; 7] = *b"reduced";
-
-const SLICE: [u8; 5] = *b"slice";
-
-// A line with this word has a pattern below it and nothing else.
-fn is_bare(word: &[u8]) -> bool
-    ensures { λ r. ⌜ r ≡ isBare (now (word .entry)) ⌝ }
+// A line whose word has this key has a pattern below it and nothing else.
+fn is_bare(key: u64) -> bool
+    ensures { λ r. ⌜ r ≡ keyIn key bare ⌝ }
 {
-    if equal(word, &DISTINCT) {
-        return true;
+    match key {
+        keys::DISTINCT => true,
+        keys::REDUCED => true,
+        keys::SLICE => true,
+        _ => false,
     }
-    if equal(word, &REDUCED) {
-        return true;
-    }
-    equal(word, &SLICE)
 }
 
 // Only such lines stand above the outermost projection's.
@@ -111,11 +102,11 @@ fn is_bare_down(text: &[u8]) -> bool
         if end == text.len() {
             return false;
         }
-        let word = find(text, at, end, 9);
-        if equal(&text[at..word], &PROJECT) {
+        let w = word_at(text, at, end);
+        if w.key == keys::PROJECT {
             return true;
         }
-        if !is_bare(&text[at..word]) {
+        if !is_bare(w.key) {
             return false;
         }
         at = end + 1;

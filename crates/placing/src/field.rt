@@ -1,6 +1,6 @@
 // The fields of a line one after the other, as places in the text.
+use cursor::field_end;
 use text::Number;
-use text::find;
 use text::number_of;
 ghost use mathlib.Core.Path.{_≡_};
 ghost use Prim.Native.Nat.{_+_, _≤_, _<_};
@@ -22,7 +22,7 @@ pub fn field_at(text: &[u8], at: usize, end: usize) -> Field
     if end < at {
         return Field { to: at, next: at };
     }
-    let to = find(text, at, end, 9);
+    let to = field_end(text, at, end);
     Field { to, next: to + 1 }
 }
 

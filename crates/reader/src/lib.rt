@@ -3,7 +3,7 @@ use text::find;
 ghost use Prim.Native.Nat.{_≤_};
 ghost use lib.ListN.{length};
 ghost use Rattle.text.specs.Text.{First};
-ghost use Rattle.reader.specs.bridge.Lines.{EndsAt};
+ghost use Rattle.reader.specs.bridge.Lines.{EndsAt, LineEnd};
 
 pub struct LineReader<'a> {
     pub text: &'a [u8],
@@ -21,7 +21,7 @@ fn end_from(text: &[u8], next: usize) -> usize
 }
 
 // The end of the reader's next line, or of its text.
-fn line_end<'a>(reader: LineReader<'a>) -> usize
+fn reader_end<'a>(reader: LineReader<'a>) -> usize
     ensures { λ r. ⌜ EndsAt (now (reader .entry .text)) (reader .entry .next) r ⌝ }
 {
     end_from(reader.text, reader.next)
@@ -31,7 +31,7 @@ fn line_end<'a>(reader: LineReader<'a>) -> usize
 fn end_of_line(text: &[u8], next: usize) -> usize
     ensures { λ r. ⌜ EndsAt (now (text .entry)) next r ⌝ }
 {
-    line_end(LineReader { text, next })
+    reader_end(LineReader { text, next })
 }
 
 // The end of the line that starts at a place of the text, for those who know that the place is one.
@@ -40,4 +40,14 @@ pub fn next_end(text: &[u8], next: usize) -> usize
     ensures { λ r. ⌜ First 10 (now (text .entry)) next (length (now (text .entry))) r ⌝ }
 {
     end_of_line(text, next)
+}
+
+// The end of the line that starts here; the end of the text if no line does, or none that is ended.
+pub fn line_end(text: &[u8], from: usize) -> usize
+    ensures { λ r. ⌜ LineEnd (now (text .entry)) from r ⌝ }
+{
+    if text.len() <= from {
+        return text.len();
+    }
+    next_end(text, from)
 }

@@ -26,7 +26,7 @@ use Rattle.merging.specs.Request.{position}
 use Rattle.merging.specs.Names.{placeIn}
 use Rattle.scoping.specs.bridge.Walk.{numberIn}
 use Rattle.walking.specs.bridge.Walk.{tabbed}
-use Rattle.walking.specs.bridge.Code.{LineEnd}
+use Rattle.reader.specs.bridge.Lines.{LineEnd}
 use Rattle.sides.specs.declared.list.Positions.{Positions}
 use Rattle.sides.specs.declared.list.Positions.the-variants.{Outside, Are}
 use Rattle.sides.specs.bridge.Listed.{Listed, positionsIn, Kept, Found, secondOf, termsFrom}

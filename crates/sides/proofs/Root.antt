@@ -12,8 +12,8 @@ use lib.Count.{ones, ones-le}
 use Rattle.text.specs.Text.{Bytes, Line, same, part, linesFrom, First}
 use Rattle.text.specs.Word.{bytes}
 use Rattle.text.proofs.Places.{lines-next}
-use Rattle.walking.specs.bridge.Code.{LineEnd}
-use Rattle.walking.proofs.Lines.{nothing-here}
+use Rattle.reader.specs.bridge.Lines.{LineEnd}
+use Rattle.reader.proofs.Laws.{nothing-here}
 use Rattle.walking.proofs.Laws.{line-split}
 
 module _ (s : Bytes) (from e : ℕ) (l : LineEnd s from e) (w : Bytes) where

@@ -28,9 +28,10 @@ use Rattle.scoping.specs.Premises.{columnsAt, inside, sideName}
 use Rattle.scoping.proofs.Agree.{renamed-by-pushes}
 use Rattle.scoping.proofs.NewVariables.{numbered-few}
 use Rattle.lines.specs.bridge.Spotted.{spotsOf}
-use Rattle.walking.specs.bridge.Code.{LineEnd, renames}
+use Rattle.reader.specs.bridge.Lines.{LineEnd}
+use Rattle.walking.specs.bridge.Code.{renames}
 use Rattle.walking.specs.bridge.Rewritten.{rewritten}
-use Rattle.walking.proofs.Lines.{nothing-here}
+use Rattle.reader.proofs.Laws.{nothing-here}
 use Rattle.walking.proofs.Laws.{line-split}
 use Rattle.walking.proofs.Noted.{column-names}
 use Rattle.naming.specs.bridge.Code.{namesAt}

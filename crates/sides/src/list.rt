@@ -5,7 +5,7 @@ use emit::put_all;
 use names::wide;
 use text::find;
 use walking::line::count_at;
-use walking::line::line_end;
+use reader::line_end;
 ghost use mathlib.Core.Path.{_≡_};
 ghost use Prim.Native.Nat.{ℕ, _+_, _≤_, _<_};
 ghost use mathlib.Core.List.{List, [], _∷_};

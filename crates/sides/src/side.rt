@@ -13,7 +13,7 @@ use naming::put_decimal;
 use naming::standardize_variables;
 use text::equal;
 use text::find;
-use walking::line::line_end;
+use reader::line_end;
 use walking::places::note_places;
 use walking::places::put_renamed;
 ghost use mathlib.Core.Path.{_≡_};

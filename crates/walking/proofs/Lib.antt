@@ -1,5 +1,4 @@
 pub mod Laws
-pub mod Lines
 pub mod Written
 pub mod After
 pub mod Parts

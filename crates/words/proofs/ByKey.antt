@@ -8,25 +8,24 @@ use native.Mathlib.Omega.{arith}
 use lib.Dec.{eqb, leb, ltb}
 use lib.ListN.{length, getD, drop, length-take, length-drop}
 use lib.Seq.{getD-take, getD-drop}
-use borrow.Author.Tests.{leb-true, ltb-true, eqb-false, ne-eqb, not-true}
+use borrow.Author.Tests.{leb-true, ltb-true, eqb-false, eq-eqb, ne-eqb, not-true}
 use Rattle.text.specs.Text.{Bytes, same, part}
 use Rattle.text.proofs.Basics.{and-left, and-right, same-eq}
 use Rattle.text.proofs.Lists.{same-long}
+use Rattle.algebra.specs.Valid.{mem}
 use Rattle.algebra.specs.bridge.Table.{Row, Entry, Sort, triples, columns, patterns, expressions, rows, orders, aggregates, heads, sets, positions, valueRows, parts, rowsOf, rowIn, rowFor}
-use Rattle.words.specs.declared.Word.{Word}
 use Rattle.words.specs.declared.Found.{Found}
 use Rattle.words.specs.declared.Found.the-variants.{Is, None}
 use Rattle.words.specs.bridge.Code.{sortAt, rowOf, found, rowFound, Tidy, flagOf, Flags}
-use Rattle.words.specs.bridge.Key.{keyOf, Small, Spells, rowBy, flagBy, Flagged}
-use Rattle.words.proofs.Keys.{Told, same-by-key}
+use Rattle.words.specs.bridge.Key.{keyOf, Small, Told, Keyed, keyIn, rowBy, flagBy, Flagged}
 
 -- ---- every word of the table is one that a key tells
 
-small : Bytes → Bool
+unfoldable pub small : Bytes → Bool
 small [] = true
 small (x ∷ xs) = ltb x 256 && small xs
 
-tells : Bytes → Bool
+unfoldable pub tells : Bytes → Bool
 unfolding small
 tells w = not (eqb (getD w 0 0) 0) && (leb (length w) 8 && small w)
 
@@ -55,7 +54,7 @@ unfolding small
 small-is [] h = tt
 small-is (x ∷ xs) h = (ltb-true x 256 (and-left (ltb x 256) (small xs) h), small-is xs (and-right (ltb x 256) (small xs) h))
 
-told : (w : Bytes) → tells w ≡ true → Told w
+pub told : (w : Bytes) → tells w ≡ true → Told w
 unfolding tells
 told w h =
     let r = and-right (not (eqb (getD w 0 0) 0)) (leb (length w) 8 && small w) h in record {
@@ -66,74 +65,29 @@ told w h =
 
 -- ---- the search by keys
 
-by-key : (es : List Entry) (f : Bytes) → allTell es ≡ true → Told f → rowIn es f ≡ rowBy (keyOf 0 f) es
+by-key : (es : List Entry) (f : Bytes) (k : ℕ) → allTell es ≡ true → Keyed f k → rowIn es f ≡ rowBy k es
 unfolding allTell rowIn rowBy
-by-key [] f h t = refl
-by-key (e ∷ es) f h t =
-    rw (same-by-key f (e .word) t (told (e .word) (and-left (tells (e .word)) (allTell es) h)), by-key es f (and-right (tells (e .word)) (allTell es) h) t) refl
+by-key [] f k h t = refl
+by-key (e ∷ es) f k h t =
+    rw (t (e .word) (told (e .word) (and-left (tells (e .word)) (allTell es) h)), by-key es f k (and-right (tells (e .word)) (allTell es) h) t) refl
 
-no-row : (es : List Entry) (f : Bytes) → allTell es ≡ true → ((w : Bytes) → Told w → same f w ≡ false) → rowIn es f ≡ none
-unfolding allTell rowIn
-no-row [] f h n = refl
-no-row (e ∷ es) f h n = rw (n (e .word) (told (e .word) (and-left (tells (e .word)) (allTell es) h))) (no-row es f (and-right (tells (e .word)) (allTell es) h) n)
-
--- a field that a key tells, and its key
-pub row-by-key : (s : ℕ) (f : Bytes) (k : ℕ) → Told f → k ≡ keyOf 0 f → rowBy k (rowsOf (sortAt s)) ≡ rowFor (sortAt s) f
-row-by-key s f k t e = ap (λ (j : ℕ). rowBy j (rowsOf (sortAt s))) e ∙ sym (by-key (rowsOf (sortAt s)) f (words-tell (sortAt s)) t)
+-- the row by a field's key is the field's
+pub row-by-key : (s : ℕ) (f : Bytes) (k : ℕ) → Keyed f k → rowBy k (rowsOf (sortAt s)) ≡ rowFor (sortAt s) f
+row-by-key s f k t = sym (by-key (rowsOf (sortAt s)) f k (words-tell (sortAt s)) t)
 
 -- what the key tells of the names is what the word does
-flag-is : (es : List Entry) (f : Bytes) (r : Row) → allTell es ≡ true → Told f → some r ≡ rowBy (keyOf 0 f) es → flagBy (keyOf 0 f) es ≡ flagOf f
+flag-is : (es : List Entry) (f : Bytes) (k : ℕ) (r : Row) → allTell es ≡ true → Keyed f k → some r ≡ rowBy k es → flagBy k es ≡ flagOf f
 unfolding allTell rowBy flagBy
-flag-is [] f r h t q = let z : _≡_ {A = ℕ} 0 1 = cc in absurd (omega arith)
-flag-is (e ∷ es) f r h t q = go (eqb (keyOf 0 f) (keyOf 0 (e .word))) refl (λ w. flag-is es f r (and-right (tells (e .word)) (allTell es) h) t w) q
+flag-is [] f k r h t q = let z : _≡_ {A = ℕ} 0 1 = cc in absurd (omega arith)
+flag-is (e ∷ es) f k r h t q = go (eqb k (keyOf 0 (e .word))) refl (λ w. flag-is es f k r (and-right (tells (e .word)) (allTell es) h) t w) q
   where
-    go : (b : Bool) → eqb (keyOf 0 f) (keyOf 0 (e .word)) ≡ b → (some r ≡ rowBy (keyOf 0 f) es → flagBy (keyOf 0 f) es ≡ flagOf f) → some r ≡ cond b (some (e .row)) (rowBy (keyOf 0 f) es) → cond b (flagOf (e .word)) (flagBy (keyOf 0 f) es) ≡ flagOf f
-    go true p on w = ap flagOf (sym (same-eq f (e .word) (same-by-key f (e .word) t (told (e .word) (and-left (tells (e .word)) (allTell es) h)) ∙ p)))
+    go : (b : Bool) → eqb k (keyOf 0 (e .word)) ≡ b → (some r ≡ rowBy k es → flagBy k es ≡ flagOf f) → some r ≡ cond b (some (e .row)) (rowBy k es) → cond b (flagOf (e .word)) (flagBy k es) ≡ flagOf f
+    go true p on w = ap flagOf (sym (same-eq f (e .word) (t (e .word) (told (e .word) (and-left (tells (e .word)) (allTell es) h)) ∙ p)))
     go false p on w = on w
 
-pub flag-by-key : (s : ℕ) (f : Bytes) (k : ℕ) (r : Found) → Told f → k ≡ keyOf 0 f → rowFound r ≡ rowBy k (rowsOf (sortAt s)) → Flagged k (rowsOf (sortAt s)) r → Flags f r
-flag-by-key s f k (Is c) t e w q =
-    q ∙ ap (λ (j : ℕ). flagBy j (rowsOf (sortAt s))) e ∙ flag-is (rowsOf (sortAt s)) f (rowOf c) (words-tell (sortAt s)) t (w ∙ ap (λ (j : ℕ). rowBy j (rowsOf (sortAt s))) e)
-flag-by-key s f k None t e w q = tt
-
-too-long : (s : ℕ) (f : Bytes) → 8 < length f → none ≡ rowFor (sortAt s) f
-too-long s f h = sym (no-row (rowsOf (sortAt s)) f (words-tell (sortAt s)) (λ w t. let k = t .long in same-long f w (λ e. omega arith)))
-
--- no word begins with byte 0, or is empty
-no-first : (s : ℕ) (f : Bytes) → getD f 0 0 ≡ 0 → none ≡ rowFor (sortAt s) f
-no-first s f h = sym (no-row (rowsOf (sortAt s)) f (words-tell (sortAt s)) λ w t. go w t (same f w) refl)
-  where
-    go : (w : Bytes) → Told w → (b : Bool) → same f w ≡ b → b ≡ false
-    go w t true e = absurd (t .first (ap (λ (l : Bytes). getD l 0 0) (sym (same-eq f w e)) ∙ h))
-    go w t false e = refl
-
-no-bytes : (f : Bytes) → length f ≡ 0 → getD f 0 0 ≡ 0
-no-bytes [] h = refl
-no-bytes (x ∷ xs) h = absurd (omega arith)
-
--- ---- a word that was read at a place, by what the code tests
-
-module _ (s : Bytes) (from : ℕ) (w : Word) (low : from ≤ w .end) (high : w .end ≤ length s) where
-  word-long : length (part from (w .end) s) ≡ w .end - from
-  word-long = simp (length-take, length-drop) (omega arith)
-
-  word-first : from < w .end → getD (part from (w .end) s) 0 0 ≡ getD s from 0
-  word-first h =
-      let e : from + 0 ≡ from = omega arith in
-      getD-take (w .end - from) (drop from s) 0 0 (omega arith) ∙ getD-drop from s 0 0 ∙ ap (λ (i : ℕ). getD s i 0) e
-
-  pub word-too-long : (sort : ℕ) → 8 < w .end - from → none ≡ rowFor (sortAt sort) (part from (w .end) s)
-  word-too-long sort h = too-long sort _ (rw word-long h)
-
-  pub word-empty : (sort : ℕ) → w .end - from ≡ 0 → none ≡ rowFor (sortAt sort) (part from (w .end) s)
-  word-empty sort h = no-first sort _ (no-bytes (part from (w .end) s) (word-long ∙ h))
-
-  module _ (some : w .end - from ≡ 0 → ⊥) where
-    pub word-zero : (sort : ℕ) → getD s from 0 ≡ 0 → none ≡ rowFor (sortAt sort) (part from (w .end) s)
-    word-zero sort h = no-first sort _ (word-first (omega arith) ∙ h)
-
-    pub word-told : w .end - from ≤ 8 → (getD s from 0 ≡ 0 → ⊥) → Spells s from w → Told (part from (w .end) s)
-    word-told l n p = record { first = λ e. n (sym (word-first (omega arith)) ∙ e); long = rw word-long l; small = p .small }
+pub flag-by-key : (s : ℕ) (f : Bytes) (k : ℕ) (r : Found) → Keyed f k → rowFound r ≡ rowBy k (rowsOf (sortAt s)) → Flagged k (rowsOf (sortAt s)) r → Flags f r
+flag-by-key s f k (Is c) t w q = q ∙ flag-is (rowsOf (sortAt s)) f k (rowOf c) (words-tell (sortAt s)) t w
+flag-by-key s f k None t w q = tt
 
 -- ---- a key that is none of the words'
 
@@ -187,3 +141,40 @@ past s i (suc n) B l h =
 
 pub last-sort : (s : ℕ) (B : Type 0) → s < 12 → Past s 0 11 B → s ≡ 11
 last-sort s B h r = let l : 0 + 11 ≤ s = past s 0 11 B zero-le r in omega arith
+
+-- ---- words that are tested by their keys
+
+module _ (f : Bytes) (k : ℕ) (h : Keyed f k) (w : Bytes) (t : tells w ≡ true) where
+  pub same-key : k ≡ keyOf 0 w → same f w ≡ true
+  same-key e = h w (told w t) ∙ eq-eqb k (keyOf 0 w) e
+
+  pub is-word : k ≡ keyOf 0 w → f ≡ w
+  is-word e = same-eq f w (same-key e)
+
+  pub other-key : (k ≡ keyOf 0 w → ⊥) → same f w ≡ false
+  other-key n = h w (told w t) ∙ ne-eqb k (keyOf 0 w) n
+
+unfoldable pub allWords : List Bytes → Bool
+unfolding tells
+allWords [] = true
+allWords (w ∷ ws) = tells w && allWords ws
+
+-- a field is one of these words as its key is one of theirs
+pub in-by-key : (f : Bytes) (k : ℕ) → Keyed f k → (ws : List Bytes) → allWords ws ≡ true → mem f ws ≡ keyIn k ws
+unfolding allWords keyIn mem
+in-by-key f k h [] t = refl
+in-by-key f k h (w ∷ ws) t = rw (h w (told w (and-left (tells w) (allWords ws) t)), in-by-key f k h ws (and-right (tells w) (allWords ws) t)) refl
+
+-- the key is that of none of these words, behind what is known already
+abbrev pub OtherWords : ℕ → List Bytes → Type 0 → Type 0
+OtherWords k [] B = B
+OtherWords k (w ∷ ws) B = OtherWords k ws (B × (k ≡ keyOf 0 w → ⊥))
+
+before-words : (k : ℕ) (ws : List Bytes) (B : Type 0) → OtherWords k ws B → B
+before-words k [] B h = h
+before-words k (w ∷ ws) B h = before-words k ws (B × (k ≡ keyOf 0 w → ⊥)) h .0
+
+pub not-in : (k : ℕ) (ws : List Bytes) (B : Type 0) → OtherWords k ws B → false ≡ keyIn k ws
+unfolding keyIn
+not-in k [] B h = refl
+not-in k (w ∷ ws) B h = rw (ne-eqb k (keyOf 0 w) (before-words k ws (B × (k ≡ keyOf 0 w → ⊥)) h .1)) (not-in k ws (B × (k ≡ keyOf 0 w → ⊥)) h)

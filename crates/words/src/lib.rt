@@ -1,5 +1,6 @@
 // The one table of words: the fields of a line that begins with each word, and the lines that come below it.
 mod codes;
+pub mod keys;
 mod rows;
 
 use crate::rows::row_of;
@@ -7,10 +8,10 @@ use text::equal;
 ghost use mathlib.Core.Path.{_≡_};
 ghost use Prim.Native.Nat.{_≤_, _<_};
 ghost use lib.ListN.{length, getD};
-ghost use Rattle.text.specs.Text.{same, part, First};
+ghost use Rattle.text.specs.Text.{Bytes, same, part, First};
 ghost use Rattle.algebra.specs.bridge.Table.{rowFor};
 ghost use Rattle.words.specs.bridge.Code.{domainAt, found, rowFound, sortAt, Tidy, Flags, extraFound, extraOf, extras};
-ghost use Rattle.words.specs.bridge.Key.{Spells};
+ghost use Rattle.words.specs.bridge.Key.{Spells, Keyed};
 
 // What a word says of its line: its fields, a byte each, from the lowest on; what stands behind them; what it means for the names of its line
 // and of its last pattern; and the groups of lines below, nine bits each, from the lowest on. `specs/bridge/Code.antt` says what each number means.
@@ -65,14 +66,14 @@ fn wide(x: u8) -> u64
     x as u64
 }
 
-// A word at the head of a line: where it ends, and its bytes as one number, of more than eight the last eight.
+// A word at the head of a line: where it ends, and its key.
 pub struct Word {
     pub end: usize,
     pub key: u64,
 }
 
-// The word that starts at a place, up to a tab or where its line ends.
-pub fn word_at(s: &[u8], from: usize, to: usize) -> Word
+// The word that starts at a place, up to a tab or where its line ends, with its bytes as one number, of more than eight the last eight.
+fn spelled_at(s: &[u8], from: usize, to: usize) -> Word
     requires { ⌜ (from ≤ to) × (to ≤ length (now s)) ⌝ }
     ensures { λ r. ⌜ First 9 (now (s .entry)) from to (r .end) × Spells (now (s .entry)) from r ⌝ }
 {
@@ -86,6 +87,36 @@ pub fn word_at(s: &[u8], from: usize, to: usize) -> Word
         i += 1;
     }
     Word { end: i, key: k }
+}
+
+// The key of a word that was spelled: no word of the table is longer than eight bytes or begins with byte 0, and 0 is the key of none.
+fn key_of(s: &[u8], from: usize, w: Word) -> u64
+    requires { ⌜ (from ≤ w .end) × (w .end ≤ length (now s)) × Spells (now s) from w ⌝ }
+    ensures { λ r. ⌜ Keyed (part from (w .end) (now (s .entry))) r ⌝ }
+{
+    let size = w.end - from;
+    if 8 < size {
+        return 0;
+    }
+    if size == 0 {
+        return 0;
+    }
+    if s[from] == 0 {
+        return 0;
+    }
+    w.key
+}
+
+// The word that starts at a place, up to a tab or where its line ends.
+pub fn word_at(s: &[u8], from: usize, to: usize) -> Word
+    requires { ⌜ (from ≤ to) × (to ≤ length (now s)) ⌝ }
+    ensures { λ r. ⌜ First 9 (now (s .entry)) from to (r .end) × Keyed (part from (r .end) (now (s .entry))) (r .key) ⌝ }
+{
+    let w = spelled_at(s, from, to);
+    Word {
+        end: w.end,
+        key: key_of(s, from, w),
+    }
 }
 
 // The row that a number of the table is.
@@ -103,25 +134,14 @@ fn row_in(code: u64) -> Found
     })
 }
 
-// The row of a word that was read at a place, at the head of a line of a sort. No word is longer than eight bytes or begins with byte 0, so that its
-// key tells it.
-pub fn row_at(sort: u8, s: &[u8], from: usize, w: Word) -> Found
-    requires { ⌜ (sort < 12) × (from ≤ w .end) × (w .end ≤ length (now s)) × Spells (now s) from w ⌝ }
-    ensures { λ r. ⌜ rowFound r ≡ rowFor (sortAt sort) (part from (w .end) (now (s .entry))) ⌝ }
+// The row of a word by its key, at the head of a line of a sort.
+pub fn row_at(sort: u8, key: u64) -> Found
+    requires { ⌜ sort < 12 ⌝ }
+    ensures { λ r. ⌜ ((f : Bytes) → Keyed f key → rowFound r ≡ rowFor (sortAt sort) f) ⌝ }
     ensures tidy { λ r. ⌜ Tidy sort r ⌝ }
-    ensures flags { λ r. ⌜ Flags (part from (w .end) (now (s .entry))) r ⌝ }
+    ensures flags { λ r. ⌜ ((f : Bytes) → Keyed f key → Flags f r) ⌝ }
 {
-    let size = w.end - from;
-    if 8 < size {
-        return Found::None;
-    }
-    if size == 0 {
-        return Found::None;
-    }
-    if s[from] == 0 {
-        return Found::None;
-    }
-    row_in(row_of(sort, w.key))
+    row_in(row_of(sort, key))
 }
 
 // A field is the domain of a number. Each domain is a constant of its own: it is laid out only where it is compared.

@@ -1,5 +1,6 @@
 // The rows of the table, by the keys of the words of each sort: a row is one number, 0 where there is none.
 use crate::codes::*;
+use crate::keys;
 ghost use mathlib.Core.Path.{_≡_};
 ghost use Prim.Native.Nat.{_<_};
 ghost use Rattle.algebra.specs.bridge.Table.{rowsOf, triples, columns, patterns, expressions, rows, orders, aggregates, heads, sets, positions, valueRows, parts};
@@ -10,8 +11,7 @@ fn triple_row(key: u64) -> u64
     ensures { λ r. ⌜ (rowFound (found r) ≡ rowBy key (rowsOf triples)) × Flagged key (rowsOf triples) (found r) × Tidy 0 (found r) ⌝ }
 {
     match key {
-        // t
-        0x74 => OF_T,
+        keys::T => OF_T,
         _ => 0,
     }
 }
@@ -20,8 +20,7 @@ fn columns_row(key: u64) -> u64
     ensures { λ r. ⌜ (rowFound (found r) ≡ rowBy key (rowsOf columns)) × Flagged key (rowsOf columns) (found r) × Tidy 1 (found r) ⌝ }
 {
     match key {
-        // cols
-        0x636f6c73 => OF_COLS,
+        keys::COLS => OF_COLS,
         _ => 0,
     }
 }
@@ -30,40 +29,23 @@ fn pattern_row(key: u64) -> u64
     ensures { λ r. ⌜ (rowFound (found r) ≡ rowBy key (rowsOf patterns)) × Flagged key (rowsOf patterns) (found r) × Tidy 2 (found r) ⌝ }
 {
     match key {
-        // bgp
-        0x626770 => OF_BGP,
-        // path
-        0x70617468 => OF_PATH,
-        // join
-        0x6a6f696e => OF_JOIN,
-        // union
-        0x756e696f6e => OF_UNION,
-        // minus
-        0x6d696e7573 => OF_MINUS,
-        // leftjoin
-        0x6c6566746a6f696e => OF_LEFTJOIN,
-        // filter
-        0x66696c746572 => OF_FILTER,
-        // graph
-        0x6772617068 => OF_GRAPH,
-        // extend
-        0x657874656e64 => OF_EXTEND,
-        // values
-        0x76616c756573 => OF_VALUES,
-        // orderby
-        0x6f726465726279 => OF_ORDERBY,
-        // project
-        0x70726f6a656374 => OF_PROJECT,
-        // distinct
-        0x64697374696e6374 => OF_DISTINCT,
-        // reduced
-        0x72656475636564 => OF_REDUCED,
-        // slice
-        0x736c696365 => OF_SLICE,
-        // group
-        0x67726f7570 => OF_GROUP,
-        // service
-        0x73657276696365 => OF_SERVICE,
+        keys::BGP => OF_BGP,
+        keys::PATH => OF_PATH,
+        keys::JOIN => OF_JOIN,
+        keys::UNION => OF_UNION,
+        keys::MINUS => OF_MINUS,
+        keys::LEFTJOIN => OF_LEFTJOIN,
+        keys::FILTER => OF_FILTER,
+        keys::GRAPH => OF_GRAPH,
+        keys::EXTEND => OF_EXTEND,
+        keys::VALUES => OF_VALUES,
+        keys::ORDERBY => OF_ORDERBY,
+        keys::PROJECT => OF_PROJECT,
+        keys::DISTINCT => OF_DISTINCT,
+        keys::REDUCED => OF_REDUCED,
+        keys::SLICE => OF_SLICE,
+        keys::GROUP => OF_GROUP,
+        keys::SERVICE => OF_SERVICE,
         _ => 0,
     }
 }
@@ -72,50 +54,28 @@ fn expression_row(key: u64) -> u64
     ensures { λ r. ⌜ (rowFound (found r) ≡ rowBy key (rowsOf expressions)) × Flagged key (rowsOf expressions) (found r) × Tidy 3 (found r) ⌝ }
 {
     match key {
-        // term
-        0x7465726d => OF_TERM,
-        // bound
-        0x626f756e64 => OF_BOUND,
-        // exists
-        0x657869737473 => OF_EXISTS,
-        // call
-        0x63616c6c => OF_CALL,
-        // or
-        0x6f72 => OF_OR,
-        // and
-        0x616e64 => OF_AND,
-        // eq
-        0x6571 => OF_EQ,
-        // same
-        0x73616d65 => OF_SAME,
-        // gt
-        0x6774 => OF_GT,
-        // ge
-        0x6765 => OF_GE,
-        // lt
-        0x6c74 => OF_LT,
-        // le
-        0x6c65 => OF_LE,
-        // add
-        0x616464 => OF_ADD,
-        // sub
-        0x737562 => OF_SUB,
-        // mul
-        0x6d756c => OF_MUL,
-        // div
-        0x646976 => OF_DIV,
-        // in
-        0x696e => OF_IN,
-        // plus
-        0x706c7573 => OF_PLUS,
-        // neg
-        0x6e6567 => OF_NEG,
-        // not
-        0x6e6f74 => OF_NOT,
-        // if
-        0x6966 => OF_IF,
-        // coalesce
-        0x636f616c65736365 => OF_COALESCE,
+        keys::TERM => OF_TERM,
+        keys::BOUND => OF_BOUND,
+        keys::EXISTS => OF_EXISTS,
+        keys::CALL => OF_CALL,
+        keys::OR => OF_OR,
+        keys::AND => OF_AND,
+        keys::EQ => OF_EQ,
+        keys::SAME => OF_SAME,
+        keys::GT => OF_GT,
+        keys::GE => OF_GE,
+        keys::LT => OF_LT,
+        keys::LE => OF_LE,
+        keys::ADD => OF_ADD,
+        keys::SUB => OF_SUB,
+        keys::MUL => OF_MUL,
+        keys::DIV => OF_DIV,
+        keys::IN => OF_IN,
+        keys::PLUS => OF_PLUS,
+        keys::NEG => OF_NEG,
+        keys::NOT => OF_NOT,
+        keys::IF => OF_IF,
+        keys::COALESCE => OF_COALESCE,
         _ => 0,
     }
 }
@@ -124,8 +84,7 @@ fn cells_row(key: u64) -> u64
     ensures { λ r. ⌜ (rowFound (found r) ≡ rowBy key (rowsOf rows)) × Flagged key (rowsOf rows) (found r) × Tidy 4 (found r) ⌝ }
 {
     match key {
-        // row
-        0x726f77 => OF_ROW,
+        keys::ROW => OF_ROW,
         _ => 0,
     }
 }
@@ -134,10 +93,8 @@ fn order_row(key: u64) -> u64
     ensures { λ r. ⌜ (rowFound (found r) ≡ rowBy key (rowsOf orders)) × Flagged key (rowsOf orders) (found r) × Tidy 5 (found r) ⌝ }
 {
     match key {
-        // asc
-        0x617363 => OF_ASC,
-        // desc
-        0x64657363 => OF_DESC,
+        keys::ASC => OF_ASC,
+        keys::DESC => OF_DESC,
         _ => 0,
     }
 }
@@ -146,10 +103,8 @@ fn aggregate_row(key: u64) -> u64
     ensures { λ r. ⌜ (rowFound (found r) ≡ rowBy key (rowsOf aggregates)) × Flagged key (rowsOf aggregates) (found r) × Tidy 6 (found r) ⌝ }
 {
     match key {
-        // agg
-        0x616767 => OF_AGG,
-        // aggall
-        0x616767616c6c => OF_AGGALL,
+        keys::AGG => OF_AGG,
+        keys::AGGALL => OF_AGGALL,
         _ => 0,
     }
 }
@@ -158,8 +113,7 @@ fn head_row(key: u64) -> u64
     ensures { λ r. ⌜ (rowFound (found r) ≡ rowBy key (rowsOf heads)) × Flagged key (rowsOf heads) (found r) × Tidy 7 (found r) ⌝ }
 {
     match key {
-        // query
-        0x7175657279 => OF_QUERY,
+        keys::QUERY => OF_QUERY,
         _ => 0,
     }
 }
@@ -168,8 +122,7 @@ fn set_row(key: u64) -> u64
     ensures { λ r. ⌜ (rowFound (found r) ≡ rowBy key (rowsOf sets)) × Flagged key (rowsOf sets) (found r) × Tidy 8 (found r) ⌝ }
 {
     match key {
-        // set
-        0x736574 => OF_SET,
+        keys::SET => OF_SET,
         _ => 0,
     }
 }
@@ -178,8 +131,7 @@ fn positions_row(key: u64) -> u64
     ensures { λ r. ⌜ (rowFound (found r) ≡ rowBy key (rowsOf positions)) × Flagged key (rowsOf positions) (found r) × Tidy 9 (found r) ⌝ }
 {
     match key {
-        // at
-        0x6174 => OF_AT,
+        keys::AT => OF_AT,
         _ => 0,
     }
 }
@@ -188,8 +140,7 @@ fn values_row(key: u64) -> u64
     ensures { λ r. ⌜ (rowFound (found r) ≡ rowBy key (rowsOf valueRows)) × Flagged key (rowsOf valueRows) (found r) × Tidy 10 (found r) ⌝ }
 {
     match key {
-        // row
-        0x726f77 => OF_VALUE_ROW,
+        keys::ROW => OF_VALUE_ROW,
         _ => 0,
     }
 }
@@ -198,18 +149,12 @@ fn part_row(key: u64) -> u64
     ensures { λ r. ⌜ (rowFound (found r) ≡ rowBy key (rowsOf parts)) × Flagged key (rowsOf parts) (found r) × Tidy 11 (found r) ⌝ }
 {
     match key {
-        // leaf
-        0x6c656166 => OF_LEAF,
-        // ref
-        0x726566 => OF_REF,
-        // un
-        0x756e => OF_UN,
-        // bin
-        0x62696e => OF_BIN,
-        // tern
-        0x7465726e => OF_TERN,
-        // nary
-        0x6e617279 => OF_NARY,
+        keys::LEAF => OF_LEAF,
+        keys::REF => OF_REF,
+        keys::UN => OF_UN,
+        keys::BIN => OF_BIN,
+        keys::TERN => OF_TERN,
+        keys::NARY => OF_NARY,
         _ => 0,
     }
 }

@@ -1,9 +1,8 @@
 -- What the cursor's steps find. Assumes nothing.
-use Prim.Native.Nat.{ℕ, _+_, _-_, _≤_, _<_}
+use Prim.Native.Nat.{ℕ, _+_, _<_}
 use mathlib.Core.Path.{_≡_}
-use mathlib.Core.List.{List, [], _∷_}
-use mathlib.Core.Bool.{Bool, true, false, cond}
-use lib.ListN.{getD}
+use mathlib.Core.List.{List, []}
+use mathlib.Core.Bool.{cond}
 use lib.Dec.{leb}
 use Rattle.text.specs.Text.{Bytes, split, part, First}
 use Rattle.cursor.specs.declared.Cursor.{Cursor}
@@ -16,11 +15,5 @@ left s at end = cond (leb at end) (split 9 (part at end s)) []
 
 -- a field up to its tab or the line's end, and the cursor behind it; or none is left
 unfoldable pub Reads : Bytes → Cursor → Field → Type 0
-Reads s c (At e d) = First 9 s (c .at) (c .end) e × (d .at ≡ e + 1) × (d .end ≡ c .end) × (d .height ≡ c .height)
+Reads s c (At e d) = First 9 s (c .at) (c .end) e × (d .at ≡ e + 1) × (d .end ≡ c .end) × (d .awaited ≡ c .awaited)
 Reads s c None = c .end < c .at
-
--- of the first h counts, those from r on are 0, and the one below r is not
-pub record Settled (counts : List ℕ) (h r : ℕ) : Type 0 where
-  pub high : r ≤ h
-  pub above : (k : ℕ) → k < h → r ≤ k → getD counts k 0 ≡ 0
-  pub waits : (i : ℕ) → r ≡ i + 1 → getD counts i 0 ≡ 0 → ⊥

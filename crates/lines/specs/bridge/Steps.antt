@@ -22,7 +22,7 @@ leftAt s c = left s (c .at) (c .end)
 
 -- the same line
 abbrev pub Along : Cursor → Cursor → Type 0
-Along c d = (d .end ≡ c .end) × (d .height ≡ c .height)
+Along c d = (d .end ≡ c .end) × (d .awaited ≡ c .awaited)
 
 -- the cursor d stands behind what was taken from c on, before the fields that are left; or, where nothing could be taken, two past the end
 unfoldable pub Follows : Bytes → Cursor → Option (List Bytes) → Cursor → Type 0

@@ -1,12 +1,13 @@
 -- Where a pattern's lines end. Assumes nothing.
 use Prim.Native.Nat.{ℕ, _≤_}
 use mathlib.Core.Path.{_≡_}
-use mathlib.Core.Bool.{Bool, true, false, cond, _||_}
+use mathlib.Core.Bool.{Bool, true, false, cond}
 use mathlib.Core.List.{List, [], _∷_, _++_}
 use lib.ListN.{length}
 use Rattle.text.specs.Text.{Bytes, Line, same, textOf, part, linesFrom}
 use Rattle.text.specs.Word.{bytes}
 use Rattle.text.proofs.Texts.{Ended}
+use Rattle.algebra.specs.Valid.{mem}
 use Rattle.negating.specs.bridge.Lines.{word}
 use Rattle.filtering.specs.bridge.Copying.{copying}
 
@@ -16,13 +17,16 @@ pub record EndsAt (s : Bytes) (from to : ℕ) : Type 0 where
   pub high : to ≤ length s
   pub copied : Ended (linesFrom s from) → (v : List Line) → textOf (copying (linesFrom s from) 1 v) ≡ part from to s ++ textOf v
 
--- a line with this word has a pattern below it and nothing else
+-- a line with one of these words has a pattern below it and nothing else
+abbrev pub bare : List Bytes
+bare = bytes "distinct" ∷ bytes "reduced" ∷ bytes "slice" ∷ []
+
 unfoldable pub isBare : Bytes → Bool
-unfolding same
-isBare w = same w (bytes "distinct") || (same w (bytes "reduced") || same w (bytes "slice"))
+unfolding mem same
+isBare w = mem w bare
 
 -- only such lines stand above the outermost projection's
 unfoldable pub bareDown : List Line → Bool
-unfolding isBare same
+unfolding isBare mem same
 bareDown [] = false
 bareDown (l ∷ ls) = cond (same (word l) (bytes "project")) true (cond (isBare (word l)) (bareDown ls) false)

@@ -1,9 +1,9 @@
--- How the code keeps the names of the table and what they become, and where a line ends. Assumes nothing.
+-- How the code keeps the names of the table and what they become. Assumes nothing.
 use Prim.Native.Nat.{ℕ, _≤_, _<_}
 use mathlib.Core.Path.{_≡_}
 use mathlib.Core.List.{List, []}
 use lib.ListN.{length, getD}
-use Rattle.text.specs.Text.{Bytes, First}
+use Rattle.text.specs.Text.{Bytes}
 use Rattle.names.specs.bridge.Names.{listing, Hinted}
 use Rattle.scoping.specs.Sets.{Once}
 use Rattle.scoping.specs.bridge.Becomes.{replacement}
@@ -17,12 +17,6 @@ pub record Named (s : Bytes) (starts sizes hints : List ℕ) (n : ℕ) : Type 0 
 -- what the names of the table become
 abbrev pub renames : Bytes → List ℕ → List ℕ → ℕ → Bytes → List ℕ → List ℕ → Bytes → Bytes
 renames s starts sizes n pool targets spans = replacement (listing s starts sizes n) pool targets spans
-
--- the line that starts here ends at r; or r is the text's end, and no line that is ended starts here
-pub record LineEnd (s : Bytes) (from r : ℕ) : Type 0 where
-  pub high : r ≤ length s
-  pub ends : r < length s → First 10 s from (length s) r
-  pub none : r ≡ length s → (length s ≤ from → ⊥) → First 10 s from (length s) r
 
 -- the first k entries of an array of variables name entries of a table with n
 pub record Inside (n : ℕ) (a : List (List ℕ)) (k : ℕ) : Type 0 where

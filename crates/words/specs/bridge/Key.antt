@@ -1,11 +1,12 @@
 -- A word as one number, by which the code finds its row. Assumes nothing.
-use Prim.Native.Nat.{ℕ, _+_, _*_, _%_, _<_}
+use Prim.Native.Nat.{ℕ, _+_, _*_, _%_, _≤_, _<_}
 use mathlib.Core.Path.{_≡_}
-use mathlib.Core.Bool.{cond}
+use mathlib.Core.Bool.{Bool, false, cond, _||_}
 use mathlib.Core.List.{List, [], _∷_}
 use mathlib.Core.Option.{Option, none, some}
 use lib.Dec.{eqb}
-use Rattle.text.specs.Text.{Bytes, part}
+use lib.ListN.{length, getD}
+use Rattle.text.specs.Text.{Bytes, same, part}
 use Rattle.algebra.specs.bridge.Table.{Row, Entry}
 use Rattle.words.specs.declared.Word.{Word}
 use Rattle.words.specs.declared.Found.{Found}
@@ -26,6 +27,22 @@ Small (x ∷ xs) = (x < 256) × Small xs
 pub record Spells (s : Bytes) (from : ℕ) (w : Word) : Type 0 where
   pub key : w .key ≡ keyOf 0 (part from (w .end) s)
   pub small : Small (part from (w .end) s)
+
+-- a word that a key tells: eight bytes at most, of which the first is not 0
+pub record Told (f : Bytes) : Type 0 where
+  pub first : getD f 0 0 ≡ 0 → ⊥
+  pub long : length f ≤ 8
+  pub small : Small f
+
+-- a key by which a field is held to every such word
+abbrev pub Keyed : Bytes → ℕ → Type 0
+Keyed f k = (w : Bytes) → Told w → same f w ≡ eqb k (keyOf 0 w)
+
+-- one of these words has this key
+unfoldable pub keyIn : ℕ → List Bytes → Bool
+unfolding keyOf
+keyIn k [] = false
+keyIn k (w ∷ ws) = eqb k (keyOf 0 w) || keyIn k ws
 
 -- the first row whose word has this key
 unfoldable pub rowBy : ℕ → List Entry → Option Row

@@ -7,7 +7,7 @@ use lib.ListN.{length, getD, take, drop, length-set}
 use Rattle.cursor.specs.bridge.Cursor.{left as fieldsLeft}
 use Rattle.emit.specs.bridge.Emit.{em, puts}
 use Rattle.walking.specs.bridge.Walk.{tabbed}
-use Rattle.names.specs.bridge.Names.{listing}
+use Rattle.placing.specs.bridge.Fields.{columnsIn}
 use Rattle.filtering.specs.bridge.SetLines.{cellsFrom, valuesLine}
 use Rattle.binding.specs.bridge.Bound.{boundFrom}
 use Rattle.binding.proofs.Valued as Vd
@@ -15,11 +15,11 @@ use Rattle.binding.proofs.values.put_bound.Statement.{statement}
 use Rattle.binding.proofs.values.put_bound.Tie as tie
 
 abbrev Inv-loop : tie.InvT-loop
-Inv-loop tree starts sizes n sets from end out₀ at to₀ next₀ out to next =
-    (length out ≡ length out₀) × (next ≤ end + 1) × (puts (tabbed (boundFrom (listing tree starts sizes n) (fieldsLeft sets next end))) (em to out) ≡ puts (tabbed (boundFrom (listing tree starts sizes n) (fieldsLeft sets from end))) (em at out₀))
+Inv-loop tree columns n sets from end out₀ at to₀ next₀ out to next =
+    (length out ≡ length out₀) × (next ≤ end + 1) × (puts (tabbed (boundFrom (columnsIn tree columns n) (fieldsLeft sets next end))) (em to out) ≡ puts (tabbed (boundFrom (columnsIn tree columns n) (fieldsLeft sets from end))) (em at out₀))
 
 abbrev μ-loop : tie.MeasureT-loop
-μ-loop tree starts sizes n sets from end out₀ at to₀ next₀ out to next =
+μ-loop tree columns n sets from end out₀ at to₀ next₀ out to next =
     end + 1 - next
 
 pub put-bound-spec : {M : Type 1} → statement M
@@ -38,6 +38,6 @@ put-bound-spec =
     (λ c κs. search needs)
     (λ c κs. search needs)
     (λ c. let h = c .before .before .before .before .before .before .before .before .before .before .before .field-at .ensures .high in let w = c .before .before .before .before .before .before .before .before .before .before .before .field-at .ensures .low in let v = c .before .before .before .before .before .before .before .before .before .before .before .field-at .ensures .last in let u = c .before .before .before .before .before .before .before .before .before .before .before .field-at .ensures .more (c .before .before .before .before .before .before .before .before .before .before .before .before .loop-test .taken) in let z = c .before .before .before .before .before .before .before .before .before .before .before .field-at .ensures .after in omega arith)
-    (λ c. (search needs, c .before .before .before .before .before .before .before .before .before .before .before .field-at .ensures .last, Vd.bound-next (listing (c .before .before .before .before .before .before .before .before .before .before .before .before .before .before .before .before .before .args .tree .now) (c .before .before .before .before .before .before .before .before .before .before .before .before .before .before .before .before .before .args .starts .now) (c .before .before .before .before .before .before .before .before .before .before .before .before .before .before .before .before .before .args .sizes .now) (c .before .before .before .before .before .before .before .before .before .before .before .before .before .before .before .before .before .args .n)) _ _ _ (c .before .before .before .before .before .before .before .before .before .before .before .before .loop-test .taken) _ (c .before .before .before .before .before .before .before .before .before .before .before .field-at .ensures) _ (c .before .before .before .before .position-of .ensures .0) _ (c .before .before .before .column-at .ensures) _ _ _ (c .before .before .before .before .before .before .before .before .before .put .ensures) (c .before .before .put-all .ensures) ∙ c .before .before .before .before .before .before .before .before .before .before .before .before .before .loop .inv .2))
+    (λ c. (search needs, c .before .before .before .before .before .before .before .before .before .before .before .field-at .ensures .last, Vd.bound-next (columnsIn (c .before .before .before .before .before .before .before .before .before .before .before .before .before .before .before .before .before .args .tree .now) (c .before .before .before .before .before .before .before .before .before .before .before .before .before .before .before .before .before .args .columns .now) (c .before .before .before .before .before .before .before .before .before .before .before .before .before .before .before .before .before .args .n)) _ _ _ (c .before .before .before .before .before .before .before .before .before .before .before .before .loop-test .taken) _ (c .before .before .before .before .before .before .before .before .before .before .before .field-at .ensures) _ (c .before .before .before .before .position-of .ensures .0) _ (c .before .before .before .column-at .ensures) _ _ _ (c .before .before .before .before .before .before .before .before .before .put .ensures) (c .before .before .put-all .ensures) ∙ c .before .before .before .before .before .before .before .before .before .before .before .before .before .loop .inv .2))
     (λ c. c .before .loop .inv .0)
-    (λ c. sym (Vd.bound-done (listing (c .before .before .before .before .before .args .tree .now) (c .before .before .before .before .before .args .starts .now) (c .before .before .before .before .before .args .sizes .now) (c .before .before .before .before .before .args .n)) _ _ _ (c .loop-test .left) _) ∙ c .before .loop .inv .2))
+    (λ c. sym (Vd.bound-done (columnsIn (c .before .before .before .before .before .args .tree .now) (c .before .before .before .before .before .args .columns .now) (c .before .before .before .before .before .args .n)) _ _ _ (c .loop-test .left) _) ∙ c .before .loop .inv .2))

@@ -8,7 +8,7 @@ use Rattle.text.specs.Text.{linesFrom}
 use Rattle.text.proofs.Texts.{Ended}
 use Rattle.emit.specs.bridge.Emit.{em, puts}
 use Rattle.walking.specs.bridge.Walk.{tabbed}
-use Rattle.names.specs.bridge.Names.{listing}
+use Rattle.placing.specs.bridge.Fields.{columnsIn}
 use Rattle.filtering.specs.bridge.SetLines.{cellsFrom, valuesLine}
 use Rattle.binding.specs.bridge.Bound.{boundFrom}
 use Rattle.binding.proofs.Valued as Vd
@@ -16,11 +16,11 @@ use Rattle.binding.proofs.values.put_values.Statement.{statement}
 use Rattle.binding.proofs.values.put_values.Tie as tie
 
 abbrev Inv-loop : tie.InvT-loop
-Inv-loop tree starts sizes n sets out₀ at to₀ from₀ out to from =
-    (length out ≡ length out₀) × Ended (linesFrom sets from) × (puts (Vd.ValuesText (listing tree starts sizes n) (linesFrom sets from)) (em to out) ≡ puts (Vd.ValuesText (listing tree starts sizes n) (linesFrom sets 0)) (em at out₀))
+Inv-loop tree columns n sets out₀ at to₀ from₀ out to from =
+    (length out ≡ length out₀) × Ended (linesFrom sets from) × (puts (Vd.ValuesText (columnsIn tree columns n) (linesFrom sets from)) (em to out) ≡ puts (Vd.ValuesText (columnsIn tree columns n) (linesFrom sets 0)) (em at out₀))
 
 abbrev μ-loop : tie.MeasureT-loop
-μ-loop tree starts sizes n sets out₀ at to₀ from₀ out to from =
+μ-loop tree columns n sets out₀ at to₀ from₀ out to from =
     length sets - from
 
 pub put-values-spec : {M : Type 1} → statement M
@@ -37,6 +37,6 @@ put-values-spec =
     (λ c κs. search needs)
     (λ c. let h = c .before .before .before .before .before .before .before .before .before .line-end .ensures .high in let n = c .before .before .before .before .before .before .before .before .if1 .left in omega arith)
     (λ c. let h = c .before .before .before .before .before .before .before .before .before .line-end .ensures .high in let t = c .before .before .before .before .before .before .before .before .before .before .loop-test .taken in let l = c .before .before .before .before .before .before .before .before .before .line-end .ensures .ends (omega arith) .low in omega arith)
-    (λ c. (search needs, Vd.values-ended (listing (c .before .before .before .before .before .before .before .before .before .before .before .before .before .before .before .args .tree .now) (c .before .before .before .before .before .before .before .before .before .before .before .before .before .before .before .args .starts .now) (c .before .before .before .before .before .before .before .before .before .before .before .before .before .before .before .args .sizes .now) (c .before .before .before .before .before .before .before .before .before .before .before .before .before .before .before .args .n)) _ _ (em 0 (c .before .before .before .before .before .before .before .before .before .before .before .loop .out)) _ (c .before .before .before .before .before .before .before .before .before .line-end .ensures) (c .before .before .before .before .before .before .before .before .if1 .left) (c .before .before .before .before .before .before .before .before .before .before .before .loop .inv .1), Vd.values-next _ _ _ _ _ (c .before .before .before .before .before .before .before .before .before .line-end .ensures) (c .before .before .before .before .before .before .before .before .if1 .left) _ _ (c .before .before .before .before .before .before .put-fields .ensures) (c .before .before .put .ensures) ∙ c .before .before .before .before .before .before .before .before .before .before .before .loop .inv .2))
+    (λ c. (search needs, Vd.values-ended (columnsIn (c .before .before .before .before .before .before .before .before .before .before .before .before .before .before .before .args .tree .now) (c .before .before .before .before .before .before .before .before .before .before .before .before .before .before .before .args .columns .now) (c .before .before .before .before .before .before .before .before .before .before .before .before .before .before .before .args .n)) _ _ (em 0 (c .before .before .before .before .before .before .before .before .before .before .before .loop .out)) _ (c .before .before .before .before .before .before .before .before .before .line-end .ensures) (c .before .before .before .before .before .before .before .before .if1 .left) (c .before .before .before .before .before .before .before .before .before .before .before .loop .inv .1), Vd.values-next _ _ _ _ _ (c .before .before .before .before .before .before .before .before .before .line-end .ensures) (c .before .before .before .before .before .before .before .before .if1 .left) _ _ (c .before .before .before .before .before .before .put-fields .ensures) (c .before .before .put .ensures) ∙ c .before .before .before .before .before .before .before .before .before .before .before .loop .inv .2))
     (λ c. c .before .loop .inv .0)
     (λ c. sym (Vd.values-done _ _ _ _ (c .loop-test .left)) ∙ c .before .loop .inv .2))

@@ -13,4 +13,4 @@ next-field-spec =
     (λ c. c .if1 .taken)
     (λ c κs. search needs)
     (λ c. search needs)
-    (λ c. (c .find .ensures, refl, refl, refl)))
+    (λ c. (c .field-end .ensures, refl, refl, refl)))

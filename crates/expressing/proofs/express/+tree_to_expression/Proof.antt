@@ -6,7 +6,7 @@ use Prim.Native.Nat.{_+_, _-_}
 use lib.ListN.{length}
 use Rattle.text.specs.Text.{linesFrom, split, part}
 use Rattle.emit.specs.bridge.Emit.{em}
-use Rattle.names.specs.bridge.Names.{listing}
+use Rattle.placing.specs.bridge.Fields.{columnsIn}
 use Rattle.filtering.specs.bridge.FilterLines.{partsBelow, severalParts, treeToExpression}
 use Rattle.expressing.proofs.Expressed as X
 use Prim.Native.Nat.{ℕ, _<_}
@@ -18,44 +18,44 @@ use Rattle.expressing.proofs.express.+tree_to_expression.Lts-tree_to_ex
 use Rattle.expressing.proofs.head.parts_below.Reads as parts-below-reads
 use Rattle.expressing.proofs.head.put_head.Reads as put-head-reads
 use Rattle.placing.proofs.steps.both.Reads as both-reads
-use Rattle.text.proofs.find.Reads as find-reads
-use Rattle.walking.proofs.line.line_end.Reads as line-end-reads
+use Rattle.reader.proofs.line_end.Reads as line-end-reads
+use Rattle.words.proofs.word_at.Reads as word-at-reads
 use Rattle.expressing.proofs.express.+tree_to_expression.{statement}
 use Rattle.expressing.proofs.express.+tree_to_expression.Tie.{close}
 
-abbrev μ-tree-to-expression : Measures 5 tree-to-expression-kinds.ps ℕ
-μ-tree-to-expression κs a = a .1 .1 .1 .1 .1 .1 .0
+abbrev μ-tree-to-expression : Measures 4 tree-to-expression-kinds.ps ℕ
+μ-tree-to-expression κs a = a .1 .1 .1 .1 .1 .0
 
-abbrev tree-to-expression-at : ℕ → In 5 tree-to-expression-kinds.ps
+abbrev tree-to-expression-at : ℕ → In 4 tree-to-expression-kinds.ps
 tree-to-expression-at t =
     and
-    5
+    4
     tree-to-expression-kinds.ps
-    (is 5 tree-to-expression-kinds.ps μ-tree-to-expression t)
+    (is 4 tree-to-expression-kinds.ps μ-tree-to-expression t)
     tree-to-expression.Pre
 
-abbrev tree-to-expression-below : ℕ → In 5 tree-to-expression-kinds.ps
+abbrev tree-to-expression-below : ℕ → In 4 tree-to-expression-kinds.ps
 tree-to-expression-below t =
     and
-    5
+    4
     tree-to-expression-kinds.ps
-    (falls 5 tree-to-expression-kinds.ps _<_ μ-tree-to-expression t)
+    (falls 4 tree-to-expression-kinds.ps _<_ μ-tree-to-expression t)
     tree-to-expression.Pre
 
 abbrev tree-to-expression-Inv-loop : tree-to-expression-lts.InvT-loop
-tree-to-expression-Inv-loop tree starts sizes n filters from left out₀ at end word expressed₀ to₀ next₀ parts₀ out expressed to next parts =
-    (length out ≡ length out₀) × X.Going (treeToExpression (listing tree starts sizes n) (left - 1)) parts (linesFrom filters next) expressed (em to out) (severalParts (treeToExpression (listing tree starts sizes n) (left - 1)) (partsBelow (split 9 (part from end filters))) (linesFrom filters (end + 1))) expressed₀ (em to₀ out₀)
+tree-to-expression-Inv-loop tree columns n filters from left out₀ at end first expressed₀ to₀ next₀ parts₀ out expressed to next parts =
+    (length out ≡ length out₀) × X.Going (treeToExpression (columnsIn tree columns n) (left - 1)) parts (linesFrom filters next) expressed (em to out) (severalParts (treeToExpression (columnsIn tree columns n) (left - 1)) (partsBelow (split 9 (part from end filters))) (linesFrom filters (end + 1))) expressed₀ (em to₀ out₀)
 
 abbrev tree-to-expression-μ-loop : tree-to-expression-lts.MeasureT-loop
-tree-to-expression-μ-loop tree starts sizes n filters from left out₀ at end word expressed₀ to₀ next₀ parts₀ out expressed to next parts =
+tree-to-expression-μ-loop tree columns n filters from left out₀ at end first expressed₀ to₀ next₀ parts₀ out expressed to next parts =
     parts
 
 pub +tree-to-expression-spec : {M : Type 1} → statement M
 +tree-to-expression-spec = close μ-tree-to-expression λ t. tree-to-expression-lts.spec (
   line-end-reads.Asked,
   line-end-reads.Learnt,
-  find-reads.Asked,
-  find-reads.Learnt,
+  word-at-reads.Asked,
+  word-at-reads.Learnt,
   put-head-reads.Asked,
   put-head-reads.Learnt,
   parts-below-reads.Asked,
@@ -69,19 +69,20 @@ pub +tree-to-expression-spec : {M : Type 1} → statement M
     tree-to-expression.Post
     tree-to-expression-Inv-loop
     tree-to-expression-μ-loop
-    (λ c. X.none-left (listing (c .before .before .before .before .args .tree .now) (c .before .before .before .before .args .starts .now) (c .before .before .before .before .args .sizes .now) (c .before .before .before .before .args .n)) _ _ _ _ _ refl (c .if1 .taken) refl)
+    (λ c. let a = c .before .before .before .before .args in let cs = columnsIn (a .tree .now) (a .columns .now) (a .n) in X.none-left cs _ _ _ _ _ refl (c .if1 .taken) refl)
     (λ c κs. search needs)
-    (λ c. X.no-line (listing (c .before .before .before .before .before .before .args .tree .now) (c .before .before .before .before .before .before .args .starts .now) (c .before .before .before .before .before .before .args .sizes .now) (c .before .before .before .before .before .before .args .n)) _ _ _ _ _ refl (c .before .before .if1 .left) _ (c .before .line-end .ensures) (c .if2 .taken) refl)
-    (λ c κs. (X.line-low (listing (c .before .before .before .before .before .before .args .tree .now) (c .before .before .before .before .before .before .args .starts .now) (c .before .before .before .before .before .before .args .sizes .now) (c .before .before .before .before .before .before .args .n)) _ _ (c .before .before .before .before .before .before .args .left) _ (c .before .before .if1 .left) (c .before .line-end .ensures) (c .if2 .left), c .before .line-end .ensures .high))
-    (λ c κs. (c .before .before .before .before .before .before .before .before .pre .1, (X.line-low (listing (c .before .before .before .before .before .before .before .before .args .tree .now) (c .before .before .before .before .before .before .before .before .args .starts .now) (c .before .before .before .before .before .before .before .before .args .sizes .now) (c .before .before .before .before .before .before .before .before .args .n)) _ _ (c .before .before .before .before .before .before .before .before .args .left) _ (c .before .before .before .before .if1 .left) (c .before .before .before .line-end .ensures) (c .before .before .if2 .left)), let h = c .before .before .before .line-end .ensures .high in let n = c .before .before .if2 .left in omega arith, c .before .find .ensures))
-    (λ c. let h = c .before .before .before .before .before .before .line-end .ensures .high in let n = c .before .before .before .before .before .if2 .left in omega arith)
-    (λ c κs. ((X.line-low (listing (c .before .before .before .before .before .before .before .before .before .before .before .args .tree .now) (c .before .before .before .before .before .before .before .before .before .before .before .args .starts .now) (c .before .before .before .before .before .before .before .before .before .before .before .args .sizes .now) (c .before .before .before .before .before .before .before .before .before .before .before .args .n)) _ _ (c .before .before .before .before .before .before .before .before .before .before .before .args .left) _ (c .before .before .before .before .before .before .before .if1 .left) (c .before .before .before .before .before .before .line-end .ensures) (c .before .before .before .before .before .if2 .left)), let h = c .before .before .before .before .before .before .line-end .ensures .high in let n = c .before .before .before .before .before .if2 .left in omega arith, c .before .before .before .before .find .ensures))
-    (λ c. (refl, rw (c .parts-below .ensures) (X.going-start _ _ _ _ _)))
-    (λ c. let n = c .before .before .before .before .before .before .before .before .before .before .if1 .left in omega arith)
-    (λ c κs. let n = c .before .before .before .before .before .before .before .before .before .before .before .if1 .left in let m = c .before .before .before .before .before .before .before .before .before .before .before .before .before .before .before .pre .0 in (omega arith, c .before .before .before .before .before .before .before .before .before .before .before .before .before .before .before .pre .1))
+    (λ c. let a = c .before .before .before .before .before .before .args in let cs = columnsIn (a .tree .now) (a .columns .now) (a .n) in X.no-line cs _ _ _ _ _ refl (c .before .before .if1 .left) _ (c .before .line-end .ensures) (c .if2 .taken) refl)
+    (λ c κs. let a = c .before .before .before .before .before .before .args in let cs = columnsIn (a .tree .now) (a .columns .now) (a .n) in (X.line-low cs _ _ (a .left) _ (c .before .before .if1 .left) (c .before .line-end .ensures) (c .if2 .left), c .before .line-end .ensures .high))
+    (λ c. let h = c .before .before .before .line-end .ensures .high in let w = c .before .word-at .ensures .0 .high in omega arith)
+    (λ c κs. let h = c .before .before .before .before .line-end .ensures .high in let n = c .before .before .before .if2 .left in let w = c .before .before .word-at .ensures .0 .high in (c .before .before .before .before .before .before .before .before .before .pre .1, omega arith, omega arith))
+    (λ c. let h = c .before .before .before .before .before .before .before .line-end .ensures .high in let n = c .before .before .before .before .before .before .if2 .left in omega arith)
+    (λ c κs. let h = c .before .before .before .before .before .before .before .line-end .ensures .high in let n = c .before .before .before .before .before .before .if2 .left in omega arith)
+    (λ c. let a = c .before .before .before .before .before .before .before .before .before .before .before .before .before .args in let cs = columnsIn (a .tree .now) (a .columns .now) (a .n) in let w = c .before .before .before .before .before .before .word-at .ensures in (refl, rw (X.parts-here cs _ _ (a .left) _ (c .before .before .before .before .before .before .before .before .before .if1 .left) (c .before .before .before .before .before .before .before .before .line-end .ensures) (c .before .before .before .before .before .before .before .if2 .left) _ (w .0) _ (c .parts-below .ensures _ (w .1))) (X.going-start _ _ _ _ _)))
+    (λ c. let n = c .before .before .before .before .before .before .before .before .before .before .before .if1 .left in omega arith)
+    (λ c κs. let n = c .before .before .before .before .before .before .before .before .before .before .before .before .if1 .left in let m = c .before .before .before .before .before .before .before .before .before .before .before .before .before .before .before .before .pre .0 in (omega arith, c .before .before .before .before .before .before .before .before .before .before .before .before .before .before .before .before .pre .1))
     (λ c κs. search needs)
     (λ c. search needs)
     (λ c. search needs)
-    (λ c. (search needs, X.going-next _ _ _ _ _ _ _ _ _ (c .before .before .before .before .before .before .loop .inv .1) (c .before .before .before .before .before .loop-test .taken) _ _ (c .before .before .before .tree-to-expression .ensures) _ (c .both .ensures)))
+    (λ c. let l = c .before .before .before .before .before .before .loop .inv .1 in (search needs, X.going-next _ _ _ _ _ _ _ _ _ l (c .before .before .before .before .before .loop-test .taken) _ _ (c .before .before .before .tree-to-expression .ensures) _ (c .both .ensures)))
     (λ c. search needs)
-    (λ c. X.walked (listing (c .before .before .before .before .before .before .before .before .before .before .before .before .before .before .args .tree .now) (c .before .before .before .before .before .before .before .before .before .before .before .before .before .before .args .starts .now) (c .before .before .before .before .before .before .before .before .before .before .before .before .before .before .args .sizes .now) (c .before .before .before .before .before .before .before .before .before .before .before .before .before .before .args .n)) _ _ (c .before .before .before .before .before .before .before .before .before .before .before .before .before .before .args .left) _ (c .before .before .before .before .before .before .before .before .before .before .if1 .left) (c .before .before .before .before .before .before .before .before .before .line-end .ensures) (c .before .before .before .before .before .before .before .before .if2 .left) _ _ _ _ (c .before .before .before .before .before .put-head .ensures) _ (X.all-expressed _ _ _ _ _ _ _ _ _ (c .before .loop .inv .1) (c .loop-test .left)) (X.all-left _ _ _ _ _ _ _ _ _ (c .before .loop .inv .1) (c .loop-test .left)) (X.all-lines _ _ _ _ _ _ _ _ _ (c .before .loop .inv .1) (c .loop-test .left)))
+    (λ c. let a = c .before .before .before .before .before .before .before .before .before .before .before .before .before .before .before .args in let cs = columnsIn (a .tree .now) (a .columns .now) (a .n) in let w = c .before .before .before .before .before .before .before .before .word-at .ensures in let l = c .before .loop .inv .1 in let n = c .loop-test .left in X.walked cs _ _ (a .left) _ (c .before .before .before .before .before .before .before .before .before .before .before .if1 .left) (c .before .before .before .before .before .before .before .before .before .before .line-end .ensures) (c .before .before .before .before .before .before .before .before .before .if2 .left) _ _ _ _ (X.headed cs _ _ (a .left) _ (c .before .before .before .before .before .before .before .before .before .before .before .if1 .left) (c .before .before .before .before .before .before .before .before .before .before .line-end .ensures) (c .before .before .before .before .before .before .before .before .before .if2 .left) _ (w .0) _ _ _ (c .before .before .before .before .before .put-head .ensures _ (w .1))) _ (X.all-expressed _ _ _ _ _ _ _ _ _ l n) (X.all-left _ _ _ _ _ _ _ _ _ l n) (X.all-lines _ _ _ _ _ _ _ _ _ l n))

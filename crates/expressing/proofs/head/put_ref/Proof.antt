@@ -1,7 +1,7 @@
 -- `expressing::head/put_ref` meets its contract. Assumes nothing.
 use borrow.Author.Needs.{needs}
 use native.Mathlib.Omega.{arith}
-use Rattle.names.specs.bridge.Names.{listing}
+use Rattle.placing.specs.bridge.Fields.{columnsIn}
 use Rattle.expressing.proofs.Headed as H
 use Rattle.expressing.proofs.head.put_ref.Statement.{statement}
 use Rattle.expressing.proofs.head.put_ref.Tie as tie
@@ -21,4 +21,4 @@ put-ref-spec =
     (λ c κs. search needs)
     (λ c κs. search needs)
     (λ c. search needs)
-    (λ c. H.ref-put _ _ _ _ (c .before .before .before .before .before .before .before .before .before .before .before .before .before .before .before .before .field-at .ensures) (listing (c .before .before .before .before .before .before .before .before .before .before .before .before .before .before .before .before .before .before .before .before .args .tree .now) (c .before .before .before .before .before .before .before .before .before .before .before .before .before .before .before .before .before .before .before .before .args .starts .now) (c .before .before .before .before .before .before .before .before .before .before .before .before .before .before .before .before .before .before .before .before .args .sizes .now) (c .before .before .before .before .before .before .before .before .before .before .before .before .before .before .before .before .before .before .before .before .args .n)) _ (c .before .before .before .before .before .before .before .before .position-of .ensures .0) _ (c .before .before .before .before .before .before .before .column-at .ensures) _ _ _ _ (c .before .before .before .before .before .before .before .before .before .before .before .before .before .put-all .ensures) (c .before .before .before .before .before .before .put-all2 .ensures) (c .before .before .put .ensures)))
+    (λ c. H.ref-put _ _ _ _ (c .before .before .before .before .before .before .before .before .before .before .before .before .before .before .before .before .field-at .ensures) (columnsIn (c .before .before .before .before .before .before .before .before .before .before .before .before .before .before .before .before .before .before .before .before .args .tree .now) (c .before .before .before .before .before .before .before .before .before .before .before .before .before .before .before .before .before .before .before .before .args .columns .now) (c .before .before .before .before .before .before .before .before .before .before .before .before .before .before .before .before .before .before .before .before .args .n)) _ (c .before .before .before .before .before .before .before .before .position-of .ensures .0) _ (c .before .before .before .before .before .before .before .column-at .ensures) _ _ _ _ (c .before .before .before .before .before .before .before .before .before .before .before .before .before .put-all .ensures) (c .before .before .before .before .before .before .put-all2 .ensures) (c .before .before .put .ensures)))

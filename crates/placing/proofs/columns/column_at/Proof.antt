@@ -1,5 +1,6 @@
 -- `placing::columns/column_at` meets its contract. Assumes nothing.
 use borrow.Author.Needs.{needs}
+use mathlib.Core.Path.{sym}
 use Rattle.placing.proofs.Listed as L
 use Rattle.placing.proofs.columns.column_at.Statement.{statement}
 use Rattle.placing.proofs.columns.column_at.Tie as tie
@@ -12,9 +13,9 @@ column-at-spec =
     (λ c. L.column-none _ _ _ _ _ (c .before .if1 .taken))
     (λ c. search needs)
     (λ c. search needs)
-    (λ c κs. search needs)
-    (λ c. search needs)
     (λ c. search needs)
     (λ c κs. search needs)
+    (λ c. search needs)
     (λ c κs. search needs)
-    (λ c. L.column-is _ _ _ _ _ _ _ (c .before .before .before .before .before .if1 .left) (c .before .before .before .wide .ensures) (c .before .wide2 .ensures) _ (c .piece .ensures)))
+    (λ c κs. search needs)
+    (λ c. L.column-at-is _ (c .before .before .before .before .before .before .args .columns .now) _ _ _ _ (c .before .before .before .before .if1 .left) (c .before .before .wide .ensures) (c .before .wide2 .ensures) _ (c .piece .ensures)))

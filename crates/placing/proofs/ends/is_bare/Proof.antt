@@ -1,21 +1,17 @@
--- `placing::ends/is_bare` meets its contract. Assumes nothing.
-use borrow.Author.Needs.{needs}
-use Rattle.text.proofs.Tests as T
-use Rattle.placing.specs.bridge.Ends.{isBare}
+-- `placing::ends/is_bare` meets its contract: each arm computes. Assumes nothing.
+use mathlib.Core.Path.{sym, ap}
+use Rattle.words.specs.bridge.Key.{keyOf, keyIn}
+use Rattle.words.proofs.ByKey.{not-in}
+use Rattle.placing.specs.bridge.Ends.{bare}
 use Rattle.placing.proofs.ends.is_bare.Statement.{statement}
 use Rattle.placing.proofs.ends.is_bare.Tie as tie
 
 pub is-bare-spec : {M : Type 1} → statement M
-unfolding isBare
+unfolding keyOf keyIn
 is-bare-spec =
     tie.close
     (tie.spec
-    (λ c. search needs)
-    (λ c κs. search needs)
-    (λ c. T.or-left _ _ _ (c .before .equal .ensures) (c .if1 .taken))
-    (λ c. search needs)
-    (λ c κs. search needs)
-    (λ c. T.or-right _ _ _ _ (c .before .before .before .before .equal .ensures) (c .before .before .before .if1 .left) (T.or-left _ _ _ (c .before .equal2 .ensures) (c .if2 .taken)))
-    (λ c. search needs)
-    (λ c κs. search needs)
-    (λ c. T.or-right _ _ _ _ (c .before .before .before .before .before .before .equal .ensures) (c .before .before .before .before .before .if1 .left) (T.or-right _ _ _ _ (c .before .before .before .equal2 .ensures) (c .before .before .if2 .left) (c .equal3 .ensures))))
+    (λ c. sym (ap (λ k. keyIn k bare) (c .match .keys1)))
+    (λ c. sym (ap (λ k. keyIn k bare) (c .match .keys2)))
+    (λ c. sym (ap (λ k. keyIn k bare) (c .match .keys3)))
+    (λ c. not-in _ bare _ (c .match .rest)))

@@ -1,20 +1,18 @@
 -- `placing::ends/pattern_end` meets its contract. Assumes nothing.
 use borrow.Author.Needs.{needs}
-use Prim.Native.Nat.{ℕ, _+_, _-_, _*_, _^_, _≤_, _<_}
-use mathlib.Core.Path.{_≡_, refl, sym, ap, _∙_}
+use Prim.Native.Nat.{_+_, _-_, _*_, _≤_}
 use native.Mathlib.Omega.{arith}
-use lib.ListN.{length, getD, take, drop, length-set}
+use lib.ListN.{length}
 use Rattle.placing.proofs.Copied as C
 use Rattle.placing.proofs.ends.pattern_end.Statement.{statement}
 use Rattle.placing.proofs.ends.pattern_end.Tie as tie
 
 abbrev Inv-loop : tie.InvT-loop
-Inv-loop text from left₀ at₀ left at =
-    (from ≤ at) × (at ≤ length text) × (left ≤ 1 + at * 17179869183) × C.Going text from at left
+Inv-loop text from c₀ c =
+    (from ≤ c .at) × (c .at ≤ length text) × (c .awaited ≤ 1 + c .at * 17179869183) × C.Going text from (c .at) (c .awaited)
 
 abbrev μ-loop : tie.MeasureT-loop
-μ-loop text from left₀ at₀ left at =
-    length text + 1 - at
+μ-loop text from c₀ c = length text + 1 - c .at
 
 pub pattern-end-spec : {M : Type 1} → statement M
 pattern-end-spec =
@@ -23,12 +21,15 @@ pattern-end-spec =
     Inv-loop
     μ-loop
     (λ c. (omega arith, c .before .pre .0, omega arith, C.going-start _ _))
-    (λ c κs. search needs)
-    (λ c. C.going-stop _ _ _ _ _ (c .before .before .before .loop .inv .0) (c .before .before .before .loop .inv .1) (c .before .before .before .loop .inv .3) (c .before .line-end .ensures) (c .if1 .taken))
-    (λ c. search needs)
-    (λ c κs. (C.going-low _ _ _ _ _ (c .before .before .before .loop .inv .0) (c .before .before .before .loop .inv .1) (c .before .before .before .loop .inv .3) (c .before .line-end .ensures) (c .before .before .loop-test .taken) (c .if1 .left), let h = c .before .line-end .ensures .high in let n = c .if1 .left in omega arith))
-    (λ c. search needs)
-    (λ c. search needs)
-    (λ c. let low = C.going-low _ _ _ _ _ (c .before .before .before .before .loop .inv .0) (c .before .before .before .before .loop .inv .1) (c .before .before .before .before .loop .inv .3) (c .before .before .line-end .ensures) (c .before .before .before .loop-test .taken) (c .before .if1 .left) in let h = c .before .before .line-end .ensures .high in omega arith)
-    (λ c. let low = C.going-low _ _ _ _ _ (c .before .before .before .before .loop .inv .0) (c .before .before .before .before .loop .inv .1) (c .before .before .before .before .loop .inv .3) (c .before .before .line-end .ensures) (c .before .before .before .loop-test .taken) (c .before .if1 .left) in let h = c .before .before .line-end .ensures .high in let n = c .before .if1 .left in let b = c .lines-below .ensures .1 in let k = c .before .before .before .before .loop .inv .2 in (omega arith, omega arith, omega arith, C.going-next _ _ _ _ _ (c .before .before .before .before .loop .inv .0) (c .before .before .before .before .loop .inv .1) (c .before .before .before .before .loop .inv .3) (c .before .before .line-end .ensures) (c .before .before .before .loop-test .taken) (c .before .if1 .left) _ (c .lines-below .ensures .0)))
-    (λ c. C.going-done _ _ _ _ (c .before .loop .inv .0) (c .before .loop .inv .1) (c .before .loop .inv .3) (c .loop-test .left)))
+    (λ c κs. c .before .before .loop .inv .1)
+    (λ c. let v = c .before .before .before .before .before .loop .inv in C.going-stop _ _ _ _ _ (v .0) (v .1) (v .3) (C.line-there _ _ _ (c .before .before .next-line .ensures .2)) (c .if2 .taken))
+    (λ c κs. let n = c .before .before .next-line .ensures in let e = n .0 in let low = n .2 .low in let high = n .2 .high in let h = c .if2 .left in (omega arith, omega arith))
+    (λ c κs. let c3 = c .before .before .before in let n = c3 .next-line .ensures in let e = n .1 in let high = n .2 .high in let v = c3 .before .before .before .loop .inv in let a = v .1 in let k = v .2 in let t = c3 .before .if1 .taken in let b = c .lines-below .ensures .1 in let z = c3 .before .before .before .before .before .pre .1 in (omega (arith, e, t), omega (arith, e, k, a, b, z), omega (arith, high, z)))
+    (λ c. let c4 = c .before .before .before .before in let n = c4 .next-line .ensures in let e = c .child-done .ensures .0 in let low = n .2 .low in let high = n .2 .high in let a = c4 .before .before .before .loop .inv .1 in omega (arith, e, low, high, a))
+    (λ c. let c2 = c .before .before in let c4 = c2 .before .before in let n = c4 .next-line .ensures in let v = c4 .before .before .before .loop .inv in let d = c .child-done .ensures in let e = d .0 in let w = d .2 in let i = n .1 in let f = v .0 in let k = v .2 in let low = n .2 .low in let high = n .2 .high in let h = c2 .if2 .left in let b = c .before .lines-below .ensures .1 in (
+      omega (arith, e, f, low),
+      omega (arith, e, high, h),
+      omega (arith, e, w, i, k, low, b),
+      C.going-child _ _ _ _ _ (v .0) (v .1) (v .3) (C.line-there _ _ _ (n .2)) (c4 .before .if1 .taken) (c2 .if2 .left) (c4 .next-line .result) (c .child-done .result) (n .0) (n .1) _ (c .before .lines-below .ensures .0) (d .0) (d .2),
+    ))
+    (λ c. let v = c .before .before .loop .inv in C.going-done _ _ _ _ (v .0) (v .1) (v .3) (c .if1 .left)))

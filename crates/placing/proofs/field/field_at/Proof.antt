@@ -12,4 +12,4 @@ field-at-spec =
     (λ c. F.field-none _ _ _ (c .if1 .taken) (c .before .before .pre .1))
     (λ c κs. search needs)
     (λ c. search needs)
-    (λ c. F.field-here _ _ _ _ (c .before .before .before .pre .0) (omega arith) (c .find .ensures)))
+    (λ c. F.field-here _ _ _ _ (c .before .before .before .pre .0) (omega arith) (c .field-end .ensures)))

@@ -19,5 +19,5 @@ count-at-spec =
     (λ c. search needs)
     (λ c. search needs)
     (λ c. search needs)
-    (λ c. (L.count-is _ _ _ _ (omega arith) (omega arith) (c .before .before .before .before .before .find .ensures) _ (c .before .before .before .number-of .ensures) _ (c .before .v .given .1), L.count-next _ _ _ _ (omega arith) (omega arith) (c .before .before .before .before .before .find .ensures), omega arith))
-    (λ c. (L.count-not _ _ _ _ (omega arith) (omega arith) (c .before .before .before .before .find .ensures) _ (c .before .before .number-of .ensures) (c .enum-told .given .1), L.count-next _ _ _ _ (omega arith) (omega arith) (c .before .before .before .before .find .ensures), omega arith)))
+    (λ c. (L.count-is _ _ _ _ (omega arith) (omega arith) (c .before .before .before .before .before .field-end .ensures) _ (c .before .before .before .number-of .ensures) _ (c .before .v .given .1), L.count-next _ _ _ _ (omega arith) (omega arith) (c .before .before .before .before .before .field-end .ensures), omega arith))
+    (λ c. (L.count-not _ _ _ _ (omega arith) (omega arith) (c .before .before .before .before .field-end .ensures) _ (c .before .before .number-of .ensures) (c .enum-told .given .1), L.count-next _ _ _ _ (omega arith) (omega arith) (c .before .before .before .before .field-end .ensures), omega arith)))

@@ -1,4 +1,4 @@
--- `reader::line_end` meets its contract: a walk of its MIR, by hand. The reader is taken apart, and `end_from` is called on the slice and the number.
+-- `reader::reader_end` meets its contract: a walk of its MIR, by hand. The reader is taken apart, and `end_from` is called on the slice and the number.
 -- The struct is Copy: what it owns is had twice, one copy is kept whole for the exit, and of the other what the text owns goes to the callee, beside the lifetime's token, which comes back.
 -- Assumes nothing.
 use mathlib.Core.Path.{_≡_, refl}
@@ -50,10 +50,10 @@ use Rattle.reader.proofs.end_from as ending
 use Rattle.reader.proofs.end_from.Symbol as end-def
 use Rattle.reader.proofs.end_from.Symbol.{name as #reader·end-from}
 use Rattle.reader.proofs.end_from.Met as end-thm
-use Rattle.reader.proofs.line_end.Key.{name as #reader·line-end}
-use Rattle.reader.proofs.line_end as taken
-use Rattle.reader.proofs.line_end.Statement as stated
-use Rattle.reader.proofs.line_end.Code as code
+use Rattle.reader.proofs.reader_end.Key.{name as #reader·reader-end}
+use Rattle.reader.proofs.reader_end as taken
+use Rattle.reader.proofs.reader_end.Statement as stated
+use Rattle.reader.proofs.reader_end.Code as code
 
 -- the struct's type, over the signature's lifetimes
 abbrev B : Lfts 1 → RattleType
@@ -142,21 +142,21 @@ module _ {M : Type 1} (𝓤 : URA M) (H : Heap 𝓤) (A : Atoms 𝓤) (W : Given
         move ! (9 ∷ 10 ∷ []) $ free1 ! $ move ! (7 ∷ 8 ∷ []) $ free1 ! $ move ! (5 ∷ 6 ∷ []) $ free1 ! $ move ! (3 ∷ 4 ∷ []) $ free1 ! $ free0 ! $ by ! (exits r u e)))))))))
 
 module _ {M : Type 1} (𝓤 : URA M) (H : Heap 𝓤) (A : Atoms 𝓤) (W : Given 𝓤 H A) (mem : Memory → SProp 𝓤) (run : Routine → Fun 𝓤) where
-  line-end-walks : (C : Calls 𝓤 H) (Λ : Loops 𝓤 H) → FmC 𝓤 H (W .laws) C → Triple 𝓤 (C #reader·end-from) (EndFrom 𝓤 H A mem run)
+  reader-end-walks : (C : Calls 𝓤 H) (Λ : Loops 𝓤 H) → FmC 𝓤 H (W .laws) C → Triple 𝓤 (C #reader·end-from) (EndFrom 𝓤 H A mem run)
       → Walks 𝓤 H A taken.ended stayed (WpFn 𝓤 H C Λ code.function) (taken.clauses 𝓤 H A mem run)
-  line-end-walks C Λ fm known = walked 𝓤 H A taken.ended stayed (taken.clauses 𝓤 H A mem run) (WpFn 𝓤 H C Λ code.function) (λ κs. (LL.vals (T.the-type (namedLft 1 0 tt κs)) (T′.the-laws (namedLft 1 0 tt κs)), tt)) (λ κs. (LL.tells (T.the-type (namedLft 1 0 tt κs)) (T′.the-laws (namedLft 1 0 tt κs)), tt))
+  reader-end-walks C Λ fm known = walked 𝓤 H A taken.ended stayed (taken.clauses 𝓤 H A mem run) (WpFn 𝓤 H C Λ code.function) (λ κs. (LL.vals (T.the-type (namedLft 1 0 tt κs)) (T′.the-laws (namedLft 1 0 tt κs)), tt)) (λ κs. (LL.tells (T.the-type (namedLft 1 0 tt κs)) (T′.the-laws (namedLft 1 0 tt κs)), tt))
       (λ κs qs bounds a g are. via 𝓤 _ (fst∗ 𝓤 _ (emp 𝓤)) (walk 𝓤 H A W mem run (κs .0) (qs .0) (a .0) C Λ fm known (LL.lawful (T.the-type (namedLft 1 0 tt κs)) (T′.the-laws (namedLft 1 0 tt κs)) 𝓤 H A W .typed (a .0) _ (are .0) .0)))
 
-line-end-meets : {M : Type 1} (𝓤 : URA M) (H : Heap 𝓤) (A : Atoms 𝓤) (W : Given 𝓤 H A) (mem : Memory → SProp 𝓤) (run : Routine → Fun 𝓤) (𝓣 : Tables 𝓤 H)
+reader-end-meets : {M : Type 1} (𝓤 : URA M) (H : Heap 𝓤) (A : Atoms 𝓤) (W : Given 𝓤 H A) (mem : Memory → SProp 𝓤) (run : Routine → Fun 𝓤) (𝓣 : Tables 𝓤 H)
     → Triple 𝓤 (𝓣 .C #reader·end-from) (EndFrom 𝓤 H A mem run)
     → Meets 𝓤 H A taken.signature (WpFn 𝓤 H (𝓣 .C) (𝓣 .Λ) code.function) (taken.spec 𝓤 H A mem run)
-line-end-meets 𝓤 H A W mem run 𝓣 known-end = walk-meets 𝓤 H A taken.ended stayed W (goes-none 𝓤 H A W 1 B yes (λ κs x f. refl), tt) (taken.clauses 𝓤 H A mem run) (WpFn 𝓤 H (𝓣 .C) (𝓣 .Λ) code.function) (WpFn-mono 𝓤 H (W .laws) 𝓣 code.function)
-    (line-end-walks 𝓤 H A W mem run (𝓣 .C) (𝓣 .Λ) (fmOf 𝓤 H (W .laws) 𝓣) known-end)
+reader-end-meets 𝓤 H A W mem run 𝓣 known-end = walk-meets 𝓤 H A taken.ended stayed W (goes-none 𝓤 H A W 1 B yes (λ κs x f. refl), tt) (taken.clauses 𝓤 H A mem run) (WpFn 𝓤 H (𝓣 .C) (𝓣 .Λ) code.function) (WpFn-mono 𝓤 H (W .laws) 𝓣 code.function)
+    (reader-end-walks 𝓤 H A W mem run (𝓣 .C) (𝓣 .Λ) (fmOf 𝓤 H (W .laws) 𝓣) known-end)
 
-pub line-end-spec : {M : Type 1} → stated.statement M
+pub reader-end-spec : {M : Type 1} → stated.statement M
 unfolding code.routine tablesOf
-line-end-spec 𝓤 H 𝓜 𝓖 𝓡 =
+reader-end-spec 𝓤 H 𝓜 𝓖 𝓡 =
     entered 𝓤 H (tripleOf 𝓤 H (𝓖 .A) taken.signature (taken.spec 𝓤 H (𝓖 .A) (𝓜 .mem) (𝓡 .run)))
-    (tables 𝓤 H 𝓜 𝓡 code.env .C) (tables 𝓤 H 𝓜 𝓡 code.env .Λ) #reader·line-end code.function (code.unfolded 𝓤 H 𝓜 𝓡)
-    (line-end-meets 𝓤 H (𝓖 .A) (givenOf 𝓤 H 𝓜 𝓖) (𝓜 .mem) (𝓡 .run) (tablesOf 𝓤 H 𝓜 (tables 𝓤 H 𝓜 𝓡 code.env))
+    (tables 𝓤 H 𝓜 𝓡 code.env .C) (tables 𝓤 H 𝓜 𝓡 code.env .Λ) #reader·reader-end code.function (code.unfolded 𝓤 H 𝓜 𝓡)
+    (reader-end-meets 𝓤 H (𝓖 .A) (givenOf 𝓤 H 𝓜 𝓖) (𝓜 .mem) (𝓡 .run) (tablesOf 𝓤 H 𝓜 (tables 𝓤 H 𝓜 𝓡 code.env))
     (cited 𝓤 H (EndFrom 𝓤 H (𝓖 .A) (𝓜 .mem) (𝓡 .run)) 𝓜 𝓡 code.env #reader·end-from end-def.routine code.calls-reader·end-from (end-thm.met 𝓤 H 𝓜 𝓖 𝓡)))

@@ -1,16 +1,18 @@
--- A key of eight bytes at most, of which the first is not 0, tells its bytes. Assumes nothing.
+-- A key of eight bytes at most, of which the first is not 0, tells its bytes; what key a field has. Assumes nothing.
 use Prim.Native.Nat.{ℕ, zero, suc, _+_, _-_, _*_, _%_, _/_, _≤_, _<_}
 use mathlib.Core.Path.{_≡_, refl, sym, _∙_, ap, ap₂, subst}
 use mathlib.Core.Bool.{Bool, true, false, false≢true}
 use mathlib.Core.List.{List, [], _∷_, _++_}
 use native.Mathlib.Omega.{arith}
 use lib.Dec.{eqb, leb, lit≤}
-use lib.ListN.{length, getD, take, drop, length-drop, replicate}
-use lib.Seq.{take-suc, getD-drop}
+use lib.ListN.{length, getD, take, drop, length-take, length-drop, replicate}
+use lib.Seq.{take-suc, getD-take, getD-drop}
 use borrow.Author.Tests.{leb-true, leb-false, eq-eqb, ne-eqb}
 use Rattle.text.specs.Text.{Bytes, same, part}
 use Rattle.text.proofs.Basics.{same-eq, same-refl}
-use Rattle.words.specs.bridge.Key.{keyOf, Small, Spells}
+use Rattle.text.proofs.Lists.{same-long}
+use Rattle.words.specs.declared.Word.{Word}
+use Rattle.words.specs.bridge.Key.{keyOf, Small, Spells, Told, Keyed}
 
 -- ---- how the code makes a key
 
@@ -116,11 +118,6 @@ room-some (suc (suc (suc (suc (suc (suc (suc (suc (suc n))))))))) h = absurd (om
 
 -- ---- words that a key tells
 
-pub record Told (f : Bytes) : Type 0 where
-  pub first : getD f 0 0 ≡ 0 → ⊥
-  pub long : length f ≤ 8
-  pub small : Small f
-
 told-peel : (f : Bytes) → Told f → peel (length f) (keyOf 0 f) ≡ record { left = 0; bytes = f }
 told-peel f t = peel-key f 0 (room-some (length f) (t .long)) (t .small)
 
@@ -142,9 +139,59 @@ key-tells f g tf tg e = go (leb (length f) (length g)) refl
     go true h = let k = leb-true (length f) (length g) h in told-longer f g (length g - length f) tf tg (omega arith) e
     go false h = let k = leb-false (length f) (length g) h in sym (told-longer g f (length f - length g) tg tf (omega arith) (sym e))
 
-pub same-by-key : (f g : Bytes) → Told f → Told g → same f g ≡ eqb (keyOf 0 f) (keyOf 0 g)
+same-by-key : (f g : Bytes) → Told f → Told g → same f g ≡ eqb (keyOf 0 f) (keyOf 0 g)
 same-by-key f g tf tg = go (same f g) refl
   where
     go : (b : Bool) → same f g ≡ b → b ≡ eqb (keyOf 0 f) (keyOf 0 g)
     go true h = sym (eq-eqb (keyOf 0 f) (keyOf 0 g) (ap (keyOf 0) (same-eq f g h)))
     go false h = sym (ne-eqb (keyOf 0 f) (keyOf 0 g) (λ e. false≢true (sym h ∙ ap (same f) (sym (key-tells f g tf tg e)) ∙ same-refl f)))
+
+-- ---- keys of fields
+
+-- no word has the key 0
+told-some : (w : Bytes) → Told w → 0 ≡ keyOf 0 w → ⊥
+unfolding peel
+told-some w t e =
+    let z : length w + 0 ≡ length w = omega arith in
+    let b = ap (λ (p : Peeled). p .bytes) (sym (peel-zeros (length w) 0 0 [] refl) ∙ ap₂ peel (further-is (length w) 0 ∙ z) e ∙ told-peel w t) in
+    t .first (ap (λ (l : Bytes). getD l 0 0) (sym (no-zeros (length w) [] w (t .first) b)))
+
+-- a field that is no such word has it
+keyed-none : (f : Bytes) → ((w : Bytes) → Told w → same f w ≡ false) → Keyed f 0
+keyed-none f n w t = n w t ∙ sym (ne-eqb 0 (keyOf 0 w) (told-some w t))
+
+keyed-first : (f : Bytes) → getD f 0 0 ≡ 0 → Keyed f 0
+keyed-first f h = keyed-none f λ w t. go w t (same f w) refl
+  where
+    go : (w : Bytes) → Told w → (b : Bool) → same f w ≡ b → b ≡ false
+    go w t true e = absurd (t .first (ap (λ (l : Bytes). getD l 0 0) (sym (same-eq f w e)) ∙ h))
+    go w t false e = refl
+
+no-bytes : (f : Bytes) → length f ≡ 0 → getD f 0 0 ≡ 0
+no-bytes [] h = refl
+no-bytes (x ∷ xs) h = absurd (omega arith)
+
+-- a word that was spelled at a place, by what the code tests
+module _ (s : Bytes) (from : ℕ) (w : Word) (low : from ≤ w .end) (high : w .end ≤ length s) where
+  word-long : length (part from (w .end) s) ≡ w .end - from
+  word-long = simp (length-take, length-drop) (omega arith)
+
+  word-first : from < w .end → getD (part from (w .end) s) 0 0 ≡ getD s from 0
+  word-first h =
+      let e : from + 0 ≡ from = omega arith in
+      getD-take (w .end - from) (drop from s) 0 0 (omega arith) ∙ getD-drop from s 0 0 ∙ ap (λ (i : ℕ). getD s i 0) e
+
+  pub keyed-long : 8 < w .end - from → Keyed (part from (w .end) s) 0
+  keyed-long h = keyed-none _ (λ v t. let k = t .long in same-long (part from (w .end) s) v (λ e. let l = word-long in omega (arith, k, e, l, h)))
+
+  pub keyed-empty : w .end - from ≡ 0 → Keyed (part from (w .end) s) 0
+  keyed-empty h = keyed-first _ (no-bytes (part from (w .end) s) (word-long ∙ h))
+
+  module _ (some : w .end - from ≡ 0 → ⊥) where
+    pub keyed-zero : getD s from 0 ≡ 0 → Keyed (part from (w .end) s) 0
+    keyed-zero h = keyed-first _ (word-first (omega arith) ∙ h)
+
+    pub keyed-told : w .end - from ≤ 8 → (getD s from 0 ≡ 0 → ⊥) → Spells s from w → Keyed (part from (w .end) s) (w .key)
+    keyed-told l n p v t =
+        let u : Told (part from (w .end) s) = record { first = λ e. n (sym (word-first (omega arith)) ∙ e); long = rw word-long l; small = p .small } in
+        same-by-key (part from (w .end) s) v u t ∙ ap (λ (k : ℕ). eqb k (keyOf 0 v)) (sym (p .key))

@@ -8,7 +8,7 @@ use native.Mathlib.Decide.{decLt}
 use lib.ListN.{length}
 use Rattle.text.specs.Text.{Bytes, linesFrom}
 use Rattle.text.proofs.Places.{lines-end, lines-open}
-use Rattle.walking.specs.bridge.Code.{LineEnd}
+use Rattle.reader.specs.bridge.Lines.{LineEnd}
 
 pub nothing-here : (s : Bytes) (from end : ℕ) → LineEnd s from end → end ≡ length s → (linesFrom s from ≡ []) ⊎ (linesFrom s from ≡ [] ∷ [])
 nothing-here s from end l e = go (decLt from (length s))

@@ -1,4 +1,4 @@
--- `words::word_at` meets its contract. Assumes nothing.
+-- `words::spelled_at` meets its contract. Assumes nothing.
 use borrow.Author.Needs.{needs}
 use denote.Ref.{now}
 use Prim.Native.Nat.{ℕ, _-_, _≤_, _<_}
@@ -7,9 +7,9 @@ use native.Mathlib.Omega.{arith}
 use lib.ListN.{getD}
 use borrow.Author.Count.{below-more}
 use Rattle.words.specs.bridge.Key.{Spells}
-use Rattle.words.proofs.Keys.{spells-none, spells-more}
-use Rattle.words.proofs.word_at.Statement.{statement}
-use Rattle.words.proofs.word_at.Tie as tie
+use Rattle.words.proofs.KeyLaws.{spells-none, spells-more}
+use Rattle.words.proofs.spelled_at.Statement.{statement}
+use Rattle.words.proofs.spelled_at.Tie as tie
 
 abbrev Inv-loop : tie.InvT-loop
 Inv-loop s from to k₀ i₀ k i =
@@ -18,8 +18,8 @@ Inv-loop s from to k₀ i₀ k i =
 abbrev μ-loop : tie.MeasureT-loop
 μ-loop s from to k₀ i₀ k i = to - i
 
-pub word-at-spec : {M : Type 1} → statement M
-word-at-spec =
+pub spelled-at-spec : {M : Type 1} → statement M
+spelled-at-spec =
     tie.close
     (tie.spec
     Inv-loop
