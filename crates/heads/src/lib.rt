@@ -2,9 +2,9 @@
 use answers::Answer;
 use cursor::field_end;
 use emit::put_all;
+use reader::line_end;
 use text::equal;
 use text::piece;
-use reader::line_end;
 ghost use mathlib.Core.Path.{_≡_};
 ghost use Prim.Native.Nat.{_≤_};
 ghost use lib.ListN.{length};

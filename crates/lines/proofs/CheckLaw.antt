@@ -16,7 +16,7 @@ use Rattle.algebra.specs.bridge.Machine.{Want, want, More, done, entries, deman
 use Rattle.algebra.specs.declared.Answer.{Answer}
 use Rattle.algebra.specs.declared.Answer.the-variants as A
 use Rattle.names.specs.bridge.Names.{Holds}
-use Rattle.lines.specs.declared.check.Place.{Place}
+use Rattle.lines.specs.declared.place.Place.{Place}
 use Rattle.lines.specs.bridge.Run.{Stood, Went, Told, levelFor, Tells}
 use Rattle.lines.proofs.RunLaw.{run-none, run-done, check-long, check-start}
 use Rattle.lines.proofs.DescentLaw.{went-here, Goes}

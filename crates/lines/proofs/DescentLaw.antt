@@ -12,7 +12,7 @@ use Rattle.algebra.specs.Tally.{Tally, bounds}
 use Rattle.algebra.specs.Reader.{Refusal, malformed, overBound, refused}
 use Rattle.algebra.specs.bridge.Machine.{Want, want, wants, More, Demand, Check, bad, run, lineOf}
 use Rattle.words.specs.bridge.Code.{sortAt, rowOf}
-use Rattle.lines.specs.declared.check.Place.{Place}
+use Rattle.lines.specs.declared.place.Place.{Place}
 use Rattle.lines.specs.declared.line.Asked.{Asked}
 use Rattle.lines.specs.declared.line.Line.{Line as Read}
 use Rattle.lines.specs.declared.line.Line.the-variants.{Asks, Malformed, OverBound}

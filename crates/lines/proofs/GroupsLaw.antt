@@ -12,7 +12,7 @@ use Rattle.algebra.specs.bridge.Machine.{want}
 use Rattle.scoping.specs.bridge.Walk.{State, times as many, child, beneath, tree}
 use Rattle.scoping.specs.bridge.Spots.{Trace, spotLine}
 use Rattle.words.specs.bridge.Code.{sortAt, groupsIn, sortsIn}
-use Rattle.lines.specs.declared.check.Place.{Place}
+use Rattle.lines.specs.declared.place.Place.{Place}
 use Rattle.lines.specs.bridge.Below.{amountIn, groups}
 use Rattle.lines.specs.bridge.Spotted.{markAt}
 use Rattle.lines.specs.bridge.Walks.{storeAt, Walks}

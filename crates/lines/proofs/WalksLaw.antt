@@ -20,8 +20,8 @@ use Rattle.scoping.specs.bridge.Walk.{State, state, times as many, child, benea
 use Rattle.scoping.specs.bridge.Spots.{Spot, Trace, trace, spotLine}
 use Rattle.words.specs.bridge.Code.{sortAt, groupsIn}
 use Rattle.names.specs.bridge.Names.{listing, Holds}
-use Rattle.lines.specs.declared.check.Place.{Place}
-use Rattle.lines.specs.declared.check.Taken.{Taken}
+use Rattle.lines.specs.declared.place.Place.{Place}
+use Rattle.lines.specs.declared.place.Taken.{Taken}
 use Rattle.lines.specs.declared.check.Noting.{Noting}
 use Rattle.lines.specs.declared.check.Noting.the-variants as N
 use Rattle.lines.specs.declared.line.Asked.{Asked}

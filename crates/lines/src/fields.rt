@@ -1,29 +1,17 @@
-// The fields of a line, taken one after the other by what the table says of them.
+// The fields of a line that are no variables, taken one after the other by what the table says of them.
 use cursor::Cursor;
 use cursor::Field;
-use names::Entry;
-use names::keep_name;
 use text::Number;
 use text::is_kind;
-use text::is_var;
 use text::number_of;
-use text::piece;
 use words::extra_kind;
 ghost use mathlib.Core.Path.{_≡_};
-ghost use Prim.Native.Nat.{ℕ, _+_, _≤_, _<_};
-ghost use mathlib.Core.Bool.{true};
-ghost use mathlib.Core.List.{List, [], _∷_};
-ghost use lib.ListN.{length, getD, set};
-ghost use Rattle.text.specs.Text.{piece as pieceOf};
-ghost use Rattle.text.specs.Field.{variable, isKind};
+ghost use Prim.Native.Nat.{_+_, _≤_, _<_};
+ghost use lib.ListN.{length};
 ghost use Rattle.text.specs.bridge.Code.{kindAt};
-ghost use Rattle.algebra.specs.Tally.{notes};
-ghost use Rattle.algebra.specs.bridge.Table.{Slot, term, text, count, choice};
-ghost use Rattle.names.specs.bridge.Names.{Holds, startsOf, sizesOf};
+ghost use Rattle.algebra.specs.bridge.Table.{text, count, choice};
 ghost use Rattle.lines.specs.bridge.Line.{takeField, takeTimes, takeValue, takeValues};
-ghost use Rattle.lines.specs.bridge.Steps.{InLine, leftAt, Follows, restOf, restIn, termsOf, termsIn, numberTaken};
-ghost use Rattle.lines.specs.bridge.Spotted.{markAt};
-ghost use Rattle.lines.specs.bridge.Stored.{store, Placed, Adds, found, oneSpot};
+ghost use Rattle.lines.specs.bridge.Steps.{InLine, leftAt, Follows, restOf, restIn, numberTaken};
 
 // A cursor and the number in a field.
 pub struct Taken {
@@ -33,58 +21,6 @@ pub struct Taken {
 
 // Where a field of a variable starts, its name's entry in the table, and its mark.
 pub type Spot = [u16; 3];
-
-// How many names are in the table, and how many spots were noted.
-pub struct Counts {
-    pub names: usize,
-    pub spots: usize,
-}
-
-// A cursor, and how many names and spots there are.
-pub struct Noted {
-    pub cursor: Cursor,
-    pub names: usize,
-    pub spots: usize,
-}
-
-// Notes a spot where there is room.
-fn put_spot(spots: &mut [Spot], k: usize, at: usize, entry: usize, mark: u8) -> usize
-    requires { ⌜ (at ≤ 16384) × (entry < 1025) ⌝ }
-    ensures { λ r. ⌜ Placed (now (spots .entry)) k (at ∷ entry ∷ mark ∷ []) (now (spots .exit)) r ⌝ }
-{
-    if k < spots.len() {
-        spots[k] = [at as u16, entry as u16, mark as u16];
-        return k + 1;
-    }
-    k
-}
-
-// Keeps a field in the table and notes where it stands, if it is a variable.
-fn note_field(
-    s: &[u8],
-    from: usize,
-    size: usize,
-    mark: u8,
-    table: &mut [Entry; 1024],
-    hints: &mut [u16; 4096],
-    n: usize,
-    spots: &mut [Spot],
-    k: usize,
-) -> Counts
-    requires { ⌜ (from ≤ 16384) × (size ≤ 16384) × (from + size < length (now s)) ⌝ }
-    ensures keeps { λ r. ⌜ ((want : List (List ℕ)) → Holds (now (s .entry)) (startsOf (now (table .entry))) (sizesOf (now (table .entry))) (now (hints .entry)) n want → Holds (now (s .entry)) (startsOf (now (table .exit))) (sizesOf (now (table .exit))) (now (hints .exit)) (r .names) (notes (pieceOf from size (now (s .entry)) ∷ []) want)) ⌝ }
-    ensures adds { λ r. ⌜ Adds (now (s .entry)) (store (startsOf (now (table .entry))) (sizesOf (now (table .entry))) n (now (spots .entry)) k) from (store (startsOf (now (table .exit))) (sizesOf (now (table .exit))) (r .names) (now (spots .exit)) (r .spots)) (from + size + 1) (oneSpot (markAt mark) from (pieceOf from size (now (s .entry)))) [] ⌝ }
-{
-    if is_var(piece(s, from, size)) {
-        let l = keep_name(s, from, size, table, hints, n);
-        let j = put_spot(spots, k, from, l.entry, mark);
-        return Counts {
-            names: l.names,
-            spots: j,
-        };
-    }
-    Counts { names: n, spots: k }
-}
 
 // A field that counts nothing, of a kind.
 pub fn text_field(s: &[u8], c: Cursor, kind: u8) -> Cursor
@@ -102,69 +38,6 @@ pub fn text_field(s: &[u8], c: Cursor, kind: u8) -> Cursor
         }
         Field::None => {
             return c.failed();
-        }
-    }
-}
-
-// A field is a variable, and may be one by its kind: so are most terms, which then need no further look.
-fn is_var_of(kind: u8, f: &[u8]) -> bool
-    ensures { λ r. ⌜ (r ≡ true → isKind (kindAt kind) (now (f .entry)) ≡ true) ⌝ }
-{
-    if 3 < kind {
-        return false;
-    }
-    is_var(f)
-}
-
-// A term of a kind, whose variable goes into the table and is noted.
-pub fn term_field(
-    s: &[u8],
-    c: Cursor,
-    kind: u8,
-    mark: u8,
-    table: &mut [Entry; 1024],
-    hints: &mut [u16; 4096],
-    n: usize,
-    spots: &mut [Spot],
-    k: usize,
-) -> Noted
-    requires { ⌜ InLine (now s) c ⌝ }
-    ensures follows { λ r. ⌜ Follows (now (s .entry)) c (restOf (takeField (term (kindAt kind)) (leftAt (now (s .entry)) c))) (r .cursor) ⌝ }
-    ensures keeps { λ r. ⌜ ((want : List (List ℕ)) → Holds (now (s .entry)) (startsOf (now (table .entry))) (sizesOf (now (table .entry))) (now (hints .entry)) n want → Holds (now (s .entry)) (startsOf (now (table .exit))) (sizesOf (now (table .exit))) (now (hints .exit)) (r .names) (notes (termsOf (takeField (term (kindAt kind)) (leftAt (now (s .entry)) c))) want)) ⌝ }
-    ensures adds { λ r. ⌜ (r .cursor .at ≤ c .end + 1 → (ss : List Slot) → Adds (now (s .entry)) (store (startsOf (now (table .entry))) (sizesOf (now (table .entry))) n (now (spots .entry)) k) (c .at) (store (startsOf (now (table .exit))) (sizesOf (now (table .exit))) (r .names) (now (spots .exit)) (r .spots)) (r .cursor .at) (found (markAt mark) (term (kindAt kind) ∷ ss) (now (s .entry)) c) (found (markAt mark) ss (now (s .entry)) (r .cursor))) ⌝ }
-{
-    let at = c.at;
-    let field = c.next_field(s);
-    match field {
-        Field::At(e, next) => {
-            if is_var_of(kind, &s[at..e]) {
-                let m = note_field(s, at, e - at, mark, table, hints, n, spots, k);
-                return Noted {
-                    cursor: next,
-                    names: m.names,
-                    spots: m.spots,
-                };
-            }
-            if is_kind(kind, &s[at..e]) {
-                let m = note_field(s, at, e - at, mark, table, hints, n, spots, k);
-                return Noted {
-                    cursor: next,
-                    names: m.names,
-                    spots: m.spots,
-                };
-            }
-            return Noted {
-                cursor: c.failed(),
-                names: n,
-                spots: k,
-            };
-        }
-        Field::None => {
-            return Noted {
-                cursor: c.failed(),
-                names: n,
-                spots: k,
-            };
         }
     }
 }
@@ -272,88 +145,6 @@ pub fn value_fields(s: &[u8], c: Cursor, times: usize) -> Cursor
         k -= 1;
     }
     d
-}
-
-// A variable, which goes into the table and is noted: a term that needs no look at its kind.
-fn variable_field(
-    s: &[u8],
-    c: Cursor,
-    mark: u8,
-    table: &mut [Entry; 1024],
-    hints: &mut [u16; 4096],
-    n: usize,
-    spots: &mut [Spot],
-    k: usize,
-) -> Noted
-    requires { ⌜ InLine (now s) c ⌝ }
-    ensures follows { λ r. ⌜ Follows (now (s .entry)) c (restOf (takeField (term variable) (leftAt (now (s .entry)) c))) (r .cursor) ⌝ }
-    ensures keeps { λ r. ⌜ ((want : List (List ℕ)) → Holds (now (s .entry)) (startsOf (now (table .entry))) (sizesOf (now (table .entry))) (now (hints .entry)) n want → Holds (now (s .entry)) (startsOf (now (table .exit))) (sizesOf (now (table .exit))) (now (hints .exit)) (r .names) (notes (termsOf (takeField (term variable) (leftAt (now (s .entry)) c))) want)) ⌝ }
-    ensures adds { λ r. ⌜ (r .cursor .at ≤ c .end + 1 → (ss : List Slot) → Adds (now (s .entry)) (store (startsOf (now (table .entry))) (sizesOf (now (table .entry))) n (now (spots .entry)) k) (c .at) (store (startsOf (now (table .exit))) (sizesOf (now (table .exit))) (r .names) (now (spots .exit)) (r .spots)) (r .cursor .at) (found (markAt mark) (term variable ∷ ss) (now (s .entry)) c) (found (markAt mark) ss (now (s .entry)) (r .cursor))) ⌝ }
-{
-    let at = c.at;
-    let field = c.next_field(s);
-    match field {
-        Field::At(e, next) => {
-            if is_var(&s[at..e]) {
-                let m = note_field(s, at, e - at, mark, table, hints, n, spots, k);
-                return Noted {
-                    cursor: next,
-                    names: m.names,
-                    spots: m.spots,
-                };
-            }
-            return Noted {
-                cursor: c.failed(),
-                names: n,
-                spots: k,
-            };
-        }
-        Field::None => {
-            return Noted {
-                cursor: c.failed(),
-                names: n,
-                spots: k,
-            };
-        }
-    }
-}
-
-// So many variables, which go into the table and are noted.
-pub fn variable_fields(
-    s: &[u8],
-    c: Cursor,
-    times: usize,
-    mark: u8,
-    table: &mut [Entry; 1024],
-    hints: &mut [u16; 4096],
-    n: usize,
-    spots: &mut [Spot],
-    k: usize,
-) -> Noted
-    requires { ⌜ InLine (now s) c × (c .at ≤ c .end + 1) ⌝ }
-    ensures follows { λ r. ⌜ Follows (now (s .entry)) c (restIn (takeTimes times (term variable) (leftAt (now (s .entry)) c))) (r .cursor) ⌝ }
-    ensures keeps { λ r. ⌜ (r .cursor .at ≤ c .end + 1 → (want : List (List ℕ)) → Holds (now (s .entry)) (startsOf (now (table .entry))) (sizesOf (now (table .entry))) (now (hints .entry)) n want → Holds (now (s .entry)) (startsOf (now (table .exit))) (sizesOf (now (table .exit))) (now (hints .exit)) (r .names) (notes (termsIn (takeTimes times (term variable) (leftAt (now (s .entry)) c))) want)) ⌝ }
-    ensures adds { λ r. ⌜ (r .cursor .at ≤ c .end + 1 → Adds (now (s .entry)) (store (startsOf (now (table .entry))) (sizesOf (now (table .entry))) n (now (spots .entry)) k) (c .at) (store (startsOf (now (table .exit))) (sizesOf (now (table .exit))) (r .names) (now (spots .exit)) (r .spots)) (r .cursor .at) (found (markAt mark) [] (now (s .entry)) c) (found (markAt mark) [] (now (s .entry)) (r .cursor))) ⌝ }
-{
-    let mut d = c;
-    let mut m = n;
-    let mut j = k;
-    let mut left = times;
-    while 0 < left {
-        let t = variable_field(s, d, mark, table, hints, m, spots, j);
-        d = t.cursor;
-        if d.end + 1 < d.at {
-            return t;
-        }
-        m = t.names;
-        j = t.spots;
-        left -= 1;
-    }
-    Noted {
-        cursor: d,
-        names: m,
-        spots: j,
-    }
 }
 
 // How many fields are left in the line.

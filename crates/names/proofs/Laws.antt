@@ -1,5 +1,5 @@
 -- Laws of the variable table, one for each step of the code. Assumes nothing.
-use Prim.Native.Nat.{ℕ, zero, suc, _+_, _*_, _-_, _%_, _≤_, _<_}
+use Prim.Native.Nat.{ℕ, zero, suc, _+_, _*_, _-_, _/_, _%_, _≤_, _<_}
 use mathlib.Core.Path.{_≡_, refl, sym, _∙_, ap, ap₂, subst}
 use mathlib.Core.List.{List, [], _∷_, _++_, append-nil}
 use mathlib.Core.Bool.{Bool, true, false, cond, _||_, false≢true}
@@ -14,18 +14,22 @@ use Rattle.text.specs.Field.{isVar}
 use Rattle.text.proofs.Basics.{same-eq}
 use Rattle.algebra.specs.Valid.{mem}
 use Rattle.algebra.specs.Tally.{notes}
-use Rattle.names.specs.bridge.Names.{hashOf, nameAt, listing, after, Leads, HintedFrom, Hinted, Grows, Free, kept, Holds, Lists}
+use Rattle.names.specs.bridge.Names.{hashOf, placeOf, nameAt, listing, after, Leads, HintedFrom, Hinted, Grows, Free, kept, Holds, Lists}
 use Rattle.names.proofs.Hints.{leads-on, leads-past, leads-back, leads-here, leads-none, grows-set, grows-same, hinted-grows, hinted-more, hinted-last}
 
 -- ---- the hash
 
-pub hash-next : (f : Bytes) (i h b : ℕ) → i < length f → b ≡ getD f i 0 → hashOf h (drop i f) ≡ hashOf ((h * 471 + b) % 4096) (drop (i + 1) f)
+pub hash-next : (f : Bytes) (i h b : ℕ) → i < length f → b ≡ getD f i 0 → hashOf h (drop i f) ≡ hashOf (((h + b) * 16777619) % 4294967296) (drop (i + 1) f)
 unfolding hashOf
 hash-next f i h b k e = rw (e, add-one, drop-cons f i 0 k)
 
 pub hash-end : (f : Bytes) (i h : ℕ) → length f ≤ i → hashOf h (drop i f) ≡ h
 unfolding hashOf
 hash-end f i h k = rw (drop-of-length-le f k)
+
+pub place-is : (f : Bytes) (h : ℕ) → h ≡ hashOf 0 f → h / 1048576 ≡ placeOf f
+unfolding placeOf
+place-is f h e = ap (λ x. x / 1048576) e
 
 -- ---- names
 
@@ -95,7 +99,7 @@ listing-long s a l (suc n) = simp length-append (let h = listing-long s a l n in
 -- ---- looking for a name by the hints
 
 -- no name of those hinted is this one
-none-same : (f s : Bytes) (a l h : List ℕ) (n : ℕ) → HintedFrom 1 h (listing s a l n) → ((i : ℕ) → i < n → Leads h (i + 1) (hashOf 0 (nameAt s a l i)) 4096 → same f (nameAt s a l i) ≡ false) → mem f (listing s a l n) ≡ false
+none-same : (f s : Bytes) (a l h : List ℕ) (n : ℕ) → HintedFrom 1 h (listing s a l n) → ((i : ℕ) → i < n → Leads h (i + 1) (placeOf (nameAt s a l i)) 4096 → same f (nameAt s a l i) ≡ false) → mem f (listing s a l n) ≡ false
 unfolding listing mem
 none-same f s a l h zero q other = refl
 none-same f s a l h (suc n) q other =
@@ -107,9 +111,9 @@ none-same f s a l h (suc n) q other =
 module _ (f s : Bytes) (a l h : List ℕ) (n : ℕ) where
   -- if the name is listed, its hint is among the k places from p on
   unfoldable pub Seeks : ℕ → ℕ → Type 0
-  Seeks p k = (i : ℕ) → i < n → same f (nameAt s a l i) ≡ true → Leads h (i + 1) (hashOf 0 f) 4096 → Leads h (i + 1) p k
+  Seeks p k = (i : ℕ) → i < n → same f (nameAt s a l i) ≡ true → Leads h (i + 1) (placeOf f) 4096 → Leads h (i + 1) p k
 
-  pub seek-start : (p : ℕ) → p ≡ hashOf 0 f → Seeks p 4096
+  pub seek-start : (p : ℕ) → p ≡ placeOf f → Seeks p 4096
   unfolding Seeks
   seek-start p e i k y q = rw e q
 
@@ -131,7 +135,7 @@ module _ (f s : Bytes) (a l h : List ℕ) (n : ℕ) where
     unfolding Seeks Hinted
     seek-end z q = none-same f s a l h n q other
       where
-        other : (i : ℕ) → i < n → Leads h (i + 1) (hashOf 0 (nameAt s a l i)) 4096 → same f (nameAt s a l i) ≡ false
+        other : (i : ℕ) → i < n → Leads h (i + 1) (placeOf (nameAt s a l i)) 4096 → same f (nameAt s a l i) ≡ false
         other i j w = go (same f (nameAt s a l i)) refl
           where
             go : (b : Bool) → same f (nameAt s a l i) ≡ b → b ≡ false
@@ -212,7 +216,7 @@ module _ (s f : Bytes) (a l h : List ℕ) (n : ℕ) (want : List Bytes) (holds :
             over = λ m. rw (new not-there low high) g;
           }
 
-      pub keep-new : (from size : ℕ) (g : List ℕ) → f ≡ piece from size s → (n ≡ 1024 → ⊥) → (length h ≡ 4096 → Grows h g × Leads g (n + 1) (hashOf 0 f) 4096) → Holds s (set a n from) (set l n size) g (n + 1) (kept f want)
+      pub keep-new : (from size : ℕ) (g : List ℕ) → f ≡ piece from size s → (n ≡ 1024 → ⊥) → (length h ≡ 4096 → Grows h g × Leads g (n + 1) (placeOf f) 4096) → Holds s (set a n from) (set l n size) g (n + 1) (kept f want)
       unfolding listing Hinted
       keep-new from size g e ne puts =
           let put = puts (holds .entries .2) in

@@ -6,10 +6,10 @@ ghost use mathlib.Core.Path.{_≡_};
 ghost use Prim.Native.Nat.{ℕ, _+_, _≤_, _<_};
 ghost use mathlib.Core.List.{List, [], _∷_};
 ghost use mathlib.Core.Bool.{false, true};
-ghost use lib.ListN.{length, getD};
+ghost use lib.ListN.{length, getD, set};
 ghost use Rattle.text.specs.Text.{same, piece as pieceOf};
 ghost use Rattle.algebra.specs.Valid.{mem};
-ghost use Rattle.names.specs.bridge.Names.{hashOf, startsOf, sizesOf, nameAt, listing, after as afterOf, Leads, Hinted, Free, Grows, Holds, Lists, kept};
+ghost use Rattle.names.specs.bridge.Names.{hashOf, placeOf, startsOf, sizesOf, nameAt, listing, after as afterOf, Leads, Hinted, Free, Grows, Holds, Lists, kept};
 
 // An entry of the table: a name's start and size.
 pub type Entry = [u16; 2];
@@ -68,17 +68,24 @@ pub fn no_names(table: &mut [Entry; 1024], hints: &mut [u16; 4096])
     clear(table, hints);
 }
 
-// Where the search for a name's hint starts.
-fn place(f: &[u8]) -> usize
-    ensures { λ r. ⌜ (r ≡ hashOf 0 (now (f .entry))) × (r < 4096) ⌝ }
+// A name's hash, of 32 bits. A byte is added before the product, so that it reaches the top bits.
+fn hash(f: &[u8]) -> usize
+    ensures { λ r. ⌜ (r ≡ hashOf 0 (now (f .entry))) × (r < 4294967296) ⌝ }
 {
     let mut h: usize = 0;
     let mut i = 0;
     while i < f.len() {
-        h = (h * 471 + byte(f[i])) % 4096;
+        h = ((h + byte(f[i])) * 16777619) % 4294967296;
         i += 1;
     }
     h
+}
+
+// Where the search for a name's hint starts: the top twelve bits of its hash.
+fn place(f: &[u8]) -> usize
+    ensures { λ r. ⌜ (r ≡ placeOf (now (f .entry))) × (r < 4096) ⌝ }
+{
+    hash(f) / 1048576
 }
 
 // The place after a place, around the end.
@@ -133,7 +140,7 @@ struct Seen {
 fn probe(f: &[u8], s: &[u8], table: &[Entry; 1024], hints: &[u16; 4096], n: usize) -> Seen
     requires { ⌜ n ≤ 1024 ⌝ }
     ensures { λ r. ⌜ (r .entry ≤ n) × (r .entry < n → same (now (f .entry)) (nameAt (now (s .entry)) (startsOf (now (table .entry))) (sizesOf (now (table .entry))) (r .entry)) ≡ true) × (r .entry ≡ n → Hinted (now (hints .entry)) (listing (now (s .entry)) (startsOf (now (table .entry))) (sizesOf (now (table .entry))) n) → mem (now (f .entry)) (listing (now (s .entry)) (startsOf (now (table .entry))) (sizesOf (now (table .entry))) n) ≡ false) ⌝ }
-    ensures free { λ r. ⌜ (r .entry ≡ n → Free (now (hints .entry)) (hashOf 0 (now (f .entry))) (r .at)) ⌝ }
+    ensures free { λ r. ⌜ (r .entry ≡ n → Free (now (hints .entry)) (placeOf (now (f .entry))) (r .at)) ⌝ }
 {
     let mut p = place(f);
     let mut left: usize = 4096;
@@ -173,6 +180,14 @@ fn put_hint(hints: &mut [u16; 4096], at: usize, hint: u16)
     }
 }
 
+// Stores a name's start and size at an entry.
+fn put_entry(table: &mut [Entry; 1024], n: usize, from: usize, size: usize)
+    requires { ⌜ (n < 1024) × (from < 65536) × (size < 65536) ⌝ }
+    ensures { λ r. ⌜ (startsOf (now (table .exit)) ≡ set (startsOf (now (table .entry))) n from) × (sizesOf (now (table .exit)) ≡ set (sizesOf (now (table .entry))) n size) ⌝ }
+{
+    table[n] = [from as u16, size as u16];
+}
+
 // A name's entry in the table, and how many names there are.
 pub struct Listed {
     pub entry: usize,
@@ -208,7 +223,7 @@ pub fn keep_name(
             names: 1025,
         };
     }
-    table[n] = [from as u16, size as u16];
+    put_entry(table, n, from, size);
     put_hint(hints, found.at, (n + 1) as u16);
     Listed {
         entry: n,

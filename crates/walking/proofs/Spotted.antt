@@ -168,10 +168,10 @@ module _ (s : Bytes) (starts sizes : List ℕ) (n : ℕ) (pool : Bytes) (targets
             let c1 : size ≡ length (getD ns (getD (getD a j []) 1 0) []) = z ∙ ap (λ (x : ℕ). length (nameAt s starts sizes x)) q ∙ ap length (sym name-is) in
             (omega arith, omega arith, v .1)
 
-        pub going-next : (start entry size r : ℕ) (e₁ e₂ : Em) → start ≡ getD (getD a j []) 0 0 → entry ≡ getD (getD a j []) 1 0 → size ≡ length (nameAt s starts sizes entry)
-            → e₁ ≡ puts (part done start s) e → e₂ ≡ puts (piece (getD targets entry 0) (getD spans entry 0) pool) e₁ → NextRenamed a spans (j + 1) k r → Going from to i e₀ r (start + size) e₂
+        pub going-next : (start entry size next r : ℕ) (e₁ e₂ : Em) → start ≡ getD (getD a j []) 0 0 → entry ≡ getD (getD a j []) 1 0 → size ≡ length (nameAt s starts sizes entry)
+            → e₁ ≡ puts (part done start s) e → e₂ ≡ puts (piece (getD targets entry 0) (getD spans entry 0) pool) e₁ → NextRenamed a spans next k r → next ≡ j + 1 → Going from to i e₀ r (start + size) e₂
         unfolding Stands rewritten replacement
-        going-next start entry size r e₁ e₂ p q z u v x =
+        going-next start entry size next r e₁ e₂ p q z u v x after =
             let m : start + size ≡ getD (getD a j []) 0 0 + length (getD ns (getD (getD a j []) 1 0) []) =
             (λ t. p t + (z ∙ ap (λ (x : ℕ). length (nameAt s starts sizes x)) q ∙ ap length (sym name-is)) t) in
             let w : new (getD ns (getD (getD a j []) 1 0) []) ≡ piece (getD targets entry 0) (getD spans entry 0) pool =
@@ -181,7 +181,7 @@ module _ (s : Bytes) (starts sizes : List ℕ) (n : ℕ) (pool : Bytes) (targets
             ((λ t. rewritten new s (drop (j + 1) xs) (m t) to ((v ∙ ap (puts (piece (getD targets entry 0) (getD spans entry 0) pool)) (u ∙ ap (λ (y : ℕ). puts (part done y s) e) p) ∙ ap (λ (l : Bytes). puts l (puts (part done (getD (getD a j []) 0 0) s) e)) (sym w)) t))
             ∙ ap (λ (zs : List Spot). rewritten new s zs done to e) (sym (spots-left ns a k j h))
             ∙ g .rest)
-            x
+            (subst (λ (y : ℕ). NextRenamed a spans y k r) after x)
 
       -- the rest of the text
       pub going-high : (done ≤ to) × (to ≤ length s)

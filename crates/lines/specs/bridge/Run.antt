@@ -13,8 +13,8 @@ use Rattle.algebra.specs.declared.Answer.the-variants as A
 use Rattle.algebra.specs.bridge.Table.{opens}
 use Rattle.words.specs.bridge.Code.{sortAt, sortsIn}
 use Rattle.names.specs.bridge.Names.{Holds}
-use Rattle.lines.specs.declared.check.Place.{Place}
-use Rattle.lines.specs.declared.check.Taken.{Taken}
+use Rattle.lines.specs.declared.place.Place.{Place}
+use Rattle.lines.specs.declared.place.Taken.{Taken}
 
 -- a place of a text that is not too long, where no fault was met; a line has a byte at least
 pub record Ready (s : Bytes) (p : Place) : Type 0 where

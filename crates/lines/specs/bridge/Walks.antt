@@ -14,8 +14,8 @@ use Rattle.scoping.specs.bridge.Walk.{State, state, beneath, whole, tree}
 use Rattle.scoping.specs.bridge.Spots.{Spot, Trace, trace, spotLine}
 use Rattle.words.specs.bridge.Code.{sortAt, rowOf}
 use Rattle.names.specs.bridge.Names.{listing}
-use Rattle.lines.specs.declared.check.Place.{Place}
-use Rattle.lines.specs.declared.check.Taken.{Taken}
+use Rattle.lines.specs.declared.place.Place.{Place}
+use Rattle.lines.specs.declared.place.Taken.{Taken}
 use Rattle.lines.specs.declared.check.Noting.{Noting}
 use Rattle.lines.specs.declared.check.Noting.the-variants as N
 use Rattle.lines.specs.bridge.Says.{below}

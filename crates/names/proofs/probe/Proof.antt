@@ -4,12 +4,12 @@ use Prim.Native.Nat.{_<_}
 use mathlib.Core.Path.{sym, _∙_}
 use native.Mathlib.Omega.{arith}
 use Rattle.names.proofs.Laws as L
-use Rattle.names.specs.bridge.Names.{hashOf, startsOf, sizesOf}
+use Rattle.names.specs.bridge.Names.{placeOf, startsOf, sizesOf}
 use Rattle.names.proofs.probe.Statement.{statement}
 use Rattle.names.proofs.probe.Tie as tie
 
 abbrev Inv-loop : tie.InvT-loop
-Inv-loop f s table hints n p₀ left₀ p left = (p < 4096) × L.Seeks f s (startsOf table) (sizesOf table) hints n p left × L.Taken hints (hashOf 0 f) p left
+Inv-loop f s table hints n p₀ left₀ p left = (p < 4096) × L.Seeks f s (startsOf table) (sizesOf table) hints n p left × L.Taken hints (placeOf f) p left
 
 abbrev μ-loop : tie.MeasureT-loop
 μ-loop f s table hints n p₀ left₀ p left = left

@@ -1,5 +1,5 @@
 -- The variable table in arrays: the names that it lists, in their order, and hints at where they stand. Assumes nothing.
-use Prim.Native.Nat.{ℕ, zero, suc, _+_, _*_, _%_, _≤_, _<_}
+use Prim.Native.Nat.{ℕ, zero, suc, _+_, _*_, _/_, _%_, _≤_, _<_}
 use mathlib.Core.Path.{_≡_}
 use mathlib.Core.List.{List, [], _∷_, _++_, map}
 use mathlib.Core.Bool.{Bool, cond}
@@ -7,10 +7,14 @@ use lib.ListN.{length, getD, set}
 use Rattle.text.specs.Text.{Bytes, piece}
 use Rattle.algebra.specs.Valid.{mem}
 
--- a name's place among the hints, from h on
+-- a name's hash, of 32 bits, from h on
 unfoldable pub hashOf : ℕ → Bytes → ℕ
 hashOf h [] = h
-hashOf h (b ∷ bs) = hashOf ((h * 471 + b) % 4096) bs
+hashOf h (b ∷ bs) = hashOf (((h + b) * 16777619) % 4294967296) bs
+
+-- a name's place among the hints: the hash's top twelve bits
+unfoldable pub placeOf : Bytes → ℕ
+placeOf f = hashOf 0 f / 1048576
 
 -- a column of the table: the starts of its names, and their sizes
 unfoldable pub column : ℕ → List (List ℕ) → List ℕ
@@ -43,7 +47,7 @@ Leads hints v p (suc k) = (getD hints p 0 ≡ v → ⊥) → (getD hints p 0 ≡
 -- from its own place on, each name is led to: a name's hint is its number, and these are numbered from i on
 unfoldable pub HintedFrom : ℕ → List ℕ → List Bytes → Type 0
 HintedFrom i hints [] = Unit {0}
-HintedFrom i hints (x ∷ xs) = Leads hints i (hashOf 0 x) 4096 × HintedFrom (suc i) hints xs
+HintedFrom i hints (x ∷ xs) = Leads hints i (placeOf x) 4096 × HintedFrom (suc i) hints xs
 
 -- the same from 1 on, since 0 is an empty place
 unfoldable pub Hinted : List ℕ → List Bytes → Type 0

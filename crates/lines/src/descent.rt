@@ -1,0 +1,199 @@
+// A text by descent: a line, then the groups of lines that it asks for, each line with what it asks for itself.
+use crate::below::amount;
+use crate::below::below_level;
+use crate::fields::Spot;
+use crate::place::Place;
+use crate::place::mark_below;
+use crate::place::take_line;
+use names::Entry;
+use words::Row;
+ghost use mathlib.Core.Path.{_≡_};
+ghost use Prim.Native.Nat.{_≤_, _<_};
+ghost use mathlib.Core.List.{List, [], _∷_, _++_};
+ghost use mathlib.Core.Bool.{true};
+ghost use lib.ListN.{replicate};
+ghost use lib.Dec.{eqb};
+ghost use Rattle.text.specs.Text.{linesFrom};
+ghost use Rattle.algebra.specs.Tally.{Tally, bounds};
+ghost use Rattle.algebra.specs.bridge.Machine.{Want, want, More, run};
+ghost use Rattle.names.specs.bridge.Names.{startsOf, sizesOf};
+ghost use Rattle.algebra.specs.bridge.Table.{opens};
+ghost use Rattle.scoping.specs.bridge.Walk.{times as many, child, beneath, tree};
+ghost use Rattle.scoping.specs.bridge.Spots.{spotLine};
+ghost use Rattle.scoping.specs.bridge.Places.{silent};
+ghost use Rattle.words.specs.bridge.Code.{sortAt, groupsIn, sortsIn};
+ghost use Rattle.lines.specs.bridge.Below.{groups};
+ghost use Rattle.lines.specs.bridge.Run.{Ready, Stood, Went};
+ghost use Rattle.lines.specs.bridge.Spotted.{markAt};
+ghost use Rattle.lines.specs.bridge.Walks.{storeAt, Walks, entryOf};
+
+// A line of a sort, with all that it asks for.
+pub fn check_entry(
+    p: Place,
+    level: u8,
+    sort: u8,
+    width: usize,
+    mark: u8,
+    s: &[u8],
+    table: &mut [Entry; 1024],
+    hints: &mut [u16; 4096],
+    spots: &mut [Spot],
+) -> Place
+    requires { ⌜ (sort ≤ 11) × Ready (now s) p ⌝ }
+    ensures { λ r. ⌜ ((ρ : More) (ws : List Want) (m : Tally) → Stood (now (s .entry)) (startsOf (now (table .entry))) (sizesOf (now (table .entry))) (now (hints .entry)) p m → Went (now (s .entry)) (startsOf (now (table .exit))) (sizesOf (now (table .exit))) (now (hints .exit)) ρ ws (run bounds (linesFrom (now (s .entry)) (p .from)) ρ (want (sortAt sort) level width ∷ ws) m) r) ⌝ }
+    ensures ready { λ r. ⌜ (r .fault ≡ 0 → (p .from < r .from) × Ready (now (s .entry)) r) ⌝ }
+    ensures walks { λ r. ⌜ (r .fault ≡ 0 → sort ≤ 7 → Walks (now (s .entry)) (storeAt (startsOf (now (table .entry))) (sizesOf (now (table .entry))) (now (spots .entry)) p) p (storeAt (startsOf (now (table .exit))) (sizesOf (now (table .exit))) (now (spots .exit)) r) r (entryOf level sort (markAt mark))) ⌝ }
+    ensures deep { λ r. ⌜ (r .fault ≡ 0 → opens (sortAt sort) ≡ true → level ≡ 0 → ⊥) ⌝ }
+{
+    let t = take_line(p, level, sort, width, mark, s, table, hints, spots);
+    let q = t.place;
+    if q.fault != 0 {
+        return q;
+    }
+    if t.row.below == 0 {
+        return q;
+    }
+    let d = below_level(sort, level);
+    check_below(q, d, t.row, t.first, t.second, mark, s, table, hints, spots)
+}
+
+// The groups of lines that a line with that row asks for.
+fn check_below(
+    p: Place,
+    level: u8,
+    row: Row,
+    first: usize,
+    second: usize,
+    mark: u8,
+    s: &[u8],
+    table: &mut [Entry; 1024],
+    hints: &mut [u16; 4096],
+    spots: &mut [Spot],
+) -> Place
+    requires { ⌜ (sortsIn 11 3 (row .below) ≡ true) × (first < 4294967296) × (second < 4294967296) × Ready (now s) p ⌝ }
+    ensures { λ r. ⌜ ((ρ : More) (ws : List Want) (m : Tally) → Stood (now (s .entry)) (startsOf (now (table .entry))) (sizesOf (now (table .entry))) (now (hints .entry)) p m → Went (now (s .entry)) (startsOf (now (table .exit))) (sizesOf (now (table .exit))) (now (hints .exit)) ρ ws (run bounds (linesFrom (now (s .entry)) (p .from)) ρ (groups 3 (row .below) level first second ++ ws) m) r) ⌝ }
+    ensures ready { λ r. ⌜ (r .fault ≡ 0 → (p .from ≤ r .from) × Ready (now (s .entry)) r) ⌝ }
+    ensures walks { λ r. ⌜ (r .fault ≡ 0 → sortsIn 6 3 (row .below) ≡ true → Walks (now (s .entry)) (storeAt (startsOf (now (table .entry))) (sizesOf (now (table .entry))) (now (spots .entry)) p) p (storeAt (startsOf (now (table .exit))) (sizesOf (now (table .exit))) (now (spots .exit)) r) r (beneath spotLine (tree spotLine level) (eqb (row .flag) 1) (markAt mark) (groupsIn 3 (row .below)) (first ∷ second ∷ []))) ⌝ }
+{
+    let mut q = p;
+    let mut code = row.below;
+    while code != 0 {
+        let times = amount(code, first, second);
+        q = check_lines(
+            q,
+            level,
+            (code / 32 % 16) as u8,
+            first,
+            times,
+            mark,
+            row.flag,
+            s,
+            table,
+            hints,
+            spots,
+        );
+        if q.fault != 0 {
+            return q;
+        }
+        code = code / 512;
+    }
+    q
+}
+
+// So many lines of a sort, each with all that it asks for.
+fn check_lines(
+    p: Place,
+    level: u8,
+    sort: u8,
+    width: usize,
+    times: u64,
+    mark: u8,
+    flag: u8,
+    s: &[u8],
+    table: &mut [Entry; 1024],
+    hints: &mut [u16; 4096],
+    spots: &mut [Spot],
+) -> Place
+    requires { ⌜ (sort ≤ 11) × Ready (now s) p ⌝ }
+    ensures { λ r. ⌜ ((ρ : More) (ws : List Want) (m : Tally) → Stood (now (s .entry)) (startsOf (now (table .entry))) (sizesOf (now (table .entry))) (now (hints .entry)) p m → Went (now (s .entry)) (startsOf (now (table .exit))) (sizesOf (now (table .exit))) (now (hints .exit)) ρ ws (run bounds (linesFrom (now (s .entry)) (p .from)) ρ (replicate times (want (sortAt sort) level width) ++ ws) m) r) ⌝ }
+    ensures ready { λ r. ⌜ (r .fault ≡ 0 → (p .from ≤ r .from) × Ready (now (s .entry)) r) ⌝ }
+    ensures walks { λ r. ⌜ (r .fault ≡ 0 → sort ≤ 6 → Walks (now (s .entry)) (storeAt (startsOf (now (table .entry))) (sizesOf (now (table .entry))) (now (spots .entry)) p) p (storeAt (startsOf (now (table .exit))) (sizesOf (now (table .exit))) (now (spots .exit)) r) r (many (child spotLine (tree spotLine level) (eqb flag 1) (markAt mark) (sortAt sort)) times)) ⌝ }
+{
+    let mut q = p;
+    let mut left = times;
+    while 0 < left {
+        left -= 1;
+        let m = mark_below(sort, flag, left == 0, mark);
+        q = check_child(q, level, sort, width, m, s, table, hints, spots);
+        if q.fault != 0 {
+            return q;
+        }
+    }
+    q
+}
+
+// A graph pattern with all that stands below it.
+fn check_pattern(
+    p: Place,
+    level: u8,
+    width: usize,
+    mark: u8,
+    s: &[u8],
+    table: &mut [Entry; 1024],
+    hints: &mut [u16; 4096],
+    spots: &mut [Spot],
+) -> Place
+    requires { ⌜ Ready (now s) p ⌝ }
+    ensures { λ r. ⌜ ((ρ : More) (ws : List Want) (m : Tally) → Stood (now (s .entry)) (startsOf (now (table .entry))) (sizesOf (now (table .entry))) (now (hints .entry)) p m → Went (now (s .entry)) (startsOf (now (table .exit))) (sizesOf (now (table .exit))) (now (hints .exit)) ρ ws (run bounds (linesFrom (now (s .entry)) (p .from)) ρ (want (sortAt 2) level width ∷ ws) m) r) ⌝ }
+    ensures ready { λ r. ⌜ (r .fault ≡ 0 → (p .from < r .from) × Ready (now (s .entry)) r) ⌝ }
+    ensures walks { λ r. ⌜ (r .fault ≡ 0 → Walks (now (s .entry)) (storeAt (startsOf (now (table .entry))) (sizesOf (now (table .entry))) (now (spots .entry)) p) p (storeAt (startsOf (now (table .exit))) (sizesOf (now (table .exit))) (now (spots .exit)) r) r (entryOf level 2 (markAt mark))) ⌝ }
+    ensures deep { λ r. ⌜ (r .fault ≡ 0 → opens (sortAt 2) ≡ true → level ≡ 0 → ⊥) ⌝ }
+{
+    check_entry(p, level, 2, width, mark, s, table, hints, spots)
+}
+
+// An expression with all that stands below it: none of its variables is visible or covered.
+fn check_expression(
+    p: Place,
+    level: u8,
+    width: usize,
+    s: &[u8],
+    table: &mut [Entry; 1024],
+    hints: &mut [u16; 4096],
+    spots: &mut [Spot],
+) -> Place
+    requires { ⌜ Ready (now s) p ⌝ }
+    ensures { λ r. ⌜ ((ρ : More) (ws : List Want) (m : Tally) → Stood (now (s .entry)) (startsOf (now (table .entry))) (sizesOf (now (table .entry))) (now (hints .entry)) p m → Went (now (s .entry)) (startsOf (now (table .exit))) (sizesOf (now (table .exit))) (now (hints .exit)) ρ ws (run bounds (linesFrom (now (s .entry)) (p .from)) ρ (want (sortAt 3) level width ∷ ws) m) r) ⌝ }
+    ensures ready { λ r. ⌜ (r .fault ≡ 0 → (p .from < r .from) × Ready (now (s .entry)) r) ⌝ }
+    ensures walks { λ r. ⌜ (r .fault ≡ 0 → Walks (now (s .entry)) (storeAt (startsOf (now (table .entry))) (sizesOf (now (table .entry))) (now (spots .entry)) p) p (storeAt (startsOf (now (table .exit))) (sizesOf (now (table .exit))) (now (spots .exit)) r) r (entryOf level 3 silent)) ⌝ }
+    ensures deep { λ r. ⌜ (r .fault ≡ 0 → opens (sortAt 3) ≡ true → level ≡ 0 → ⊥) ⌝ }
+{
+    check_entry(p, level, 3, width, 2, s, table, hints, spots)
+}
+
+// A line below another, with all that it asks for: a pattern, an expression, or a line of another sort.
+fn check_child(
+    p: Place,
+    level: u8,
+    sort: u8,
+    width: usize,
+    mark: u8,
+    s: &[u8],
+    table: &mut [Entry; 1024],
+    hints: &mut [u16; 4096],
+    spots: &mut [Spot],
+) -> Place
+    requires { ⌜ ((sort ≤ 11) × (sort ≡ 3 → markAt mark ≡ silent)) × Ready (now s) p ⌝ }
+    ensures { λ r. ⌜ ((ρ : More) (ws : List Want) (m : Tally) → Stood (now (s .entry)) (startsOf (now (table .entry))) (sizesOf (now (table .entry))) (now (hints .entry)) p m → Went (now (s .entry)) (startsOf (now (table .exit))) (sizesOf (now (table .exit))) (now (hints .exit)) ρ ws (run bounds (linesFrom (now (s .entry)) (p .from)) ρ (want (sortAt sort) level width ∷ ws) m) r) ⌝ }
+    ensures ready { λ r. ⌜ (r .fault ≡ 0 → (p .from < r .from) × Ready (now (s .entry)) r) ⌝ }
+    ensures walks { λ r. ⌜ (r .fault ≡ 0 → sort ≤ 7 → Walks (now (s .entry)) (storeAt (startsOf (now (table .entry))) (sizesOf (now (table .entry))) (now (spots .entry)) p) p (storeAt (startsOf (now (table .exit))) (sizesOf (now (table .exit))) (now (spots .exit)) r) r (entryOf level sort (markAt mark))) ⌝ }
+    ensures deep { λ r. ⌜ (r .fault ≡ 0 → opens (sortAt sort) ≡ true → level ≡ 0 → ⊥) ⌝ }
+{
+    if sort == 2 {
+        return check_pattern(p, level, width, mark, s, table, hints, spots);
+    }
+    if sort == 3 {
+        return check_expression(p, level, width, s, table, hints, spots);
+    }
+    check_entry(p, level, sort, width, mark, s, table, hints, spots)
+}
