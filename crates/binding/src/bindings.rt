@@ -92,16 +92,7 @@ fn bindings_of(tree: &[u8], sets: &[u8], out: &mut [u8]) -> Answer
         return Answer::NotUsable;
     }
     let end = inner_end(tree, inner);
-    if !has_room(
-        tree,
-        inner,
-        end,
-        &columns,
-        n,
-        sets,
-        judged.sets,
-        out.len(),
-    ) {
+    if !has_room(tree, inner, end, &columns, n, sets, judged.sets, out.len()) {
         return Answer::TooShort;
     }
     let put = put_bindings(tree, inner, end, &columns, n, sets, judged.sets, out);

@@ -118,12 +118,7 @@ fn placed_end(placed: bool, end: usize, at: usize) -> usize
 }
 
 // All filters, and nothing written.
-pub fn measure_filters(
-    tree: &[u8],
-    columns: &[Entry; 64],
-    n: usize,
-    filters: &[u8],
-) -> Measured
+pub fn measure_filters(tree: &[u8], columns: &[Entry; 64], n: usize, filters: &[u8]) -> Measured
     requires { ⌜ n ≤ 64 ⌝ }
     ensures { λ r. ⌜ Measures (columnsIn (now (tree .entry)) (now (columns .entry)) n) (now (filters .entry)) r ⌝ }
 {

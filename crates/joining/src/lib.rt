@@ -1,3 +1,5 @@
 // The calls that join: merge patterns and merge queries, and push constants, which joins a query with its constants.
-pub mod merge;
+mod merge;
+pub mod patterns;
 pub mod push;
+pub mod queries;

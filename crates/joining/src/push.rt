@@ -10,7 +10,7 @@ use lists::check_constants;
 use names::Entry;
 use projects::push::push_in_project;
 use reading::note_query;
-use sides::side::is_project;
+use sides::project::is_project;
 ghost use Rattle.answers.specs.Outcome.{Answered};
 ghost use Rattle.merging.specs.Push.{pushConstantsOutcome};
 ghost use Rattle.projects.specs.bridge.Joining.{HasRoom, KnownText, KnownTerms};

@@ -1,6 +1,6 @@
 -- Laws of the new names in the pool: one more is written, and the earlier ones stay. Assumes nothing.
 use mathlib.Core.Path.{_≡_, refl, sym, ap, ap₂, subst, _∙_}
-use mathlib.Core.List.{List, _++_, append-assoc}
+use mathlib.Core.List.{List, [], _∷_, _++_, append-assoc}
 use mathlib.Core.Bool.{Bool, true, cond}
 use mathlib.Core.Logic.{⊎-elim}
 use mathlib.Core.Option.{Option}
@@ -13,7 +13,8 @@ use lib.Dec.{eqb}
 use borrow.Author.Tests.{ne-eqb}
 use Rattle.text.specs.Text.{Bytes, piece}
 use Rattle.algebra.specs.Valid.{mem}
-use Rattle.names.specs.bridge.Names.{nameAt, listing}
+use Rattle.names.specs.bridge.Names.{nameAt, listing, startsOf, sizesOf}
+use Rattle.names.proofs.Columns.{column-length, column-set}
 use Rattle.names.proofs.Laws.{listing-long}
 use Rattle.emit.specs.bridge.Emit.{Em, em, last, puts}
 use Rattle.emit.proofs.Laws.{puts-nil, puts-append, puts-at, puts-out}
@@ -24,8 +25,8 @@ use Rattle.scoping.specs.bridge.Pushes.{Push, lookup, newName}
 use Rattle.scoping.proofs.Index.{at-index, index-below}
 use Rattle.scoping.specs.bridge.Becomes.{replacement}
 use Rattle.names.proofs.Laws.{listing-at}
-use Rattle.naming.specs.declared.Hit.{Hit}
-use Rattle.naming.specs.declared.Hit.the-variants.{Missing, Plain, Labelled}
+use Rattle.naming.specs.declared.new_names.Hit.{Hit}
+use Rattle.naming.specs.declared.new_names.Hit.the-variants.{Missing, Plain, Labelled}
 use Rattle.naming.specs.bridge.Code.{said, written, Laid, becomesAt, Settled, SettledTo, Standard}
 use Rattle.naming.proofs.Decimals.{digits-five}
 
@@ -105,8 +106,8 @@ module _ (ps : List Push) (s : Bytes) (a l : List ℕ) (i x y : ℕ) (f : Bytes)
   unfolding newName
   named = ap (λ (o : Option Bytes). orSelf o (nameAt s a l i)) (says ∙ ap (λ (w : Bytes). lookup w ps) (ef ∙ ap₂ (λ (p q : ℕ). piece p q s) ex ey))
 
-  pub settles : (targets spans : List ℕ) → i < length targets → i < length spans → Settled ps (nameAt s a l i) i at r pool targets spans pool′ (set targets i at) (set spans i (r - at))
-  settles targets spans ht hs =
+  settled : (targets spans : List ℕ) → i < length targets → i < length spans → Settled ps (nameAt s a l i) i at r pool targets spans pool′ (set targets i at) (set spans i (r - at))
+  settled targets spans ht hs =
       let span : r - at ≡ length (written h) = omega (arith, put .end) in
       let t : getD (set targets i at) i 0 ≡ at = getD-set-same targets i at 0 ht in
       let u : getD (set spans i (r - at)) i 0 ≡ r - at = getD-set-same spans i (r - at) 0 hs in
@@ -121,6 +122,12 @@ module _ (ps : List Push) (s : Bytes) (a l : List ℕ) (i x y : ℕ) (f : Bytes)
         before = ap (take at) (put .over) ∙ sets-before (written h) pool at fits;
         others = λ k n. (getD-set-other targets i k at 0 n, getD-set-other spans i k (r - at) 0 n);
       }
+
+  -- the entry of the name is its start and its size
+  pub settles : (t : List (List ℕ)) → i < length t → Settled ps (nameAt s a l i) i at r pool (startsOf t) (sizesOf t) pool′ (startsOf (set t i (at ∷ (r - at) ∷ []))) (sizesOf (set t i (at ∷ (r - at) ∷ [])))
+  settles t h =
+      rw (column-set 0 t i (at ∷ (r - at) ∷ []), column-set 1 t i (at ∷ (r - at) ∷ []))
+      (settled (startsOf t) (sizesOf t) (omega (arith, h, column-length 0 t)) (omega (arith, h, column-length 1 t)))
 
 -- ---- one more
 

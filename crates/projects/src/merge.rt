@@ -9,7 +9,7 @@ use sides::columns::width;
 use sides::side::Prepared;
 use sides::side::Side;
 use sides::side::prepare;
-use sides::side::put_side;
+use sides::writing::put_side;
 use text::piece;
 ghost use mathlib.Core.Path.{_≡_};
 ghost use Prim.Native.Nat.{_-_, _≤_};
@@ -81,8 +81,7 @@ pub fn merge_projects(
     ensures { λ r. ⌜ ((x y : Projection) (js ks ls : List Pair) → Stands (now (left .entry)) «left_from» (startsOf (now («left_table» .entry))) (sizesOf (now («left_table» .entry))) «left_n» (now («left_spots» .entry)) (tree x) → Stands (now (right .entry)) «right_from» (startsOf (now («right_table» .entry))) (sizesOf (now («right_table» .entry))) «right_n» (now («right_spots» .entry)) (tree y) → Lists (now (pairs .entry)) (now («left_constants» .entry)) (now («right_constants» .entry)) js ks ls → Answered (joinedBehind (take «left_from» (now (left .entry))) x y js ks ls) (now (out .entry)) (now (out .exit)) r) ⌝ }
 {
     let mut left_pool = [0u8; 16384];
-    let mut left_targets = [0u16; 1024];
-    let mut left_spans = [0u16; 1024];
+    let mut left_news = [[0u16; 2]; 1024];
     let mut left_line = [0u8; 8336];
     let mut left_at = [0u16; 64];
     let mut left_lines = [0u16; 64];
@@ -97,8 +96,7 @@ pub fn merge_projects(
         false,
         left_constants,
         &mut left_pool,
-        &mut left_targets,
-        &mut left_spans,
+        &mut left_news,
         &mut left_line,
         &mut left_at,
         &mut left_lines,
@@ -106,8 +104,7 @@ pub fn merge_projects(
         return Answer::Outside;
     };
     let mut right_pool = [0u8; 16384];
-    let mut right_targets = [0u16; 1024];
-    let mut right_spans = [0u16; 1024];
+    let mut right_news = [[0u16; 2]; 1024];
     let mut right_line = [0u8; 8336];
     let mut right_at = [0u16; 64];
     let mut right_lines = [0u16; 64];
@@ -122,8 +119,7 @@ pub fn merge_projects(
         true,
         right_constants,
         &mut right_pool,
-        &mut right_targets,
-        &mut right_spans,
+        &mut right_news,
         &mut right_line,
         &mut right_at,
         &mut right_lines,
@@ -148,8 +144,7 @@ pub fn merge_projects(
         left_n,
         left_spots,
         &left_pool,
-        &left_targets,
-        &left_spans,
+        &left_news,
         l,
         &left_line,
         left_constants,
@@ -164,8 +159,7 @@ pub fn merge_projects(
         right_n,
         right_spots,
         &right_pool,
-        &right_targets,
-        &right_spans,
+        &right_news,
         r,
         &right_line,
         right_constants,
@@ -184,8 +178,7 @@ pub fn merge_projects(
         left_n,
         left_spots,
         &left_pool,
-        &left_targets,
-        &left_spans,
+        &left_news,
         l,
         &left_line,
         left_constants,
@@ -200,8 +193,7 @@ pub fn merge_projects(
         right_n,
         right_spots,
         &right_pool,
-        &right_targets,
-        &right_spans,
+        &right_news,
         r,
         &right_line,
         right_constants,

@@ -9,7 +9,7 @@ use sides::columns::width;
 use sides::side::Prepared;
 use sides::side::Side;
 use sides::side::prepare;
-use sides::side::put_side;
+use sides::writing::put_side;
 use text::piece;
 ghost use mathlib.Core.Path.{_≡_};
 ghost use Prim.Native.Nat.{_-_, _≤_};
@@ -61,8 +61,7 @@ pub fn push_in_project(
     ensures { λ r. ⌜ ((x : Projection) (ks : List Pair) → Stands (now (query .entry)) from (startsOf (now (table .entry))) (sizesOf (now (table .entry))) n (now (spots .entry)) (tree x) → Terms (now (constants .entry)) ks → Answered (pushedBehind (take from (now (query .entry))) x ks) (now (out .entry)) (now (out .exit)) r) ⌝ }
 {
     let mut pool = [0u8; 16384];
-    let mut targets = [0u16; 1024];
-    let mut spans = [0u16; 1024];
+    let mut news = [[0u16; 2]; 1024];
     let mut line = [0u8; 8336];
     let mut at = [0u16; 64];
     let mut lines = [0u16; 64];
@@ -77,8 +76,7 @@ pub fn push_in_project(
         false,
         constants,
         &mut pool,
-        &mut targets,
-        &mut spans,
+        &mut news,
         &mut line,
         &mut at,
         &mut lines,
@@ -93,8 +91,7 @@ pub fn push_in_project(
         n,
         spots,
         &pool,
-        &targets,
-        &spans,
+        &news,
         side,
         &line,
         constants,
@@ -113,8 +110,7 @@ pub fn push_in_project(
         n,
         spots,
         &pool,
-        &targets,
-        &spans,
+        &news,
         side,
         &line,
         constants,

@@ -12,6 +12,8 @@ use Rattle.text.proofs.Basics.{same-eq, same-refl}
 use Rattle.algebra.specs.Query.{Pair, mapping}
 use Rattle.algebra.specs.Valid.{mem, ValidPairs}
 use Rattle.algebra.proofs.Theorem.{pairs-exactly}
+use Rattle.names.specs.bridge.Names.{startsOf, sizesOf}
+use Rattle.names.proofs.Columns.{column-length, column-set}
 use Rattle.scoping.specs.Sets.{indexOf}
 use Rattle.scoping.proofs.Index.{same-place}
 use Rattle.scoping.specs.bridge.Becomes.{replacement}
@@ -46,12 +48,19 @@ module _ (ns : List Bytes) (n : ℕ) (pairs : Bytes) (x : Pair) (targets spans :
     unfolding replacement
     stays f d = rw (getD-set-other targets k (indexOf f ns) a 0 d, getD-set-other spans k (indexOf f ns) l 0 d)
 
-    pub settled-set : Settled ns n pairs x targets spans (set targets k a) (set spans k l)
-    settled-set = record { taken = λ f i. go f i (same f (x .first)) refl; others = λ j h. getD-set-other spans k j l 0 (let z : j ≡ k → ⊥ = omega arith in z); entries = (length-set targets k a, length-set spans k l) }
+    set-is : Settled ns n pairs x targets spans (set targets k a) (set spans k l)
+    set-is = record { taken = λ f i. go f i (same f (x .first)) refl; others = λ j h. getD-set-other spans k j l 0 (let z : j ≡ k → ⊥ = omega arith in z); entries = (length-set targets k a, length-set spans k l) }
       where
         go : (f : Bytes) → mem f ns ≡ true → (b : Bool) → same f (x .first) ≡ b → replacement ns pairs (set targets k a) (set spans k l) f ≡ cond b (x .second) (replacement ns pairs targets spans f)
         go f i true e = ap (replacement ns pairs (set targets k a) (set spans k l)) (same-eq f (x .first) e) ∙ becomes-second
         go f i false e = stays f (λ q. false≢true (sym e ∙ same-self f (x .first) (same-place f first ns i here (q ∙ sym is) ∙ named)))
+
+-- its first name is in the table: its entry is the second's start and size
+module _ (ns : List Bytes) (n : ℕ) (pairs : Bytes) (x : Pair) (t : List (List ℕ)) (first : Bytes) (named : first ≡ x .first) (k a l : ℕ) (low : k < n) (roomy : k < length t) (here : mem first ns ≡ true) (is : indexOf first ns ≡ k) (bytes : piece a l pairs ≡ x .second) (some : x .second ≡ [] → ⊥) where
+  pub settled-set : Settled ns n pairs x (startsOf t) (sizesOf t) (startsOf (set t k (a ∷ l ∷ []))) (sizesOf (set t k (a ∷ l ∷ [])))
+  settled-set =
+      rw (column-set 0 t k (a ∷ l ∷ []), column-set 1 t k (a ∷ l ∷ []))
+      (set-is ns n pairs x (startsOf t) (sizesOf t) first named k a l low (omega (arith, roomy, column-length 0 t)) (omega (arith, roomy, column-length 1 t)) here is bytes some)
 
 -- ---- the whole mapping
 

@@ -32,16 +32,14 @@ fn set_target(
     n: usize,
     mapping: &[u8],
     key: Pair,
-    targets: &mut [u16; 1024],
-    spans: &mut [u16; 1024],
+    news: &mut [Entry; 1024],
 )
-    requires { ⌜ (length (now targets) ≡ 1024) × (length (now spans) ≡ 1024) × Named (now tree) (startsOf (now table)) (sizesOf (now table)) (now hints) n × (pairAt (now mapping) key .second ≡ [] → ⊥) ⌝ }
-    ensures { λ _. ⌜ Settled (listing (now (tree .entry)) (startsOf (now (table .entry))) (sizesOf (now (table .entry))) n) n (now (mapping .entry)) (pairAt (now (mapping .entry)) key) (now (targets .entry)) (now (spans .entry)) (now (targets .exit)) (now (spans .exit)) ⌝ }
+    requires { ⌜ (length (now news) ≡ 1024) × Named (now tree) (startsOf (now table)) (sizesOf (now table)) (now hints) n × (pairAt (now mapping) key .second ≡ [] → ⊥) ⌝ }
+    ensures { λ _. ⌜ Settled (listing (now (tree .entry)) (startsOf (now (table .entry))) (sizesOf (now (table .entry))) n) n (now (mapping .entry)) (pairAt (now (mapping .entry)) key) (startsOf (now (news .entry))) (sizesOf (now (news .entry))) (startsOf (now (news .exit))) (sizesOf (now (news .exit))) ⌝ }
 {
     let k = find_name(field_at(mapping, key[0], key[1]), tree, table, hints, n);
     if k < n {
-        targets[k] = key[2];
-        spans[k] = key[3];
+        news[k] = [key[2], key[3]];
     }
 }
 
@@ -54,15 +52,14 @@ fn find_targets(
     mapping: &[u8],
     keys: &[Pair; 64],
     m: usize,
-    targets: &mut [u16; 1024],
-    spans: &mut [u16; 1024],
+    news: &mut [Entry; 1024],
 )
-    requires { ⌜ KnownPairs (now mapping) (now keys) m × ((length (now targets) ≡ 1024) × (length (now spans) ≡ 1024)) × ((i : ℕ) → getD (now spans) i 0 ≡ 0) × Named (now tree) (startsOf (now table)) (sizesOf (now table)) (now hints) n ⌝ }
-    ensures { λ _. ⌜ Targets (listing (now (tree .entry)) (startsOf (now (table .entry))) (sizesOf (now (table .entry))) n) n (now (mapping .entry)) (now (targets .exit)) (now (spans .exit)) ⌝ }
+    requires { ⌜ KnownPairs (now mapping) (now keys) m × (length (now news) ≡ 1024) × ((i : ℕ) → getD (sizesOf (now news)) i 0 ≡ 0) × Named (now tree) (startsOf (now table)) (sizesOf (now table)) (now hints) n ⌝ }
+    ensures { λ _. ⌜ Targets (listing (now (tree .entry)) (startsOf (now (table .entry))) (sizesOf (now (table .entry))) n) n (now (mapping .entry)) (startsOf (now (news .exit))) (sizesOf (now (news .exit))) ⌝ }
 {
     let mut i = 0;
     while i < m {
-        set_target(tree, table, hints, n, mapping, keys[i], targets, spans);
+        set_target(tree, table, hints, n, mapping, keys[i], news);
         i += 1;
     }
 }
@@ -75,12 +72,11 @@ fn is_room(
     spots: &[Spot],
     k: usize,
     mapping: &[u8],
-    targets: &[u16; 1024],
-    spans: &[u16; 1024],
+    news: &[Entry; 1024],
     room: usize,
 ) -> bool
-    requires { ⌜ Surveyed (now tree) (startsOf (now table)) (sizesOf (now table)) n (now spots) k × Targets (listing (now tree) (startsOf (now table)) (sizesOf (now table)) n) n (now mapping) (now targets) (now spans) ⌝ }
-    ensures { λ r. ⌜ (r ≡ true → renamedSize (now (tree .entry)) (startsOf (now (table .entry))) (sizesOf (now (table .entry))) n (now (spots .entry)) k (now (mapping .entry)) (now (targets .entry)) (now (spans .entry)) ≤ room) × (r ≡ false → room < renamedSize (now (tree .entry)) (startsOf (now (table .entry))) (sizesOf (now (table .entry))) n (now (spots .entry)) k (now (mapping .entry)) (now (targets .entry)) (now (spans .entry))) ⌝ }
+    requires { ⌜ Surveyed (now tree) (startsOf (now table)) (sizesOf (now table)) n (now spots) k × Targets (listing (now tree) (startsOf (now table)) (sizesOf (now table)) n) n (now mapping) (startsOf (now news)) (sizesOf (now news)) ⌝ }
+    ensures { λ r. ⌜ (r ≡ true → renamedSize (now (tree .entry)) (startsOf (now (table .entry))) (sizesOf (now (table .entry))) n (now (spots .entry)) k (now (mapping .entry)) (startsOf (now (news .entry))) (sizesOf (now (news .entry))) ≤ room) × (r ≡ false → room < renamedSize (now (tree .entry)) (startsOf (now (table .entry))) (sizesOf (now (table .entry))) n (now (spots .entry)) k (now (mapping .entry)) (startsOf (now (news .entry))) (sizesOf (now (news .entry)))) ⌝ }
 {
     if tree.len() <= room / 44 {
         return true;
@@ -97,8 +93,7 @@ fn is_room(
         table,
         n,
         mapping,
-        targets,
-        spans,
+        news,
         &mut none,
         0,
     );
@@ -113,32 +108,17 @@ fn rename_over(
     spots: &[Spot],
     k: usize,
     mapping: &[u8],
-    targets: &[u16; 1024],
-    spans: &[u16; 1024],
+    news: &[Entry; 1024],
     out: &mut [u8],
 ) -> Answer
-    requires { ⌜ Surveyed (now tree) (startsOf (now table)) (sizesOf (now table)) n (now spots) k × Targets (listing (now tree) (startsOf (now table)) (sizesOf (now table)) n) n (now mapping) (now targets) (now spans) ⌝ }
+    requires { ⌜ Surveyed (now tree) (startsOf (now table)) (sizesOf (now table)) n (now spots) k × Targets (listing (now tree) (startsOf (now table)) (sizesOf (now table)) n) n (now mapping) (startsOf (now news)) (sizesOf (now news)) ⌝ }
     ensures { λ r. ⌜ Answered (renameOutcome (now (tree .entry)) (now (mapping .entry))) (now (out .entry)) (now (out .exit)) r ⌝ }
 {
-    if !is_room(tree, table, n, spots, k, mapping, targets, spans, out.len()) {
+    if !is_room(tree, table, n, spots, k, mapping, news, out.len()) {
         return Answer::TooShort;
     }
     let end = tree.len();
-    let size = put_renamed(
-        tree,
-        0,
-        end,
-        spots,
-        0,
-        k,
-        table,
-        n,
-        mapping,
-        targets,
-        spans,
-        out,
-        0,
-    );
+    let size = put_renamed(tree, 0, end, spots, 0, k, table, n, mapping, news, out, 0);
     Answer::Written(size)
 }
 
@@ -158,20 +138,9 @@ fn rename_of(
     requires { ⌜ Known (now tree) (startsOf (now table)) (sizesOf (now table)) (now hints) n × Noted (now tree) 0 (listing (now tree) (startsOf (now table)) (sizesOf (now table)) n) (now spots) k × KnownPairs (now mapping) (now keys) m ⌝ }
     ensures { λ r. ⌜ Answered (renameOutcome (now (tree .entry)) (now (mapping .entry))) (now (out .entry)) (now (out .exit)) r ⌝ }
 {
-    let mut targets = [0u16; 1024];
-    let mut spans = [0u16; 1024];
-    find_targets(
-        tree,
-        table,
-        hints,
-        n,
-        mapping,
-        keys,
-        m,
-        &mut targets,
-        &mut spans,
-    );
-    rename_over(tree, table, n, spots, k, mapping, &targets, &spans, out)
+    let mut news = [[0u16; 2]; 1024];
+    find_targets(tree, table, hints, n, mapping, keys, m, &mut news);
+    rename_over(tree, table, n, spots, k, mapping, &news, out)
 }
 
 // The same for a tree that was checked and any mapping.

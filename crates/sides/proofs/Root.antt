@@ -7,6 +7,7 @@ use mathlib.Core.Logic.{⊎-elim}
 use native.Mathlib.Omega.{arith}
 use mir.Syntax.{w64}
 use mir.Val.{Fits}
+use lib.Dec.{eqb}
 use lib.ListN.{length, getD}
 use lib.Count.{ones, ones-le}
 use Rattle.text.specs.Text.{Bytes, Line, same, part, linesFrom, First}
@@ -14,11 +15,28 @@ use Rattle.text.specs.Word.{bytes}
 use Rattle.text.proofs.Places.{lines-next}
 use Rattle.reader.specs.bridge.Lines.{LineEnd}
 use Rattle.reader.proofs.Laws.{nothing-here}
+use Rattle.words.specs.bridge.Key.{keyOf, Told, Keyed}
 use Rattle.walking.proofs.Laws.{line-split}
 
-module _ (s : Bytes) (from e : ℕ) (l : LineEnd s from e) (w : Bytes) where
-  pub root-none : e ≡ length s → same [] w ≡ false → false ≡ same (getD (getD (linesFrom s from) 0 []) 0 []) w
-  root-none q h = ⊎-elim (λ (z : linesFrom s from ≡ []). rw z (sym h)) (λ (z : linesFrom s from ≡ [] ∷ []). rw z (sym h)) (nothing-here s from e l q)
+told-project : Told (bytes "project")
+told-project = record {
+  first = λ e. omega arith;
+  long = omega arith;
+  small = (omega arith, (omega arith, (omega arith, (omega arith, (omega arith, (omega arith, (omega arith, tt)))))));
+}
+
+-- the key of a line's word tells whether it is that of a project
+project-by-key : (f : Bytes) (k : ℕ) → Keyed f k → eqb k 31651020243559284 ≡ same f (bytes "project")
+unfolding keyOf
+project-by-key f k h = sym (h (bytes "project") told-project)
+
+module _ (s : Bytes) (from e : ℕ) (l : LineEnd s from e) where
+  abbrev pub IsProject : Bool → Type 0
+  IsProject r = r ≡ same (getD (getD (linesFrom s from) 0 []) 0 []) (bytes "project")
+
+  pub root-none : e ≡ length s → IsProject false
+  unfolding same
+  root-none q = ⊎-elim (λ (z : linesFrom s from ≡ []). rw z refl) (λ (z : linesFrom s from ≡ [] ∷ []). rw z refl) (nothing-here s from e l q)
 
   module _ (low : e ≡ length s → ⊥) where
     ends : e < length s
@@ -27,8 +45,9 @@ module _ (s : Bytes) (from e : ℕ) (l : LineEnd s from e) (w : Bytes) where
     pub root-low : from ≤ e
     root-low = l .ends ends .low
 
-    pub root-is : (word : ℕ) (r : Bool) → First 9 s from e word → r ≡ same (part from word s) w → r ≡ same (getD (getD (linesFrom s from) 0 []) 0 []) w
-    root-is word r f q = q ∙ ap (λ (k : Line). same (getD k 0 []) w) (sym (line-split s from e word ends root-low f)) ∙ ap (λ (k : List Line). same (getD (getD k 0 []) 0 []) w) (sym (lines-next s from e (l .ends ends) ends))
+    pub root-is : (word k : ℕ) → First 9 s from e word → Keyed (part from word s) k → IsProject (eqb k 31651020243559284)
+    root-is word k f h =
+        project-by-key (part from word s) k h ∙ ap (λ (y : Line). same (getD y 0 []) (bytes "project")) (sym (line-split s from e word ends root-low f)) ∙ ap (λ (y : List Line). same (getD (getD y 0 []) 0 []) (bytes "project")) (sym (lines-next s from e (l .ends ends) ends))
 
 pub ones-fit : (m : ℕ) → Fits w64 m → Fits w64 (ones m)
 ones-fit m f = let a : ones m ≤ 64 = ones-le 64 m (f .fits) in record { fits = let b : 64 < 2 ^ 64 = omega arith in omega arith }

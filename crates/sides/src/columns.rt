@@ -1,9 +1,9 @@
 // A project's line and which of its columns go: a mask has one bit a column, the lowest for the first.
+use cursor::field_end;
 use emit::put;
 use emit::put_all;
 use names::wide;
 use text::equal;
-use text::find;
 ghost use mathlib.Core.Path.{_≡_};
 ghost use Prim.Native.Nat.{_+_, _*_, _-_, _%_, _^_, _≤_, _<_};
 ghost use mathlib.Core.List.{[], _∷_, map};
@@ -62,7 +62,7 @@ pub fn put_columns(
     let mut bits = mask;
     let mut left = count;
     while 0 < left {
-        let e = find(line, next, end, 9);
+        let e = field_end(line, next, end);
         let chosen = bits % 2 == bit;
         to = put_column(line, next, e, chosen, out, to);
         left = less(left, chosen);
@@ -139,7 +139,7 @@ fn is_marked(line: &[u8], end: usize, mask: u64, name: &[u8]) -> bool
     let mut next = FIRST;
     let mut bits = mask;
     while next <= end {
-        let e = find(line, next, end, 9);
+        let e = field_end(line, next, end);
         if is_column(line, next, e, bits, name) {
             return true;
         }
@@ -185,7 +185,7 @@ pub fn joined_mask(
     let mut next = FIRST;
     let mut bits = mask;
     while next <= end {
-        let e = find(line, next, end, 9);
+        let e = field_end(line, next, end);
         gone = with_bit(gone, i, goes(line, next, e, bits, other, limit, marks));
         bits /= 2;
         next = e + 1;

@@ -1,10 +1,10 @@
 // A list of pairs that was checked: its positions, and the terms of a constant list by rising position.
 use crate::columns::place_of;
+use cursor::field_end;
 use emit::put;
 use emit::put_all;
 use names::wide;
 use reader::line_end;
-use text::find;
 use walking::line::count_at;
 ghost use mathlib.Core.Path.{_≡_};
 ghost use Prim.Native.Nat.{ℕ, _+_, _≤_, _<_};
@@ -76,7 +76,7 @@ fn second_field(list: &[u8], from: usize) -> &[u8]
     if end == list.len() {
         return &list[..0];
     }
-    let tab = find(list, from, end, 9);
+    let tab = field_end(list, from, end);
     if tab == end {
         return &list[..0];
     }

@@ -18,14 +18,15 @@ ghost use Rattle.walking.specs.bridge.Code.{renames, Inside, NextRenamed
 ghost use Rattle.walking.specs.bridge.Rewritten.{rewritten, flagSpots, Stands};
 
 // The first variable from number i on whose name becomes another; or k.
-fn next_renamed(spots: &[Spot], i: usize, k: usize, spans: &[u16; 1024]) -> usize
+fn next_renamed(spots: &[Spot], i: usize, k: usize, news: &[Entry; 1024]) -> usize
     requires { ⌜ Inside 1024 (now spots) k × (i ≤ k) ⌝ }
-    ensures { λ r. ⌜ NextRenamed (now (spots .entry)) (now (spans .entry)) i k r ⌝ }
+    ensures { λ r. ⌜ NextRenamed (now (spots .entry)) (sizesOf (now (news .entry))) i k r ⌝ }
 {
     let mut j = i;
     while j < k {
         let s = spots[j];
-        if spans[wide(s[1])] != 0 {
+        let e = news[wide(s[1])];
+        if e[1] != 0 {
             return j;
         }
         j += 1;
@@ -34,22 +35,12 @@ fn next_renamed(spots: &[Spot], i: usize, k: usize, spans: &[u16; 1024]) -> usiz
 }
 
 // What the name at an entry becomes.
-fn put_new(
-    pool: &[u8],
-    targets: &[u16; 1024],
-    spans: &[u16; 1024],
-    entry: usize,
-    out: &mut [u8],
-    at: usize,
-) -> usize
+fn put_new(pool: &[u8], news: &[Entry; 1024], entry: usize, out: &mut [u8], at: usize) -> usize
     requires { ⌜ entry < 1024 ⌝ }
-    ensures { λ r. ⌜ em r (now (out .exit)) ≡ puts (pieceOf (getD (now (targets .entry)) entry 0) (getD (now (spans .entry)) entry 0) (now (pool .entry))) (em at (now (out .entry))) ⌝ }
+    ensures { λ r. ⌜ em r (now (out .exit)) ≡ puts (pieceOf (getD (startsOf (now (news .entry))) entry 0) (getD (sizesOf (now (news .entry))) entry 0) (now (pool .entry))) (em at (now (out .entry))) ⌝ }
 {
-    put_all(
-        out,
-        at,
-        piece(pool, wide(targets[entry]), wide(spans[entry])),
-    )
+    let e = news[entry];
+    put_all(out, at, piece(pool, wide(e[0]), wide(e[1])))
 }
 
 // How many bytes the name at an entry has.
@@ -72,25 +63,24 @@ pub fn put_renamed(
     table: &[Entry; 1024],
     n: usize,
     pool: &[u8],
-    targets: &[u16; 1024],
-    spans: &[u16; 1024],
+    news: &[Entry; 1024],
     out: &mut [u8],
     at: usize,
 ) -> usize
     requires { ⌜ (n ≤ 1024) × Once (listing (now text) (startsOf (now table)) (sizesOf (now table)) n) × Inside n (now spots) k × (i ≤ k) × Stands (now text) from to (drop i (spotsOf (listing (now text) (startsOf (now table)) (sizesOf (now table)) n) (now spots) k)) ⌝ }
-    ensures { λ r. ⌜ em r (now (out .exit)) ≡ rewritten (renames (now (text .entry)) (startsOf (now (table .entry))) (sizesOf (now (table .entry))) n (now (pool .entry)) (now (targets .entry)) (now (spans .entry))) (now (text .entry)) (drop i (spotsOf (listing (now (text .entry)) (startsOf (now (table .entry))) (sizesOf (now (table .entry))) n) (now (spots .entry)) k)) from to (em at (now (out .entry))) ⌝ }
+    ensures { λ r. ⌜ em r (now (out .exit)) ≡ rewritten (renames (now (text .entry)) (startsOf (now (table .entry))) (sizesOf (now (table .entry))) n (now (pool .entry)) (startsOf (now (news .entry))) (sizesOf (now (news .entry)))) (now (text .entry)) (drop i (spotsOf (listing (now (text .entry)) (startsOf (now (table .entry))) (sizesOf (now (table .entry))) n) (now (spots .entry)) k)) from to (em at (now (out .entry))) ⌝ }
 {
     let mut done = from;
     let mut put = at;
-    let mut j = next_renamed(spots, i, k, spans);
+    let mut j = next_renamed(spots, i, k, news);
     while j < k {
         let s = spots[j];
         let start = wide(s[0]);
         let entry = wide(s[1]);
         let copied = put_all(out, put, &text[done..start]);
-        put = put_new(pool, targets, spans, entry, out, copied);
+        put = put_new(pool, news, entry, out, copied);
         done = start + name_size(text, table, entry);
-        j = next_renamed(spots, j + 1, k, spans);
+        j = next_renamed(spots, j + 1, k, news);
     }
     put_all(out, put, &text[done..to])
 }

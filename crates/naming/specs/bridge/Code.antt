@@ -14,8 +14,8 @@ use Rattle.scoping.specs.Label.{label, base, generated}
 use Rattle.scoping.specs.bridge.Pushes.{Push, aPush, contains, newName}
 use Rattle.scoping.specs.bridge.Becomes.{replacement}
 use Rattle.scoping.specs.bridge.Becomes.{chosen}
-use Rattle.naming.specs.declared.Hit.{Hit}
-use Rattle.naming.specs.declared.Hit.the-variants.{Missing, Plain, Labelled}
+use Rattle.naming.specs.declared.new_names.Hit.{Hit}
+use Rattle.naming.specs.declared.new_names.Hit.the-variants.{Missing, Plain, Labelled}
 
 -- ---- the pushes
 

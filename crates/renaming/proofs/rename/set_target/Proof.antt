@@ -19,8 +19,5 @@ set-target-spec =
     (λ c. search needs)
     (λ c. search needs)
     (λ c. search needs)
-    (λ c. search needs)
-    (λ c. search needs)
-    (λ c. let p = c .before .before .before .before .before .pre in let f = c .before .find-name .ensures in let low = c .if1 .taken in let high = p .2 .high in let a = p .0 in let b = p .1 in
-    T.settled-set _ _ _ _ _ _ _ (c .before .before .field-at .ensures) _ _ _ low (omega arith) (omega arith) (L.entry-here _ _ _ _ _ _ _ (p .2) f low) (L.entry-index _ _ _ _ _ _ _ (p .2) f low) refl (p .3))
-    (λ c. T.settled-unknown _ _ _ _ _ _ _ (c .before .before .field-at .ensures) (L.entry-none _ _ _ _ _ _ _ (c .before .before .before .before .before .pre .2) (c .before .find-name .ensures) (c .if1 .left))))
+    (λ c. let p = c .before .before .before .before .before .pre in let f = c .before .find-name .ensures in let low = c .if1 .taken in let high = p .1 .high in let long = p .0 in T.settled-set _ _ _ _ _ _ (c .before .before .field-at .ensures) _ _ _ low (omega arith) (L.entry-here _ _ _ _ _ _ _ (p .1) f low) (L.entry-index _ _ _ _ _ _ _ (p .1) f low) refl (p .2))
+    (λ c. T.settled-unknown _ _ _ _ _ _ _ (c .before .before .field-at .ensures) (L.entry-none _ _ _ _ _ _ _ (c .before .before .before .before .before .pre .1) (c .before .find-name .ensures) (c .if1 .left))))

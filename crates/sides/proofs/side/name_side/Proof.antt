@@ -9,6 +9,6 @@ name-side-spec =
     tie.close
     (tie.spec
     (λ c κs. c .before .before .before .pre .1)
-    (λ c κs. (c .before .before .before .before .before .before .before .before .pre .0, c .before .before .before .before .before .before .before .before .pre .2, c .before .before .before .before .before .before .before .before .pre .3, c .before .before .before .before .before .before .before .before .pre .4, c .before .before .before .before .before .before .before .before .pre .5, c .before .before .before .before .before .before .before .before .pre .6))
+    (λ c κs. (c .before .before .before .before .before .before .before .pre .0, c .before .before .before .before .before .before .before .pre .2, c .before .before .before .before .before .before .before .pre .3, c .before .before .before .before .before .before .before .pre .4, c .before .before .before .before .before .before .before .pre .5))
     (λ c. search needs)
-    (λ c. λ at p t. T.names-found _ at _ _ _ _ p t _ _ _ _ _ _ _ (c .before .before .before .before .before .before .before .before .before .before .before .pre .7) (c .before .before .before .before .before .before .before .note-places .ensures) (c .before .before .standardize-variables .ensures)))
+    (λ c. λ at p t. T.names-found _ at _ _ _ _ p t _ _ _ _ _ _ _ (c .before .before .before .before .before .before .before .before .before .before .pre .6) (c .before .before .before .before .before .before .note-places .ensures) (c .before .before .standardize-variables .ensures)))

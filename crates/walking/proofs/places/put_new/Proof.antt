@@ -1,5 +1,7 @@
 -- `walking::places/put_new` meets its contract. Assumes nothing.
 use borrow.Author.Needs.{needs}
+use denote.Ref.{now}
+use Rattle.names.proofs.Columns.{column-at}
 use Rattle.walking.proofs.Spotted as L
 use Rattle.walking.proofs.places.put_new.Statement.{statement}
 use Rattle.walking.proofs.places.put_new.Tie as tie
@@ -10,11 +12,11 @@ put-new-spec =
     (tie.spec
     (λ c. search needs)
     (λ c. search needs)
-    (λ c κs. search needs)
-    (λ c. search needs)
     (λ c. search needs)
     (λ c κs. search needs)
+    (λ c. search needs)
+    (λ c κs. search needs)
     (λ c κs. search needs)
     (λ c κs. search needs)
     (λ c. search needs)
-    (λ c. L.piece-put _ _ _ _ _ _ _ _ (c .before .before .before .before .before .before .wide .ensures) (c .before .before .before .before .wide2 .ensures) (c .before .before .before .piece .ensures) (c .before .before .put-all .ensures)))
+    (λ c. let c5 = c .before .before .before .before .before in let a = c5 .before .before .before .before .before .args in rw (column-at 0 (now (a .news)) (a .entry), column-at 1 (now (a .news)) (a .entry)) (L.piece-put _ _ _ _ _ _ _ _ (c5 .wide .ensures) (c .before .before .before .before .wide2 .ensures) (c .before .before .before .piece .ensures) (c .before .before .put-all .ensures))))

@@ -11,11 +11,11 @@ use Rattle.walking.proofs.places.put_renamed.Tie as tie
 use Rattle.names.specs.bridge.Names.{startsOf, sizesOf}
 
 abbrev Inv-loop : tie.InvT-loop
-Inv-loop text from to spots i k table n pool targets spans out₀ at done₀ put₀ j₀ out done put j =
-    (length out ≡ length out₀) × L.Going text (startsOf table) (sizesOf table) n pool targets spans spots k from to i (em at out₀) j done (em put out)
+Inv-loop text from to spots i k table n pool news out₀ at done₀ put₀ j₀ out done put j =
+    (length out ≡ length out₀) × L.Going text (startsOf table) (sizesOf table) n pool (startsOf news) (sizesOf news) spots k from to i (em at out₀) j done (em put out)
 
 abbrev μ-loop : tie.MeasureT-loop
-μ-loop text from to spots i k table n pool targets spans out₀ at done₀ put₀ j₀ out done put j = k - j
+μ-loop text from to spots i k table n pool news out₀ at done₀ put₀ j₀ out done put j = k - j
 
 pub put-renamed-spec : {M : Type 1} → statement M
 put-renamed-spec =
@@ -41,7 +41,7 @@ put-renamed-spec =
     (λ c. search needs)
     (λ c κs. (L.inside-more _ _ _ (c .before .before .before .before .before .before .before .before .before .before .before .before .before .before .before .before .before .before .before .pre .2) (c .before .before .before .before .before .before .before .before .before .before .before .before .before .before .before .before .before .before .before .pre .0), omega arith))
     (λ c. let x = c .next-renamed2 .ensures in let a = x .low in let b = x .high in omega arith)
-    (λ c. (c .before .before .before .before .put-new .kept .1 .1 .1 .1 .0 ∙ c .before .before .before .before .before .before .before .before .put-all .kept .0 ∙ c .before .before .before .before .before .before .before .before .before .before .before .before .before .before .before .loop .inv .0, L.going-next _ _ _ _ _ _ _ _ _ (c .before .before .before .before .before .before .before .before .before .before .before .before .before .before .before .before .before .before .before .before .pre .1) (c .before .before .before .before .before .before .before .before .before .before .before .before .before .before .before .before .before .before .before .before .pre .2) _ _ _ _ _ _ _ (c .before .before .before .before .before .before .before .before .before .before .before .before .before .before .before .loop .inv .1) (c .before .before .before .before .before .before .before .before .before .before .before .before .before .before .loop-test .taken) _ _ _ _ _ _ _ (c .before .before .before .before .before .before .before .before .before .before .before .before .wide .ensures) (c .before .before .before .before .before .before .before .before .before .before .before .wide2 .ensures) (c .before .name-size .ensures) (c .before .before .before .before .before .before .before .before .put-all .ensures) (c .before .before .before .before .put-new .ensures) (c .next-renamed2 .ensures) refl))
+    (λ c. (c .before .before .before .before .put-new .kept .1 .1 .1 .0 ∙ c .before .before .before .before .before .before .before .before .put-all .kept .0 ∙ c .before .before .before .before .before .before .before .before .before .before .before .before .before .before .before .loop .inv .0, L.going-next _ _ _ _ _ _ _ _ _ (c .before .before .before .before .before .before .before .before .before .before .before .before .before .before .before .before .before .before .before .before .pre .1) (c .before .before .before .before .before .before .before .before .before .before .before .before .before .before .before .before .before .before .before .before .pre .2) _ _ _ _ _ _ _ (c .before .before .before .before .before .before .before .before .before .before .before .before .before .before .before .loop .inv .1) (c .before .before .before .before .before .before .before .before .before .before .before .before .before .before .loop-test .taken) _ _ _ _ _ _ _ (c .before .before .before .before .before .before .before .before .before .before .before .before .wide .ensures) (c .before .before .before .before .before .before .before .before .before .before .before .wide2 .ensures) (c .before .name-size .ensures) (c .before .before .before .before .before .before .before .before .put-all .ensures) (c .before .before .before .before .put-new .ensures) (c .next-renamed2 .ensures) refl))
     (λ c. let w = L.going-high _ _ _ _ _ _ _ _ _ (c .before .before .before .before .before .before .before .pre .1) (c .before .before .before .before .before .before .before .pre .2) _ _ _ _ _ _ _ (c .before .before .loop .inv .1) in let x = w .0 in let y = w .1 in omega arith)
     (λ c. let w = L.going-high _ _ _ _ _ _ _ _ _ (c .before .before .before .before .before .before .before .pre .1) (c .before .before .before .before .before .before .before .pre .2) _ _ _ _ _ _ _ (c .before .before .loop .inv .1) in let x = w .0 in let y = w .1 in omega arith)
     (λ c. let w = L.going-high _ _ _ _ _ _ _ _ _ (c .before .before .before .before .before .before .before .pre .1) (c .before .before .before .before .before .before .before .pre .2) _ _ _ _ _ _ _ (c .before .before .loop .inv .1) in let x = w .0 in let y = w .1 in omega arith)

@@ -1,0 +1,30 @@
+-- `joining::patterns/merge_left` meets its contract. Assumes nothing.
+use borrow.Author.Needs.{needs}
+use Rattle.projects.proofs.Known as K
+use Rattle.joining.proofs.Calls as Calls
+use mathlib.Core.Path.{_≡_, sym}
+use Rattle.reading.specs.bridge.Variables.{treeNames}
+use Rattle.reading.specs.bridge.Charted.{treeStart}
+use Rattle.reading.proofs.ChartSaid as ChartSaid
+use Rattle.joining.proofs.patterns.merge_left.Statement.{statement}
+use Rattle.joining.proofs.patterns.merge_left.Tie as tie
+
+pub merge-left-spec : {M : Type 1} → statement M
+merge-left-spec =
+    tie.close
+    (tie.spec
+    (λ c κs. search needs)
+    (λ c. search needs)
+    (λ c. K.tree-count _ _ _ _ (c .before .before .before .before .before .before .before .before .before .before .before .before .before .before .before .args .left-spots .now) _ _ _ _ (c .before .before .left-n .given .1) (c .before .before .before .before .before .before .before .before .before .before .before .before .before .before .before .pre .0) (c .before .before .before .before .before .note-tree .ensures))
+    (λ c. sym (K.taken-long _ _ (K.tree-count _ _ _ _ (c .before .before .before .before .before .before .before .before .before .before .before .before .before .before .before .before .args .left-spots .now) _ _ _ _ (c .before .before .before .left-n .given .1) (c .before .before .before .before .before .before .before .before .before .before .before .before .before .before .before .before .pre .0) (c .before .before .before .before .before .before .note-tree .ensures))))
+    (λ c κs. (K.good-tree _ _ _ _ (c .before .before .before .before .before .before .before .before .before .before .before .before .before .before .before .before .before .before .args .left-spots .now) _ _ _ _ (c .before .before .before .before .before .left-n .given .1) (c .before .before .before .before .before .before .before .before .before .before .before .before .before .before .before .before .before .before .pre .0) (c .before .before .before .before .before .before .before .before .note-tree .ensures), c .before .before .before .before .before .before .before .before .before .before .before .before .before .before .before .before .before .before .pre .1))
+    (λ c. search needs)
+    (λ c. search needs)
+    (λ c. search needs)
+    (λ c. search needs)
+    (λ c. search needs)
+    (λ c. c .before .before .before .merge-right .ensures)
+    (λ c. search needs)
+    (λ c. Calls.left-malformed _ _ _ _ _ _ (ChartSaid.chart-malformed treeNames treeStart _ _ _ _ _ _ _ _ (c .before .before .before .note-tree .ensures) (c .enum-told .given .1)))
+    (λ c. search needs)
+    (λ c. Calls.left-over _ _ _ _ _ _ (ChartSaid.chart-over treeNames treeStart _ _ _ _ _ _ _ _ (c .before .before .before .note-tree .ensures) (c .enum-told2 .given .1))))

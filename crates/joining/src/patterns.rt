@@ -1,0 +1,180 @@
+// The call merge patterns: two trees joined into one.
+use crate::merge::check_lists;
+use crate::merge::longer;
+use crate::merge::merge_trees;
+use algebra::Answer as Check;
+use answers::Answer;
+use lines::check::Noting;
+use lines::fields::Spot;
+use names::Entry;
+use reading::note_tree;
+ghost use Rattle.answers.specs.Outcome.{Answered};
+ghost use Rattle.merging.specs.Merge.{mergePatternsOutcome};
+ghost use Rattle.projects.specs.bridge.Joining.{HasRoom, KnownTree};
+ghost use Rattle.names.specs.bridge.Names.{startsOf, sizesOf};
+
+// merge patterns for two trees that were checked and any lists.
+fn merge_listed(
+    left: &[u8],
+    left_table: &[Entry; 1024],
+    left_n: usize,
+    left_spots: &[Spot],
+    right: &[u8],
+    right_table: &[Entry; 1024],
+    right_n: usize,
+    right_spots: &[Spot],
+    pairs: &[u8],
+    left_constants: &[u8],
+    right_constants: &[u8],
+    out: &mut [u8],
+) -> Answer
+    requires { ⌜ KnownTree (now left) (startsOf (now «left_table»)) (sizesOf (now «left_table»)) «left_n» (now «left_spots») × KnownTree (now right) (startsOf (now «right_table»)) (sizesOf (now «right_table»)) «right_n» (now «right_spots») ⌝ }
+    ensures { λ r. ⌜ Answered (mergePatternsOutcome (now (left .entry)) (now (right .entry)) (now (pairs .entry)) (now («left_constants» .entry)) (now («right_constants» .entry))) (now (out .entry)) (now (out .exit)) r ⌝ }
+{
+    match check_lists(pairs, left_constants, right_constants) {
+        Check::Good(_) => merge_trees(
+            left,
+            0,
+            left_table,
+            left_n,
+            left_spots,
+            right,
+            0,
+            right_table,
+            right_n,
+            right_spots,
+            pairs,
+            left_constants,
+            right_constants,
+            out,
+        ),
+        Check::Malformed => Answer::Malformed,
+        Check::OverBound => Answer::OverBound,
+    }
+}
+
+// The same for a left text that was checked and any right one.
+fn merge_right(
+    left: &[u8],
+    left_table: &[Entry; 1024],
+    left_n: usize,
+    left_spots: &[Spot],
+    right: &[u8],
+    right_spots: &mut [Spot],
+    pairs: &[u8],
+    left_constants: &[u8],
+    right_constants: &[u8],
+    out: &mut [u8],
+) -> Answer
+    requires { ⌜ KnownTree (now left) (startsOf (now «left_table»)) (sizesOf (now «left_table»)) «left_n» (now «left_spots») × HasRoom (now right) (now «right_spots») ⌝ }
+    ensures { λ r. ⌜ Answered (mergePatternsOutcome (now (left .entry)) (now (right .entry)) (now (pairs .entry)) (now («left_constants» .entry)) (now («right_constants» .entry))) (now (out .entry)) (now (out .exit)) r ⌝ }
+{
+    let mut right_table = [[0u16; 2]; 1024];
+    let mut hints = [0u16; 4096];
+    match note_tree(right, &mut right_table, &mut hints, right_spots) {
+        Noting::Good(right_n, k) => merge_listed(
+            left,
+            left_table,
+            left_n,
+            left_spots,
+            right,
+            &right_table,
+            right_n,
+            &right_spots[..k],
+            pairs,
+            left_constants,
+            right_constants,
+            out,
+        ),
+        Noting::Malformed => Answer::Malformed,
+        Noting::OverBound => Answer::OverBound,
+    }
+}
+
+// The same for any two texts, with room for their variables.
+fn merge_left(
+    left: &[u8],
+    left_spots: &mut [Spot],
+    right: &[u8],
+    right_spots: &mut [Spot],
+    pairs: &[u8],
+    left_constants: &[u8],
+    right_constants: &[u8],
+    out: &mut [u8],
+) -> Answer
+    requires { ⌜ HasRoom (now left) (now «left_spots») × HasRoom (now right) (now «right_spots») ⌝ }
+    ensures { λ r. ⌜ Answered (mergePatternsOutcome (now (left .entry)) (now (right .entry)) (now (pairs .entry)) (now («left_constants» .entry)) (now («right_constants» .entry))) (now (out .entry)) (now (out .exit)) r ⌝ }
+{
+    let mut left_table = [[0u16; 2]; 1024];
+    let mut hints = [0u16; 4096];
+    match note_tree(left, &mut left_table, &mut hints, left_spots) {
+        Noting::Good(left_n, k) => merge_right(
+            left,
+            &left_table,
+            left_n,
+            &left_spots[..k],
+            right,
+            right_spots,
+            pairs,
+            left_constants,
+            right_constants,
+            out,
+        ),
+        Noting::Malformed => Answer::Malformed,
+        Noting::OverBound => Answer::OverBound,
+    }
+}
+
+// merge patterns: two trees, join list, left and right constants to tree. There are as many spots as pays: they are cleared first.
+pub fn merge_patterns(
+    left: &[u8],
+    right: &[u8],
+    pairs: &[u8],
+    left_constants: &[u8],
+    right_constants: &[u8],
+    out: &mut [u8],
+) -> Answer
+    ensures { λ r. ⌜ Answered (mergePatternsOutcome (now (left .entry)) (now (right .entry)) (now (pairs .entry)) (now («left_constants» .entry)) (now («right_constants» .entry))) (now (out .entry)) (now (out .exit)) r ⌝ }
+{
+    let most = longer(left.len(), right.len());
+    if most <= 1536 {
+        let mut left_spots = [[0u16; 3]; 512];
+        let mut right_spots = [[0u16; 3]; 512];
+        return merge_left(
+            left,
+            &mut left_spots,
+            right,
+            &mut right_spots,
+            pairs,
+            left_constants,
+            right_constants,
+            out,
+        );
+    }
+    if most <= 6144 {
+        let mut left_spots = [[0u16; 3]; 2048];
+        let mut right_spots = [[0u16; 3]; 2048];
+        return merge_left(
+            left,
+            &mut left_spots,
+            right,
+            &mut right_spots,
+            pairs,
+            left_constants,
+            right_constants,
+            out,
+        );
+    }
+    let mut left_spots = [[0u16; 3]; 5462];
+    let mut right_spots = [[0u16; 3]; 5462];
+    merge_left(
+        left,
+        &mut left_spots,
+        right,
+        &mut right_spots,
+        pairs,
+        left_constants,
+        right_constants,
+        out,
+    )
+}

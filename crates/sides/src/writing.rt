@@ -1,0 +1,119 @@
+// The lines of a side, written: its inner pattern under new names, with its constants bound.
+use crate::columns::put_columns;
+use crate::list::put_terms;
+use crate::side::Side;
+use emit::put;
+use emit::put_all;
+use lines::fields::Spot;
+use names::Entry;
+use naming::numbers::put_decimal;
+use walking::places::put_renamed;
+ghost use mathlib.Core.Path.{_≡_};
+ghost use Prim.Native.Nat.{ℕ, _≤_};
+ghost use mathlib.Core.List.{List};
+ghost use mathlib.Core.Bool.{false};
+ghost use lib.ListN.{length};
+ghost use lib.Count.{ones};
+ghost use Rattle.text.specs.Text.{Bytes, Line, textOf};
+ghost use Rattle.algebra.specs.Query.{Pair};
+ghost use Rattle.names.specs.bridge.Names.{listing, startsOf, sizesOf};
+ghost use Rattle.emit.specs.bridge.Emit.{em, puts};
+ghost use Rattle.scoping.specs.Rename.{renameInGraphPattern};
+ghost use Rattle.algebra.specs.Layout.{put};
+ghost use Rattle.merging.specs.Request.{Projection};
+ghost use Rattle.sides.specs.bridge.Columns.{columnsIn, picked};
+ghost use Rattle.sides.specs.bridge.Listed.{Kept, termsFrom};
+ghost use Rattle.sides.specs.bridge.Side.{Renames, Placed, joinLine, valuesLines};
+
+const JOIN: [u8; 5] = *b"join\n";
+
+const VALUES: [u8; 7] = *b"values\t";
+
+const COLS: [u8; 7] = *b"\t1\ncols";
+
+const ROW: [u8; 4] = *b"\nrow";
+
+// With constants, the side stands under a join.
+fn put_join(m: usize, out: &mut [u8], at: usize) -> usize
+    ensures { λ r. ⌜ ((t : List Line) → puts (textOf t) (em r (now (out .exit))) ≡ puts (textOf (joinLine m t)) (em at (now (out .entry)))) ⌝ }
+{
+    if m == 0 {
+        return at;
+    }
+    put_all(out, at, &JOIN)
+}
+
+// With constants, a Values of one row: their columns and their terms.
+fn put_values(
+    line: &[u8],
+    end: usize,
+    mask: u64,
+    constants: &[u8],
+    positions: &[u16; 64],
+    lines: &[u16; 64],
+    m: usize,
+    out: &mut [u8],
+    at: usize,
+) -> usize
+    requires { ⌜ (m ≤ 64) × (length (now positions) ≡ 64) × (end ≤ length (now line)) × (ones mask ≡ length (picked 1 mask (columnsIn (now line) end))) ⌝ }
+    ensures { λ r. ⌜ ((ks : List Pair) → Kept (now (constants .entry)) ks false (now (positions .entry)) (now (lines .entry)) m → (t : List Line) → puts (textOf t) (em r (now (out .exit))) ≡ puts (textOf (valuesLines m (ones mask) (picked 1 mask (columnsIn (now (line .entry)) end)) (termsFrom ks 0 64) t)) (em at (now (out .entry)))) ⌝ }
+{
+    if m == 0 {
+        return at;
+    }
+    let count = u64::count_ones(mask) as usize;
+    let a = put_all(out, at, &VALUES);
+    let b = put_decimal(out, a, count);
+    let c = put_all(out, b, &COLS);
+    let d = put_columns(line, end, mask, 1, count, out, c);
+    let e = put_all(out, d, &ROW);
+    let f = put_terms(constants, positions, lines, m, out, e);
+    put(out, f, 10)
+}
+
+// The lines of a side: its inner pattern under new names, and its constants bound.
+pub fn put_side(
+    text: &[u8],
+    table: &[Entry; 1024],
+    n: usize,
+    spots: &[Spot],
+    pool: &[u8],
+    news: &[Entry; 1024],
+    side: Side,
+    line: &[u8],
+    constants: &[u8],
+    positions: &[u16; 64],
+    lines: &[u16; 64],
+    out: &mut [u8],
+    at: usize,
+) -> usize
+    requires { ⌜ ((from : ℕ) × (x : Projection) × Placed (now text) from (startsOf (now table)) (sizesOf (now table)) n (now spots) (side .inner) (side .columns) x) × (side .constants ≤ 64) × (length (now positions) ≡ 64) × (side .end ≤ length (now line)) × (ones (side .constant) ≡ length (picked 1 (side .constant) (columnsIn (now line) (side .end)))) ⌝ }
+    ensures { λ r. ⌜ ((from : ℕ) (x : Projection) (new : Bytes → Bytes) (ks : List Pair) → Placed (now (text .entry)) from (startsOf (now (table .entry))) (sizesOf (now (table .entry))) n (now (spots .entry)) (side .inner) (side .columns) x → Renames (listing (now (text .entry)) (startsOf (now (table .entry))) (sizesOf (now (table .entry))) n) n (now (pool .entry)) (startsOf (now (news .entry))) (sizesOf (now (news .entry))) new → Kept (now (constants .entry)) ks false (now (positions .entry)) (now (lines .entry)) (side .constants) → (t : List Line) → puts (textOf t) (em r (now (out .exit))) ≡ puts (textOf (joinLine (side .constants) (put (renameInGraphPattern new (x .inner)) (valuesLines (side .constants) (ones (side .constant)) (picked 1 (side .constant) (columnsIn (now (line .entry)) (side .end))) (termsFrom ks 0 64) t)))) (em at (now (out .entry)))) ⌝ }
+{
+    let a = put_join(side.constants, out, at);
+    let b = put_renamed(
+        text,
+        side.inner,
+        text.len(),
+        spots,
+        side.columns,
+        spots.len(),
+        table,
+        n,
+        pool,
+        news,
+        out,
+        a,
+    );
+    put_values(
+        line,
+        side.end,
+        side.constant,
+        constants,
+        positions,
+        lines,
+        side.constants,
+        out,
+        b,
+    )
+}
