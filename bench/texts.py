@@ -28,8 +28,8 @@ def place(name):
     """Where the search for a name's hint starts, by crates/names."""
     h = 0
     for b in name.encode():
-        h = (h * 471 + b) % 4096
-    return h
+        h = (h + b) * 16777619 % 4294967296
+    return h // 1048576
 
 
 def few():

@@ -15,20 +15,14 @@ use Rattle.text.specs.Word.{bytes}
 use Rattle.text.proofs.Places.{lines-next}
 use Rattle.reader.specs.bridge.Lines.{LineEnd}
 use Rattle.reader.proofs.Laws.{nothing-here}
-use Rattle.words.specs.bridge.Key.{keyOf, Told, Keyed}
+use Rattle.words.specs.bridge.Key.{keyOf, Keyed}
+use Rattle.words.proofs.ByKey.{small, tells, told}
 use Rattle.walking.proofs.Laws.{line-split}
-
-told-project : Told (bytes "project")
-told-project = record {
-  first = λ e. omega arith;
-  long = omega arith;
-  small = (omega arith, (omega arith, (omega arith, (omega arith, (omega arith, (omega arith, (omega arith, tt)))))));
-}
 
 -- the key of a line's word tells whether it is that of a project
 project-by-key : (f : Bytes) (k : ℕ) → Keyed f k → eqb k 31651020243559284 ≡ same f (bytes "project")
-unfolding keyOf
-project-by-key f k h = sym (h (bytes "project") told-project)
+unfolding keyOf small tells
+project-by-key f k h = sym (h (bytes "project") (told (bytes "project") refl))
 
 module _ (s : Bytes) (from e : ℕ) (l : LineEnd s from e) where
   abbrev pub IsProject : Bool → Type 0

@@ -1,6 +1,7 @@
 // A project's line: its word, its columns, and where its inner pattern starts.
 use cursor::field_end;
 use reader::line_end;
+use words::keys;
 use words::word_at;
 ghost use mathlib.Core.Path.{_≡_};
 ghost use Prim.Native.Nat.{_≤_};
@@ -12,9 +13,6 @@ ghost use Rattle.cursor.specs.bridge.Cursor.{left};
 ghost use Rattle.algebra.specs.Layout.{put};
 ghost use Rattle.merging.specs.Request.{Projection, tree};
 
-// The key of the word `project`: its bytes as one number.
-const PROJECT: u64 = 0x70_726f_6a65_6374;
-
 // The line that starts here is a project's.
 pub fn is_project(text: &[u8], from: usize) -> bool
     ensures { λ r. ⌜ r ≡ same (getD (getD (linesFrom (now (text .entry)) from) 0 []) 0 []) (bytes "project") ⌝ }
@@ -24,7 +22,7 @@ pub fn is_project(text: &[u8], from: usize) -> bool
         return false;
     }
     let w = word_at(text, from, end);
-    w.key == PROJECT
+    w.key == keys::PROJECT
 }
 
 // How many fields there are from here to the line's end.
