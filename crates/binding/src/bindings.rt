@@ -23,7 +23,7 @@ ghost use Rattle.algebra.specs.Tree.{Pattern};
 ghost use Rattle.algebra.specs.Query.{BindingSet};
 ghost use Rattle.algebra.specs.Reader.{reads};
 ghost use Rattle.algebra.specs.Texts.{readTree, readSets};
-ghost use Rattle.placing.specs.bridge.Fields.{columnsIn};
+ghost use Rattle.names.specs.bridge.Names.{namesIn};
 ghost use Rattle.emit.specs.bridge.Emit.{em, puts};
 ghost use Rattle.answers.specs.Outcome.{Answered};
 ghost use Rattle.filtering.specs.Bindings.{bindingsOutcome};
@@ -43,7 +43,7 @@ fn put_bindings(
     out: &mut [u8],
 ) -> usize
     requires { ⌜ (inner ≤ end) × (end ≤ length (now tree)) × (n ≤ 64) × Ended (linesFrom (now sets) 0) ⌝ }
-    ensures { λ r. ⌜ em r (now (out .exit)) ≡ puts (boundAt (now (tree .entry)) inner end joins (columnsIn (now (tree .entry)) (now (columns .entry)) n) (linesFrom (now (sets .entry)) 0)) (em 0 (now (out .entry))) ⌝ }
+    ensures { λ r. ⌜ em r (now (out .exit)) ≡ puts (boundAt (now (tree .entry)) inner end joins (namesIn (now (tree .entry)) (now (columns .entry)) n) (linesFrom (now (sets .entry)) 0)) (em 0 (now (out .entry))) ⌝ }
 {
     let a = put_all(out, 0, &tree[..inner]);
     let b = put_repeated(&JOIN, joins, out, a);
@@ -64,7 +64,7 @@ fn has_room(
     room: usize,
 ) -> bool
     requires { ⌜ (inner ≤ end) × (end ≤ length (now tree)) × (n ≤ 64) × Ended (linesFrom (now sets) 0) × (length (now tree) ≤ 16384) × (length (now sets) ≤ 16384) ⌝ }
-    ensures { λ r. ⌜ Holds (length (now (tree .entry)) + 65 * length (now (sets .entry))) (length (boundAt (now (tree .entry)) inner end joins (columnsIn (now (tree .entry)) (now (columns .entry)) n) (linesFrom (now (sets .entry)) 0))) room r ⌝ }
+    ensures { λ r. ⌜ Holds (length (now (tree .entry)) + 65 * length (now (sets .entry))) (length (boundAt (now (tree .entry)) inner end joins (namesIn (now (tree .entry)) (now (columns .entry)) n) (linesFrom (now (sets .entry)) 0))) room r ⌝ }
 {
     if tree.len() + 65 * sets.len() <= room {
         return true;

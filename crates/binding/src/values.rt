@@ -19,7 +19,7 @@ ghost use Rattle.text.proofs.Texts.{Ended};
 ghost use Rattle.cursor.specs.bridge.Cursor.{left};
 ghost use Rattle.emit.specs.bridge.Emit.{em, puts};
 ghost use Rattle.walking.specs.bridge.Walk.{tabbed};
-ghost use Rattle.placing.specs.bridge.Fields.{columnsIn};
+ghost use Rattle.names.specs.bridge.Names.{namesIn};
 ghost use Rattle.filtering.specs.bridge.SetLines.{cellsFrom, valuesLine};
 ghost use Rattle.binding.specs.bridge.Bound.{boundFrom};
 
@@ -41,7 +41,7 @@ fn put_bound(
     at: usize,
 ) -> usize
     requires { ⌜ (n ≤ 64) × (end < length (now sets)) × (from ≤ end + 1) ⌝ }
-    ensures { λ r. ⌜ em r (now (out .exit)) ≡ puts (tabbed (boundFrom (columnsIn (now (tree .entry)) (now (columns .entry)) n) (left (now (sets .entry)) from end))) (em at (now (out .entry))) ⌝ }
+    ensures { λ r. ⌜ em r (now (out .exit)) ≡ puts (tabbed (boundFrom (namesIn (now (tree .entry)) (now (columns .entry)) n) (left (now (sets .entry)) from end))) (em at (now (out .entry))) ⌝ }
 {
     let mut to = at;
     let mut next = from;
@@ -94,7 +94,7 @@ fn put_fields(
     at: usize,
 ) -> usize
     requires { ⌜ (n ≤ 64) × (from ≤ end) × (end < length (now sets)) ⌝ }
-    ensures { λ r. ⌜ puts (10 ∷ []) (em r (now (out .exit))) ≡ puts (ended (valuesLine (columnsIn (now (tree .entry)) (now (columns .entry)) n) (split 9 (part from end (now (sets .entry))))) []) (em at (now (out .entry))) ⌝ }
+    ensures { λ r. ⌜ puts (10 ∷ []) (em r (now (out .exit))) ≡ puts (ended (valuesLine (namesIn (now (tree .entry)) (now (columns .entry)) n) (split 9 (part from end (now (sets .entry))))) []) (em at (now (out .entry))) ⌝ }
 {
     let w = word_at(sets, from, end);
     let word = w.end;
@@ -125,7 +125,7 @@ pub fn put_values(
     at: usize,
 ) -> usize
     requires { ⌜ (n ≤ 64) × Ended (linesFrom (now sets) 0) ⌝ }
-    ensures { λ r. ⌜ em r (now (out .exit)) ≡ puts (textOf (map (valuesLine (columnsIn (now (tree .entry)) (now (columns .entry)) n)) (linesFrom (now (sets .entry)) 0))) (em at (now (out .entry))) ⌝ }
+    ensures { λ r. ⌜ em r (now (out .exit)) ≡ puts (textOf (map (valuesLine (namesIn (now (tree .entry)) (now (columns .entry)) n)) (linesFrom (now (sets .entry)) 0))) (em at (now (out .entry))) ⌝ }
 {
     let mut to = at;
     let mut from = 0;

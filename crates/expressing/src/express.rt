@@ -8,7 +8,7 @@ use words::word_at;
 ghost use Prim.Native.Nat.{_≤_};
 ghost use Rattle.text.specs.Text.{linesFrom};
 ghost use Rattle.emit.specs.bridge.Emit.{em};
-ghost use Rattle.placing.specs.bridge.Fields.{columnsIn};
+ghost use Rattle.names.specs.bridge.Names.{namesIn};
 ghost use Rattle.filtering.specs.bridge.FilterLines.{treeToExpression};
 ghost use Rattle.expressing.specs.bridge.Walks.{Walks};
 
@@ -31,7 +31,7 @@ pub fn tree_to_expression(
     at: usize,
 ) -> Walked
     requires { ⌜ n ≤ 64 ⌝ }
-    ensures { λ r. ⌜ Walks (now (filters .entry)) (treeToExpression (columnsIn (now (tree .entry)) (now (columns .entry)) n) left (linesFrom (now (filters .entry)) from)) (em at (now (out .entry))) (em (r .at) (now (out .exit))) r ⌝ }
+    ensures { λ r. ⌜ Walks (now (filters .entry)) (treeToExpression (namesIn (now (tree .entry)) (now (columns .entry)) n) left (linesFrom (now (filters .entry)) from)) (em at (now (out .entry))) (em (r .at) (now (out .exit))) r ⌝ }
 {
     if left == 0 {
         return Walked {

@@ -28,7 +28,7 @@ ghost use Rattle.algebra.specs.Tree.{Pattern};
 ghost use Rattle.algebra.specs.Query.{Filter};
 ghost use Rattle.algebra.specs.Reader.{reads};
 ghost use Rattle.algebra.specs.Texts.{readTree, readFilters};
-ghost use Rattle.placing.specs.bridge.Fields.{columnsIn};
+ghost use Rattle.names.specs.bridge.Names.{namesIn};
 ghost use Rattle.emit.specs.bridge.Emit.{em, last, puts};
 ghost use Rattle.answers.specs.Outcome.{Answered};
 ghost use Rattle.scoping.specs.Sets.{all};
@@ -86,8 +86,8 @@ fn put_filtered(
     all: bool,
     out: &mut [u8],
 ) -> usize
-    requires { ⌜ (inner ≤ end) × (end ≤ length (now tree)) × (n ≤ 64) × (all ≡ true → allPlaced (columnsIn (now tree) (now columns) n) (length (now filters)) (linesFrom (now filters) 0) ≡ true) ⌝ }
-    ensures { λ r. ⌜ em r (now (out .exit)) ≡ puts (filteredAt (now (tree .entry)) inner end ands (placedFilters (columnsIn (now (tree .entry)) (now (columns .entry)) n) (length (now (filters .entry))) (linesFrom (now (filters .entry)) 0) .lines)) (em 0 (now (out .entry))) ⌝ }
+    requires { ⌜ (inner ≤ end) × (end ≤ length (now tree)) × (n ≤ 64) × (all ≡ true → allPlaced (namesIn (now tree) (now columns) n) (length (now filters)) (linesFrom (now filters) 0) ≡ true) ⌝ }
+    ensures { λ r. ⌜ em r (now (out .exit)) ≡ puts (filteredAt (now (tree .entry)) inner end ands (placedFilters (namesIn (now (tree .entry)) (now (columns .entry)) n) (length (now (filters .entry))) (linesFrom (now (filters .entry)) 0) .lines)) (em 0 (now (out .entry))) ⌝ }
 {
     let a = put_all(out, 0, &tree[..inner]);
     let b = put_all(out, a, &FILTER);

@@ -21,7 +21,7 @@ ghost use Rattle.text.specs.Word.{bytes};
 ghost use Rattle.cursor.specs.bridge.Cursor.{left};
 ghost use Rattle.words.specs.bridge.Key.{Keyed};
 ghost use Rattle.emit.specs.bridge.Emit.{em};
-ghost use Rattle.placing.specs.bridge.Fields.{columnsIn};
+ghost use Rattle.names.specs.bridge.Names.{namesIn};
 ghost use Rattle.merging.specs.Request.{position};
 ghost use Rattle.filtering.specs.bridge.Terms.{isExpressed};
 ghost use Rattle.filtering.specs.bridge.FilterLines.{isTrueLine, partsBelow, leafLines, unaryLines, binaryLines, expressionLines};
@@ -109,7 +109,7 @@ fn put_ref(
     at: usize,
 ) -> Head
     requires { ⌜ (n ≤ 64) × (end < length (now filters)) × (from ≤ end + 1) ⌝ }
-    ensures { λ r. ⌜ Heads (some ((bytes "term" ∷ getD (columnsIn (now (tree .entry)) (now (columns .entry)) n) (position (getD (left (now (filters .entry)) from end) 0 [])) [] ∷ []) ∷ [])) (em at (now (out .entry))) (em (r .at) (now (out .exit))) (r .expressed) ⌝ }
+    ensures { λ r. ⌜ Heads (some ((bytes "term" ∷ getD (namesIn (now (tree .entry)) (now (columns .entry)) n) (position (getD (left (now (filters .entry)) from end) 0 [])) [] ∷ []) ∷ [])) (em at (now (out .entry))) (em (r .at) (now (out .exit))) (r .expressed) ⌝ }
 {
     let field = field_at(filters, from, end);
     let to = field.to;
@@ -187,7 +187,7 @@ pub fn put_head(
     at: usize,
 ) -> Head
     requires { ⌜ (n ≤ 64) × (end < length (now filters)) × (first ≤ end + 1) ⌝ }
-    ensures { λ r. ⌜ ((f : Bytes) → Keyed f key → Heads (expressionLines (columnsIn (now (tree .entry)) (now (columns .entry)) n) (f ∷ left (now (filters .entry)) first end)) (em at (now (out .entry))) (em (r .at) (now (out .exit))) (r .expressed)) ⌝ }
+    ensures { λ r. ⌜ ((f : Bytes) → Keyed f key → Heads (expressionLines (namesIn (now (tree .entry)) (now (columns .entry)) n) (f ∷ left (now (filters .entry)) first end)) (em at (now (out .entry))) (em (r .at) (now (out .exit))) (r .expressed)) ⌝ }
 {
     match key {
         keys::LEAF => put_leaf(filters, first, end, out, at),

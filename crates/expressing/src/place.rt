@@ -12,7 +12,7 @@ ghost use mathlib.Core.List.{[]};
 ghost use lib.ListN.{length};
 ghost use Rattle.text.specs.Text.{textOf, linesFrom};
 ghost use Rattle.emit.specs.bridge.Emit.{em, puts};
-ghost use Rattle.placing.specs.bridge.Fields.{columnsIn};
+ghost use Rattle.names.specs.bridge.Names.{namesIn};
 ghost use Rattle.filtering.specs.bridge.FilterLines.{treeToExpression, placedFilters};
 ghost use Rattle.expressing.specs.bridge.Walks.{Walks, Places, allPlaced, Measures};
 
@@ -27,7 +27,7 @@ fn try_filter(
     at: usize,
 ) -> Walked
     requires { ⌜ n ≤ 64 ⌝ }
-    ensures { λ r. ⌜ Walks (now (filters .entry)) (treeToExpression (columnsIn (now (tree .entry)) (now (columns .entry)) n) left (linesFrom (now (filters .entry)) from)) (em at []) (em (r .at) []) r ⌝ }
+    ensures { λ r. ⌜ Walks (now (filters .entry)) (treeToExpression (namesIn (now (tree .entry)) (now (columns .entry)) n) left (linesFrom (now (filters .entry)) from)) (em at []) (em (r .at) []) r ⌝ }
 {
     let mut none = [0u8; 0];
     tree_to_expression(tree, columns, n, filters, from, left, &mut none, at)
@@ -46,7 +46,7 @@ fn put_placed(
     at: usize,
 ) -> usize
     requires { ⌜ n ≤ 64 ⌝ }
-    ensures { λ r. ⌜ em r (now (out .exit)) ≡ cond placed (puts (textOf (treeToExpression (columnsIn (now (tree .entry)) (now (columns .entry)) n) left (linesFrom (now (filters .entry)) from) .lines)) (em at (now (out .entry)))) (em at (now (out .entry))) ⌝ }
+    ensures { λ r. ⌜ em r (now (out .exit)) ≡ cond placed (puts (textOf (treeToExpression (namesIn (now (tree .entry)) (now (columns .entry)) n) left (linesFrom (now (filters .entry)) from) .lines)) (em at (now (out .entry)))) (em at (now (out .entry))) ⌝ }
 {
     if !placed {
         return at;
@@ -80,7 +80,7 @@ fn put_filters(
     at: usize,
 ) -> Placed
     requires { ⌜ n ≤ 64 ⌝ }
-    ensures { λ r. ⌜ Places (placedFilters (columnsIn (now (tree .entry)) (now (columns .entry)) n) (length (now (filters .entry))) (linesFrom (now (filters .entry)) 0)) (em at (now (out .entry))) (em (r .at) (now (out .exit))) r ⌝ }
+    ensures { λ r. ⌜ Places (placedFilters (namesIn (now (tree .entry)) (now (columns .entry)) n) (length (now (filters .entry))) (linesFrom (now (filters .entry)) 0)) (em at (now (out .entry))) (em (r .at) (now (out .exit))) r ⌝ }
 {
     let mut many = 0;
     let mut to = at;
@@ -120,7 +120,7 @@ fn placed_end(placed: bool, end: usize, at: usize) -> usize
 // All filters, and nothing written.
 pub fn measure_filters(tree: &[u8], columns: &[Entry; 64], n: usize, filters: &[u8]) -> Measured
     requires { ⌜ n ≤ 64 ⌝ }
-    ensures { λ r. ⌜ Measures (columnsIn (now (tree .entry)) (now (columns .entry)) n) (now (filters .entry)) r ⌝ }
+    ensures { λ r. ⌜ Measures (namesIn (now (tree .entry)) (now (columns .entry)) n) (now (filters .entry)) r ⌝ }
 {
     let mut many = 0;
     let mut size = 0;
@@ -159,8 +159,8 @@ fn put_every(
     out: &mut [u8],
     at: usize,
 ) -> usize
-    requires { ⌜ (n ≤ 64) × (allPlaced (columnsIn (now tree) (now columns) n) (length (now filters)) (linesFrom (now filters) 0) ≡ true) ⌝ }
-    ensures { λ r. ⌜ em r (now (out .exit)) ≡ puts (textOf (placedFilters (columnsIn (now (tree .entry)) (now (columns .entry)) n) (length (now (filters .entry))) (linesFrom (now (filters .entry)) 0) .lines)) (em at (now (out .entry))) ⌝ }
+    requires { ⌜ (n ≤ 64) × (allPlaced (namesIn (now tree) (now columns) n) (length (now filters)) (linesFrom (now filters) 0) ≡ true) ⌝ }
+    ensures { λ r. ⌜ em r (now (out .exit)) ≡ puts (textOf (placedFilters (namesIn (now (tree .entry)) (now (columns .entry)) n) (length (now (filters .entry))) (linesFrom (now (filters .entry)) 0) .lines)) (em at (now (out .entry))) ⌝ }
 {
     let mut to = at;
     let mut from = 0;
@@ -187,8 +187,8 @@ pub fn put_expressions(
     out: &mut [u8],
     at: usize,
 ) -> usize
-    requires { ⌜ (n ≤ 64) × (all ≡ true → allPlaced (columnsIn (now tree) (now columns) n) (length (now filters)) (linesFrom (now filters) 0) ≡ true) ⌝ }
-    ensures { λ r. ⌜ em r (now (out .exit)) ≡ puts (textOf (placedFilters (columnsIn (now (tree .entry)) (now (columns .entry)) n) (length (now (filters .entry))) (linesFrom (now (filters .entry)) 0) .lines)) (em at (now (out .entry))) ⌝ }
+    requires { ⌜ (n ≤ 64) × (all ≡ true → allPlaced (namesIn (now tree) (now columns) n) (length (now filters)) (linesFrom (now filters) 0) ≡ true) ⌝ }
+    ensures { λ r. ⌜ em r (now (out .exit)) ≡ puts (textOf (placedFilters (namesIn (now (tree .entry)) (now (columns .entry)) n) (length (now (filters .entry))) (linesFrom (now (filters .entry)) 0) .lines)) (em at (now (out .entry))) ⌝ }
 {
     if all {
         return put_every(tree, columns, n, filters, out, at);

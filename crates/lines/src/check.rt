@@ -9,7 +9,7 @@ ghost use Prim.Native.Nat.{ℕ, _≤_, pred};
 ghost use mathlib.Core.List.{[], _∷_};
 ghost use Rattle.algebra.specs.Tally.{bounds};
 ghost use Rattle.algebra.specs.bridge.Machine.{want, done, entries, checkText};
-ghost use Rattle.names.specs.bridge.Names.{Holds, startsOf, sizesOf};
+ghost use Rattle.names.specs.bridge.Names.{startsOf, sizesOf, HoldsIn};
 ghost use Rattle.algebra.specs.declared.Answer.the-variants.{Good as GoodOf};
 ghost use Rattle.words.specs.bridge.Code.{sortAt};
 ghost use Rattle.lines.specs.bridge.Run.{Told, levelFor, Tells};
@@ -40,7 +40,7 @@ pub fn check_one(
     table: &mut [Entry; 1024],
     hints: &mut [u16; 4096],
 ) -> Answer
-    requires { ⌜ (sort ≤ 11) × Holds (now s) (startsOf (now table)) (sizesOf (now table)) (now hints) 0 [] ⌝ }
+    requires { ⌜ (sort ≤ 11) × HoldsIn (now s) (now table) (now hints) 0 [] ⌝ }
     ensures { λ r. ⌜ Tells (now (s .entry)) (startsOf (now (table .exit))) (sizesOf (now (table .exit))) (now (hints .exit)) (checkText bounds done (want (sortAt sort) level 0 ∷ []) (now (s .entry))) r ⌝ }
 {
     let mut none: [Spot; 1] = [[0, 0, 0]];
@@ -79,7 +79,7 @@ pub fn note_one(
     hints: &mut [u16; 4096],
     spots: &mut [Spot],
 ) -> Noting
-    requires { ⌜ (sort ≤ 11) × Holds (now s) (startsOf (now table)) (sizesOf (now table)) (now hints) 0 [] ⌝ }
+    requires { ⌜ (sort ≤ 11) × HoldsIn (now s) (now table) (now hints) 0 [] ⌝ }
     ensures { λ r. ⌜ Tells (now (s .entry)) (startsOf (now (table .exit))) (sizesOf (now (table .exit))) (now (hints .exit)) (checkText bounds done (want (sortAt sort) level 0 ∷ []) (now (s .entry))) (answerOf r) ⌝ }
     ensures charts { λ r. ⌜ (sort ≤ 7 → Charts (now (s .entry)) (startsOf (now (table .exit))) (sizesOf (now (table .exit))) (now (spots .entry)) (now (spots .exit)) sort level r) ⌝ }
 {
@@ -124,7 +124,7 @@ pub fn check_list(
     table: &mut [Entry; 1024],
     hints: &mut [u16; 4096],
 ) -> Answer
-    requires { ⌜ (sort ≤ 11) × Holds (now s) (startsOf (now table)) (sizesOf (now table)) (now hints) 0 [] ⌝ }
+    requires { ⌜ (sort ≤ 11) × HoldsIn (now s) (now table) (now hints) 0 [] ⌝ }
     ensures { λ r. ⌜ Tells (now (s .entry)) (startsOf (now (table .exit))) (sizesOf (now (table .exit))) (now (hints .exit)) (checkText bounds (entries 64 (sortAt sort) level) [] (now (s .entry))) r ⌝ }
 {
     if 16384 < s.len() {

@@ -9,23 +9,20 @@ use names::Entry;
 use words::Row;
 ghost use mathlib.Core.Path.{_≡_};
 ghost use Prim.Native.Nat.{_≤_, _<_};
-ghost use mathlib.Core.List.{List, [], _∷_, _++_};
+ghost use mathlib.Core.List.{[], _∷_};
 ghost use mathlib.Core.Bool.{true};
 ghost use lib.ListN.{replicate};
 ghost use lib.Dec.{eqb};
-ghost use Rattle.text.specs.Text.{linesFrom};
-ghost use Rattle.algebra.specs.Tally.{Tally, bounds};
-ghost use Rattle.algebra.specs.bridge.Machine.{Want, want, More, run};
-ghost use Rattle.names.specs.bridge.Names.{startsOf, sizesOf};
+ghost use Rattle.algebra.specs.bridge.Machine.{want};
 ghost use Rattle.algebra.specs.bridge.Table.{opens};
 ghost use Rattle.scoping.specs.bridge.Walk.{times as many, child, beneath, tree};
 ghost use Rattle.scoping.specs.bridge.Spots.{spotLine};
 ghost use Rattle.scoping.specs.bridge.Places.{silent};
 ghost use Rattle.words.specs.bridge.Code.{sortAt, groupsIn, sortsIn};
 ghost use Rattle.lines.specs.bridge.Below.{groups};
-ghost use Rattle.lines.specs.bridge.Run.{Ready, Stood, Went};
+ghost use Rattle.lines.specs.bridge.Run.{Ready, Runs};
 ghost use Rattle.lines.specs.bridge.Spotted.{markAt};
-ghost use Rattle.lines.specs.bridge.Walks.{storeAt, Walks, entryOf};
+ghost use Rattle.lines.specs.bridge.Walks.{Notes, entryOf};
 
 // A line of a sort, with all that it asks for.
 pub fn check_entry(
@@ -40,9 +37,9 @@ pub fn check_entry(
     spots: &mut [Spot],
 ) -> Place
     requires { ⌜ (sort ≤ 11) × Ready (now s) p ⌝ }
-    ensures { λ r. ⌜ ((ρ : More) (ws : List Want) (m : Tally) → Stood (now (s .entry)) (startsOf (now (table .entry))) (sizesOf (now (table .entry))) (now (hints .entry)) p m → Went (now (s .entry)) (startsOf (now (table .exit))) (sizesOf (now (table .exit))) (now (hints .exit)) ρ ws (run bounds (linesFrom (now (s .entry)) (p .from)) ρ (want (sortAt sort) level width ∷ ws) m) r) ⌝ }
+    ensures { λ r. ⌜ Runs (now (s .entry)) (now (table .entry)) (now (hints .entry)) p (want (sortAt sort) level width ∷ []) [] (now (table .exit)) (now (hints .exit)) r ⌝ }
     ensures ready { λ r. ⌜ (r .fault ≡ 0 → (p .from < r .from) × Ready (now (s .entry)) r) ⌝ }
-    ensures walks { λ r. ⌜ (r .fault ≡ 0 → sort ≤ 7 → Walks (now (s .entry)) (storeAt (startsOf (now (table .entry))) (sizesOf (now (table .entry))) (now (spots .entry)) p) p (storeAt (startsOf (now (table .exit))) (sizesOf (now (table .exit))) (now (spots .exit)) r) r (entryOf level sort (markAt mark))) ⌝ }
+    ensures walks { λ r. ⌜ (r .fault ≡ 0 → sort ≤ 7 → Notes (now (s .entry)) (now (table .entry)) (now (spots .entry)) p (now (table .exit)) (now (spots .exit)) r (entryOf level sort (markAt mark))) ⌝ }
     ensures deep { λ r. ⌜ (r .fault ≡ 0 → opens (sortAt sort) ≡ true → level ≡ 0 → ⊥) ⌝ }
 {
     let t = take_line(p, level, sort, width, mark, s, table, hints, spots);
@@ -71,9 +68,9 @@ fn check_below(
     spots: &mut [Spot],
 ) -> Place
     requires { ⌜ (sortsIn 11 3 (row .below) ≡ true) × (first < 4294967296) × (second < 4294967296) × Ready (now s) p ⌝ }
-    ensures { λ r. ⌜ ((ρ : More) (ws : List Want) (m : Tally) → Stood (now (s .entry)) (startsOf (now (table .entry))) (sizesOf (now (table .entry))) (now (hints .entry)) p m → Went (now (s .entry)) (startsOf (now (table .exit))) (sizesOf (now (table .exit))) (now (hints .exit)) ρ ws (run bounds (linesFrom (now (s .entry)) (p .from)) ρ (groups 3 (row .below) level first second ++ ws) m) r) ⌝ }
+    ensures { λ r. ⌜ Runs (now (s .entry)) (now (table .entry)) (now (hints .entry)) p (groups 3 (row .below) level first second) [] (now (table .exit)) (now (hints .exit)) r ⌝ }
     ensures ready { λ r. ⌜ (r .fault ≡ 0 → (p .from ≤ r .from) × Ready (now (s .entry)) r) ⌝ }
-    ensures walks { λ r. ⌜ (r .fault ≡ 0 → sortsIn 6 3 (row .below) ≡ true → Walks (now (s .entry)) (storeAt (startsOf (now (table .entry))) (sizesOf (now (table .entry))) (now (spots .entry)) p) p (storeAt (startsOf (now (table .exit))) (sizesOf (now (table .exit))) (now (spots .exit)) r) r (beneath spotLine (tree spotLine level) (eqb (row .flag) 1) (markAt mark) (groupsIn 3 (row .below)) (first ∷ second ∷ []))) ⌝ }
+    ensures walks { λ r. ⌜ (r .fault ≡ 0 → sortsIn 6 3 (row .below) ≡ true → Notes (now (s .entry)) (now (table .entry)) (now (spots .entry)) p (now (table .exit)) (now (spots .exit)) r (beneath spotLine (tree spotLine level) (eqb (row .flag) 1) (markAt mark) (groupsIn 3 (row .below)) (first ∷ second ∷ []))) ⌝ }
 {
     let mut q = p;
     let mut code = row.below;
@@ -115,9 +112,9 @@ fn check_lines(
     spots: &mut [Spot],
 ) -> Place
     requires { ⌜ (sort ≤ 11) × Ready (now s) p ⌝ }
-    ensures { λ r. ⌜ ((ρ : More) (ws : List Want) (m : Tally) → Stood (now (s .entry)) (startsOf (now (table .entry))) (sizesOf (now (table .entry))) (now (hints .entry)) p m → Went (now (s .entry)) (startsOf (now (table .exit))) (sizesOf (now (table .exit))) (now (hints .exit)) ρ ws (run bounds (linesFrom (now (s .entry)) (p .from)) ρ (replicate times (want (sortAt sort) level width) ++ ws) m) r) ⌝ }
+    ensures { λ r. ⌜ Runs (now (s .entry)) (now (table .entry)) (now (hints .entry)) p (replicate times (want (sortAt sort) level width)) [] (now (table .exit)) (now (hints .exit)) r ⌝ }
     ensures ready { λ r. ⌜ (r .fault ≡ 0 → (p .from ≤ r .from) × Ready (now (s .entry)) r) ⌝ }
-    ensures walks { λ r. ⌜ (r .fault ≡ 0 → sort ≤ 6 → Walks (now (s .entry)) (storeAt (startsOf (now (table .entry))) (sizesOf (now (table .entry))) (now (spots .entry)) p) p (storeAt (startsOf (now (table .exit))) (sizesOf (now (table .exit))) (now (spots .exit)) r) r (many (child spotLine (tree spotLine level) (eqb flag 1) (markAt mark) (sortAt sort)) times)) ⌝ }
+    ensures walks { λ r. ⌜ (r .fault ≡ 0 → sort ≤ 6 → Notes (now (s .entry)) (now (table .entry)) (now (spots .entry)) p (now (table .exit)) (now (spots .exit)) r (many (child spotLine (tree spotLine level) (eqb flag 1) (markAt mark) (sortAt sort)) times)) ⌝ }
 {
     let mut q = p;
     let mut left = times;
@@ -144,9 +141,9 @@ fn check_pattern(
     spots: &mut [Spot],
 ) -> Place
     requires { ⌜ Ready (now s) p ⌝ }
-    ensures { λ r. ⌜ ((ρ : More) (ws : List Want) (m : Tally) → Stood (now (s .entry)) (startsOf (now (table .entry))) (sizesOf (now (table .entry))) (now (hints .entry)) p m → Went (now (s .entry)) (startsOf (now (table .exit))) (sizesOf (now (table .exit))) (now (hints .exit)) ρ ws (run bounds (linesFrom (now (s .entry)) (p .from)) ρ (want (sortAt 2) level width ∷ ws) m) r) ⌝ }
+    ensures { λ r. ⌜ Runs (now (s .entry)) (now (table .entry)) (now (hints .entry)) p (want (sortAt 2) level width ∷ []) [] (now (table .exit)) (now (hints .exit)) r ⌝ }
     ensures ready { λ r. ⌜ (r .fault ≡ 0 → (p .from < r .from) × Ready (now (s .entry)) r) ⌝ }
-    ensures walks { λ r. ⌜ (r .fault ≡ 0 → Walks (now (s .entry)) (storeAt (startsOf (now (table .entry))) (sizesOf (now (table .entry))) (now (spots .entry)) p) p (storeAt (startsOf (now (table .exit))) (sizesOf (now (table .exit))) (now (spots .exit)) r) r (entryOf level 2 (markAt mark))) ⌝ }
+    ensures walks { λ r. ⌜ (r .fault ≡ 0 → Notes (now (s .entry)) (now (table .entry)) (now (spots .entry)) p (now (table .exit)) (now (spots .exit)) r (entryOf level 2 (markAt mark))) ⌝ }
     ensures deep { λ r. ⌜ (r .fault ≡ 0 → opens (sortAt 2) ≡ true → level ≡ 0 → ⊥) ⌝ }
 {
     check_entry(p, level, 2, width, mark, s, table, hints, spots)
@@ -163,9 +160,9 @@ fn check_expression(
     spots: &mut [Spot],
 ) -> Place
     requires { ⌜ Ready (now s) p ⌝ }
-    ensures { λ r. ⌜ ((ρ : More) (ws : List Want) (m : Tally) → Stood (now (s .entry)) (startsOf (now (table .entry))) (sizesOf (now (table .entry))) (now (hints .entry)) p m → Went (now (s .entry)) (startsOf (now (table .exit))) (sizesOf (now (table .exit))) (now (hints .exit)) ρ ws (run bounds (linesFrom (now (s .entry)) (p .from)) ρ (want (sortAt 3) level width ∷ ws) m) r) ⌝ }
+    ensures { λ r. ⌜ Runs (now (s .entry)) (now (table .entry)) (now (hints .entry)) p (want (sortAt 3) level width ∷ []) [] (now (table .exit)) (now (hints .exit)) r ⌝ }
     ensures ready { λ r. ⌜ (r .fault ≡ 0 → (p .from < r .from) × Ready (now (s .entry)) r) ⌝ }
-    ensures walks { λ r. ⌜ (r .fault ≡ 0 → Walks (now (s .entry)) (storeAt (startsOf (now (table .entry))) (sizesOf (now (table .entry))) (now (spots .entry)) p) p (storeAt (startsOf (now (table .exit))) (sizesOf (now (table .exit))) (now (spots .exit)) r) r (entryOf level 3 silent)) ⌝ }
+    ensures walks { λ r. ⌜ (r .fault ≡ 0 → Notes (now (s .entry)) (now (table .entry)) (now (spots .entry)) p (now (table .exit)) (now (spots .exit)) r (entryOf level 3 silent)) ⌝ }
     ensures deep { λ r. ⌜ (r .fault ≡ 0 → opens (sortAt 3) ≡ true → level ≡ 0 → ⊥) ⌝ }
 {
     check_entry(p, level, 3, width, 2, s, table, hints, spots)
@@ -184,9 +181,9 @@ fn check_child(
     spots: &mut [Spot],
 ) -> Place
     requires { ⌜ ((sort ≤ 11) × (sort ≡ 3 → markAt mark ≡ silent)) × Ready (now s) p ⌝ }
-    ensures { λ r. ⌜ ((ρ : More) (ws : List Want) (m : Tally) → Stood (now (s .entry)) (startsOf (now (table .entry))) (sizesOf (now (table .entry))) (now (hints .entry)) p m → Went (now (s .entry)) (startsOf (now (table .exit))) (sizesOf (now (table .exit))) (now (hints .exit)) ρ ws (run bounds (linesFrom (now (s .entry)) (p .from)) ρ (want (sortAt sort) level width ∷ ws) m) r) ⌝ }
+    ensures { λ r. ⌜ Runs (now (s .entry)) (now (table .entry)) (now (hints .entry)) p (want (sortAt sort) level width ∷ []) [] (now (table .exit)) (now (hints .exit)) r ⌝ }
     ensures ready { λ r. ⌜ (r .fault ≡ 0 → (p .from < r .from) × Ready (now (s .entry)) r) ⌝ }
-    ensures walks { λ r. ⌜ (r .fault ≡ 0 → sort ≤ 7 → Walks (now (s .entry)) (storeAt (startsOf (now (table .entry))) (sizesOf (now (table .entry))) (now (spots .entry)) p) p (storeAt (startsOf (now (table .exit))) (sizesOf (now (table .exit))) (now (spots .exit)) r) r (entryOf level sort (markAt mark))) ⌝ }
+    ensures walks { λ r. ⌜ (r .fault ≡ 0 → sort ≤ 7 → Notes (now (s .entry)) (now (table .entry)) (now (spots .entry)) p (now (table .exit)) (now (spots .exit)) r (entryOf level sort (markAt mark))) ⌝ }
     ensures deep { λ r. ⌜ (r .fault ≡ 0 → opens (sortAt sort) ≡ true → level ≡ 0 → ⊥) ⌝ }
 {
     if sort == 2 {

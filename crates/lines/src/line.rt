@@ -15,13 +15,13 @@ ghost use mathlib.Core.Bool.{cond, true};
 ghost use lib.Dec.{eqb};
 ghost use Rattle.algebra.specs.Tally.{notes, Tally};
 ghost use Rattle.algebra.specs.bridge.Table.{opens};
-ghost use Rattle.names.specs.bridge.Names.{Holds, startsOf, sizesOf};
+ghost use Rattle.names.specs.bridge.Names.{startsOf, sizesOf, HoldsIn};
 ghost use Rattle.words.specs.bridge.Code.{rowOf, sortAt, fitsIn};
 ghost use Rattle.lines.specs.bridge.Line.{takeLine};
 ghost use Rattle.lines.specs.bridge.Says.{Says, LineIs, Small};
 ghost use Rattle.lines.specs.bridge.Steps.{InLine, leftAt, termsIn};
 ghost use Rattle.lines.specs.bridge.Spotted.{markAt};
-ghost use Rattle.lines.specs.bridge.Stored.{store, Adds, found, LineNotes};
+ghost use Rattle.lines.specs.bridge.Stored.{Adds, found, LineNotes, storeOf};
 
 // The fields of a whole line behind its word. They are all taken exactly if the cursor stands one past the line's end.
 pub struct Said {
@@ -47,8 +47,8 @@ fn fields(
 ) -> Said
     requires { ⌜ InLine (now s) c × (c .at ≤ c .end + 1) × (fitsIn 3 (row .fields) ≡ true) ⌝ }
     ensures says { λ r. ⌜ Says c (takeLine (rowOf row) width (leftAt (now (s .entry)) c)) (rowOf row .tail) (r .cursor) (r .first) (r .second) (r .columns) ⌝ }
-    ensures keeps { λ r. ⌜ (r .cursor .at ≡ c .end + 1 → (want : List (List ℕ)) → Holds (now (s .entry)) (startsOf (now (table .entry))) (sizesOf (now (table .entry))) (now (hints .entry)) n want → Holds (now (s .entry)) (startsOf (now (table .exit))) (sizesOf (now (table .exit))) (now (hints .exit)) (r .names) (notes (termsIn (takeLine (rowOf row) width (leftAt (now (s .entry)) c))) want)) ⌝ }
-    ensures adds { λ r. ⌜ (r .cursor .at ≡ c .end + 1 → row .behind ≤ 3 → Adds (now (s .entry)) (store (startsOf (now (table .entry))) (sizesOf (now (table .entry))) n (now (spots .entry)) k) (c .at) (store (startsOf (now (table .exit))) (sizesOf (now (table .exit))) (r .names) (now (spots .exit)) (r .spots)) (r .cursor .at) (found (markAt mark) (rowOf row .slots) (now (s .entry)) c) (found (markAt mark) [] (now (s .entry)) (r .cursor))) ⌝ }
+    ensures keeps { λ r. ⌜ (r .cursor .at ≡ c .end + 1 → (want : List (List ℕ)) → HoldsIn (now (s .entry)) (now (table .entry)) (now (hints .entry)) n want → HoldsIn (now (s .entry)) (now (table .exit)) (now (hints .exit)) (r .names) (notes (termsIn (takeLine (rowOf row) width (leftAt (now (s .entry)) c))) want)) ⌝ }
+    ensures adds { λ r. ⌜ (r .cursor .at ≡ c .end + 1 → row .behind ≤ 3 → Adds (now (s .entry)) (storeOf (now (table .entry)) n (now (spots .entry)) k) (c .at) (storeOf (now (table .exit)) (r .names) (now (spots .exit)) (r .spots)) (r .cursor .at) (found (markAt mark) (rowOf row .slots) (now (s .entry)) c) (found (markAt mark) [] (now (s .entry)) (r .cursor))) ⌝ }
 {
     let a = slots(s, c, row, mark, table, hints, n, spots, k);
     let ca = a.cursor;
@@ -137,7 +137,7 @@ pub fn read_line(
     k: usize,
 ) -> Line
     requires { ⌜ InLine (now s) c × (c .at ≤ c .end) × (sort ≤ 11) ⌝ }
-    ensures { λ r. ⌜ ((m : Tally) → m .lines ≡ lines → m .wide ≤ 64 → Holds (now (s .entry)) (startsOf (now (table .entry))) (sizesOf (now (table .entry))) (now (hints .entry)) n (m .names) → LineIs (now (s .entry)) (startsOf (now (table .exit))) (sizesOf (now (table .exit))) (now (hints .exit)) c sort level width m r) ⌝ }
+    ensures { λ r. ⌜ ((m : Tally) → m .lines ≡ lines → m .wide ≤ 64 → HoldsIn (now (s .entry)) (now (table .entry)) (now (hints .entry)) n (m .names) → LineIs (now (s .entry)) (startsOf (now (table .exit))) (sizesOf (now (table .exit))) (now (hints .exit)) c sort level width m r) ⌝ }
     ensures small { λ r. ⌜ Small sort level r ⌝ }
     ensures notes { λ r. ⌜ (sort ≤ 7 → LineNotes (now (s .entry)) (startsOf (now (table .entry))) (sizesOf (now (table .entry))) n (now (spots .entry)) k (startsOf (now (table .exit))) (sizesOf (now (table .exit))) (now (spots .exit)) c sort mark r) ⌝ }
 {

@@ -8,18 +8,15 @@ use reader::next_end;
 use words::Row;
 ghost use mathlib.Core.Path.{_≡_};
 ghost use Prim.Native.Nat.{_≤_};
-ghost use mathlib.Core.List.{List, _∷_, _++_};
+ghost use mathlib.Core.List.{[], _∷_};
 ghost use lib.Dec.{eqb};
-ghost use Rattle.text.specs.Text.{linesFrom};
-ghost use Rattle.algebra.specs.Tally.{Tally, bounds};
-ghost use Rattle.algebra.specs.bridge.Machine.{Want, want, More, run};
-ghost use Rattle.names.specs.bridge.Names.{startsOf, sizesOf};
+ghost use Rattle.algebra.specs.bridge.Machine.{want};
 ghost use Rattle.words.specs.bridge.Code.{sortAt};
 ghost use Rattle.lines.specs.bridge.Says.{below};
 ghost use Rattle.lines.specs.bridge.Below.{groups};
-ghost use Rattle.lines.specs.bridge.Run.{Ready, Stood, Went, Sound};
+ghost use Rattle.lines.specs.bridge.Run.{Ready, Runs, Sound};
 ghost use Rattle.lines.specs.bridge.Spotted.{markAt};
-ghost use Rattle.lines.specs.bridge.Walks.{storeAt, LineWalks, markUnder};
+ghost use Rattle.lines.specs.bridge.Walks.{LineWalks, markUnder, storeIn};
 
 // Where the text goes on, how many lines, names and spots there were; and the fault that ended the check: 0 for none, 1 for malformed, else over a bound.
 pub struct Place {
@@ -101,9 +98,9 @@ pub fn take_line(
     spots: &mut [Spot],
 ) -> Taken
     requires { ⌜ (sort ≤ 11) × Ready (now s) p ⌝ }
-    ensures { λ r. ⌜ ((ρ : More) (ws : List Want) (m : Tally) → Stood (now (s .entry)) (startsOf (now (table .entry))) (sizesOf (now (table .entry))) (now (hints .entry)) p m → Went (now (s .entry)) (startsOf (now (table .exit))) (sizesOf (now (table .exit))) (now (hints .exit)) ρ (groups 3 (r .row .below) (below sort level) (r .first) (r .second) ++ ws) (run bounds (linesFrom (now (s .entry)) (p .from)) ρ (want (sortAt sort) level width ∷ ws) m) (r .place)) ⌝ }
+    ensures { λ r. ⌜ Runs (now (s .entry)) (now (table .entry)) (now (hints .entry)) p (want (sortAt sort) level width ∷ []) (groups 3 (r .row .below) (below sort level) (r .first) (r .second)) (now (table .exit)) (now (hints .exit)) (r .place) ⌝ }
     ensures sound { λ r. ⌜ (r .place .fault ≡ 0 → Sound (now (s .entry)) p sort level r) ⌝ }
-    ensures walks { λ r. ⌜ (r .place .fault ≡ 0 → sort ≤ 7 → LineWalks (now (s .entry)) (storeAt (startsOf (now (table .entry))) (sizesOf (now (table .entry))) (now (spots .entry)) p) p (storeAt (startsOf (now (table .exit))) (sizesOf (now (table .exit))) (now (spots .exit)) (r .place)) sort mark r) ⌝ }
+    ensures walks { λ r. ⌜ (r .place .fault ≡ 0 → sort ≤ 7 → LineWalks (now (s .entry)) (storeIn (now (table .entry)) (now (spots .entry)) p) p (storeIn (now (table .exit)) (now (spots .exit)) (r .place)) sort mark r) ⌝ }
 {
     let from = p.from;
     if s.len() <= from {

@@ -19,12 +19,12 @@ ghost use lib.Dec.{eqb};
 ghost use Rattle.text.specs.bridge.Code.{kindAt};
 ghost use Rattle.algebra.specs.Tally.{notes};
 ghost use Rattle.algebra.specs.bridge.Table.{Slot};
-ghost use Rattle.names.specs.bridge.Names.{Holds, startsOf, sizesOf};
+ghost use Rattle.names.specs.bridge.Names.{HoldsIn};
 ghost use Rattle.words.specs.bridge.Code.{tailOf, rowOf, oneSlot, slotsIn, fitsIn};
 ghost use Rattle.lines.specs.bridge.Line.{takeField, takeSlots, takeTail, columnsOf};
 ghost use Rattle.lines.specs.bridge.Steps.{InLine, leftAt, Follows, restOf, restIn, termsOf, termsIn, numberTaken, TookSlots};
 ghost use Rattle.lines.specs.bridge.Spotted.{markAt};
-ghost use Rattle.lines.specs.bridge.Stored.{store, Adds, found};
+ghost use Rattle.lines.specs.bridge.Stored.{Adds, found, storeOf};
 
 // A cursor, the number of names in the table, and the number in a field or of a project's columns.
 pub struct Step {
@@ -49,8 +49,8 @@ fn slot(
 ) -> Step
     requires { ⌜ InLine (now s) c ⌝ }
     ensures follows { λ r. ⌜ Follows (now (s .entry)) c (restOf (takeField (oneSlot role (kindAt kind)) (leftAt (now (s .entry)) c))) (r .cursor) × (numberTaken (takeField (oneSlot role (kindAt kind)) (leftAt (now (s .entry)) c)) ≡ r .number) × (r .number < 4294967296) ⌝ }
-    ensures keeps { λ r. ⌜ ((want : List (List ℕ)) → Holds (now (s .entry)) (startsOf (now (table .entry))) (sizesOf (now (table .entry))) (now (hints .entry)) n want → Holds (now (s .entry)) (startsOf (now (table .exit))) (sizesOf (now (table .exit))) (now (hints .exit)) (r .names) (notes (termsOf (takeField (oneSlot role (kindAt kind)) (leftAt (now (s .entry)) c))) want)) ⌝ }
-    ensures adds { λ r. ⌜ (r .cursor .at ≤ c .end + 1 → (ss : List Slot) → Adds (now (s .entry)) (store (startsOf (now (table .entry))) (sizesOf (now (table .entry))) n (now (spots .entry)) k) (c .at) (store (startsOf (now (table .exit))) (sizesOf (now (table .exit))) (r .names) (now (spots .exit)) (r .spots)) (r .cursor .at) (found (markAt mark) (oneSlot role (kindAt kind) ∷ ss) (now (s .entry)) c) (found (markAt mark) ss (now (s .entry)) (r .cursor))) ⌝ }
+    ensures keeps { λ r. ⌜ ((want : List (List ℕ)) → HoldsIn (now (s .entry)) (now (table .entry)) (now (hints .entry)) n want → HoldsIn (now (s .entry)) (now (table .exit)) (now (hints .exit)) (r .names) (notes (termsOf (takeField (oneSlot role (kindAt kind)) (leftAt (now (s .entry)) c))) want)) ⌝ }
+    ensures adds { λ r. ⌜ (r .cursor .at ≤ c .end + 1 → (ss : List Slot) → Adds (now (s .entry)) (storeOf (now (table .entry)) n (now (spots .entry)) k) (c .at) (storeOf (now (table .exit)) (r .names) (now (spots .exit)) (r .spots)) (r .cursor .at) (found (markAt mark) (oneSlot role (kindAt kind) ∷ ss) (now (s .entry)) c) (found (markAt mark) ss (now (s .entry)) (r .cursor))) ⌝ }
 {
     if role == 1 {
         let t = term_field(s, c, kind, mark, table, hints, n, spots, k);
@@ -135,8 +135,8 @@ pub fn slots(
 ) -> Filled
     requires { ⌜ InLine (now s) c × (c .at ≤ c .end + 1) × (fitsIn 3 (row .fields) ≡ true) ⌝ }
     ensures { λ r. ⌜ TookSlots (now (s .entry)) c (takeSlots (rowOf row .slots) (leftAt (now (s .entry)) c)) (r .cursor) (r .first) (r .second) ⌝ }
-    ensures keeps { λ r. ⌜ (r .cursor .at ≤ c .end + 1 → (want : List (List ℕ)) → Holds (now (s .entry)) (startsOf (now (table .entry))) (sizesOf (now (table .entry))) (now (hints .entry)) n want → Holds (now (s .entry)) (startsOf (now (table .exit))) (sizesOf (now (table .exit))) (now (hints .exit)) (r .names) (notes (termsIn (takeSlots (rowOf row .slots) (leftAt (now (s .entry)) c))) want)) ⌝ }
-    ensures adds { λ r. ⌜ (r .cursor .at ≤ c .end + 1 → Adds (now (s .entry)) (store (startsOf (now (table .entry))) (sizesOf (now (table .entry))) n (now (spots .entry)) k) (c .at) (store (startsOf (now (table .exit))) (sizesOf (now (table .exit))) (r .names) (now (spots .exit)) (r .spots)) (r .cursor .at) (found (markAt mark) (rowOf row .slots) (now (s .entry)) c) (found (markAt mark) [] (now (s .entry)) (r .cursor))) ⌝ }
+    ensures keeps { λ r. ⌜ (r .cursor .at ≤ c .end + 1 → (want : List (List ℕ)) → HoldsIn (now (s .entry)) (now (table .entry)) (now (hints .entry)) n want → HoldsIn (now (s .entry)) (now (table .exit)) (now (hints .exit)) (r .names) (notes (termsIn (takeSlots (rowOf row .slots) (leftAt (now (s .entry)) c))) want)) ⌝ }
+    ensures adds { λ r. ⌜ (r .cursor .at ≤ c .end + 1 → Adds (now (s .entry)) (storeOf (now (table .entry)) n (now (spots .entry)) k) (c .at) (storeOf (now (table .exit)) (r .names) (now (spots .exit)) (r .spots)) (r .cursor .at) (found (markAt mark) (rowOf row .slots) (now (s .entry)) c) (found (markAt mark) [] (now (s .entry)) (r .cursor))) ⌝ }
 {
     let mut d = c;
     let mut m = n;
@@ -190,8 +190,8 @@ pub fn tail(
 ) -> Step
     requires { ⌜ InLine (now s) c × (c .at ≤ c .end + 1) ⌝ }
     ensures follows { λ r. ⌜ Follows (now (s .entry)) c (restIn (takeTail (tailOf kind) width (leftAt (now (s .entry)) c))) (r .cursor) × (r .cursor .at ≤ c .end + 1 → columnsOf (tailOf kind) (termsIn (takeTail (tailOf kind) width (leftAt (now (s .entry)) c))) ≡ r .number) ⌝ }
-    ensures keeps { λ r. ⌜ (r .cursor .at ≤ c .end + 1 → (want : List (List ℕ)) → Holds (now (s .entry)) (startsOf (now (table .entry))) (sizesOf (now (table .entry))) (now (hints .entry)) n want → Holds (now (s .entry)) (startsOf (now (table .exit))) (sizesOf (now (table .exit))) (now (hints .exit)) (r .names) (notes (termsIn (takeTail (tailOf kind) width (leftAt (now (s .entry)) c))) want)) ⌝ }
-    ensures adds { λ r. ⌜ (r .cursor .at ≤ c .end + 1 → kind ≤ 3 → Adds (now (s .entry)) (store (startsOf (now (table .entry))) (sizesOf (now (table .entry))) n (now (spots .entry)) k) (c .at) (store (startsOf (now (table .exit))) (sizesOf (now (table .exit))) (r .names) (now (spots .exit)) (r .spots)) (r .cursor .at) (found (markAt mark) [] (now (s .entry)) c) (found (markAt mark) [] (now (s .entry)) (r .cursor))) ⌝ }
+    ensures keeps { λ r. ⌜ (r .cursor .at ≤ c .end + 1 → (want : List (List ℕ)) → HoldsIn (now (s .entry)) (now (table .entry)) (now (hints .entry)) n want → HoldsIn (now (s .entry)) (now (table .exit)) (now (hints .exit)) (r .names) (notes (termsIn (takeTail (tailOf kind) width (leftAt (now (s .entry)) c))) want)) ⌝ }
+    ensures adds { λ r. ⌜ (r .cursor .at ≤ c .end + 1 → kind ≤ 3 → Adds (now (s .entry)) (storeOf (now (table .entry)) n (now (spots .entry)) k) (c .at) (storeOf (now (table .exit)) (r .names) (now (spots .exit)) (r .spots)) (r .cursor .at) (found (markAt mark) [] (now (s .entry)) c) (found (markAt mark) [] (now (s .entry)) (r .cursor))) ⌝ }
 {
     if kind == 1 {
         let w = fields_left(s, c);

@@ -17,11 +17,11 @@ ghost use Rattle.text.specs.Field.{variable, isKind};
 ghost use Rattle.text.specs.bridge.Code.{kindAt};
 ghost use Rattle.algebra.specs.Tally.{notes};
 ghost use Rattle.algebra.specs.bridge.Table.{Slot, term};
-ghost use Rattle.names.specs.bridge.Names.{Holds, startsOf, sizesOf};
+ghost use Rattle.names.specs.bridge.Names.{HoldsIn};
 ghost use Rattle.lines.specs.bridge.Line.{takeField, takeTimes};
 ghost use Rattle.lines.specs.bridge.Steps.{InLine, leftAt, Follows, restOf, restIn, termsOf, termsIn};
 ghost use Rattle.lines.specs.bridge.Spotted.{markAt};
-ghost use Rattle.lines.specs.bridge.Stored.{store, Placed, Adds, found, oneSpot};
+ghost use Rattle.lines.specs.bridge.Stored.{Placed, Adds, found, oneSpot, storeOf};
 
 // How many names are in the table, and how many spots were noted.
 pub struct Counts {
@@ -61,8 +61,8 @@ fn note_field(
     k: usize,
 ) -> Counts
     requires { ⌜ (from ≤ 16384) × (size ≤ 16384) × (from + size < length (now s)) ⌝ }
-    ensures keeps { λ r. ⌜ ((want : List (List ℕ)) → Holds (now (s .entry)) (startsOf (now (table .entry))) (sizesOf (now (table .entry))) (now (hints .entry)) n want → Holds (now (s .entry)) (startsOf (now (table .exit))) (sizesOf (now (table .exit))) (now (hints .exit)) (r .names) (notes (pieceOf from size (now (s .entry)) ∷ []) want)) ⌝ }
-    ensures adds { λ r. ⌜ Adds (now (s .entry)) (store (startsOf (now (table .entry))) (sizesOf (now (table .entry))) n (now (spots .entry)) k) from (store (startsOf (now (table .exit))) (sizesOf (now (table .exit))) (r .names) (now (spots .exit)) (r .spots)) (from + size + 1) (oneSpot (markAt mark) from (pieceOf from size (now (s .entry)))) [] ⌝ }
+    ensures keeps { λ r. ⌜ ((want : List (List ℕ)) → HoldsIn (now (s .entry)) (now (table .entry)) (now (hints .entry)) n want → HoldsIn (now (s .entry)) (now (table .exit)) (now (hints .exit)) (r .names) (notes (pieceOf from size (now (s .entry)) ∷ []) want)) ⌝ }
+    ensures adds { λ r. ⌜ Adds (now (s .entry)) (storeOf (now (table .entry)) n (now (spots .entry)) k) from (storeOf (now (table .exit)) (r .names) (now (spots .exit)) (r .spots)) (from + size + 1) (oneSpot (markAt mark) from (pieceOf from size (now (s .entry)))) [] ⌝ }
 {
     if is_var(piece(s, from, size)) {
         let l = keep_name(s, from, size, table, hints, n);
@@ -99,8 +99,8 @@ pub fn term_field(
 ) -> Noted
     requires { ⌜ InLine (now s) c ⌝ }
     ensures follows { λ r. ⌜ Follows (now (s .entry)) c (restOf (takeField (term (kindAt kind)) (leftAt (now (s .entry)) c))) (r .cursor) ⌝ }
-    ensures keeps { λ r. ⌜ ((want : List (List ℕ)) → Holds (now (s .entry)) (startsOf (now (table .entry))) (sizesOf (now (table .entry))) (now (hints .entry)) n want → Holds (now (s .entry)) (startsOf (now (table .exit))) (sizesOf (now (table .exit))) (now (hints .exit)) (r .names) (notes (termsOf (takeField (term (kindAt kind)) (leftAt (now (s .entry)) c))) want)) ⌝ }
-    ensures adds { λ r. ⌜ (r .cursor .at ≤ c .end + 1 → (ss : List Slot) → Adds (now (s .entry)) (store (startsOf (now (table .entry))) (sizesOf (now (table .entry))) n (now (spots .entry)) k) (c .at) (store (startsOf (now (table .exit))) (sizesOf (now (table .exit))) (r .names) (now (spots .exit)) (r .spots)) (r .cursor .at) (found (markAt mark) (term (kindAt kind) ∷ ss) (now (s .entry)) c) (found (markAt mark) ss (now (s .entry)) (r .cursor))) ⌝ }
+    ensures keeps { λ r. ⌜ ((want : List (List ℕ)) → HoldsIn (now (s .entry)) (now (table .entry)) (now (hints .entry)) n want → HoldsIn (now (s .entry)) (now (table .exit)) (now (hints .exit)) (r .names) (notes (termsOf (takeField (term (kindAt kind)) (leftAt (now (s .entry)) c))) want)) ⌝ }
+    ensures adds { λ r. ⌜ (r .cursor .at ≤ c .end + 1 → (ss : List Slot) → Adds (now (s .entry)) (storeOf (now (table .entry)) n (now (spots .entry)) k) (c .at) (storeOf (now (table .exit)) (r .names) (now (spots .exit)) (r .spots)) (r .cursor .at) (found (markAt mark) (term (kindAt kind) ∷ ss) (now (s .entry)) c) (found (markAt mark) ss (now (s .entry)) (r .cursor))) ⌝ }
 {
     let at = c.at;
     let field = c.next_field(s);
@@ -151,8 +151,8 @@ fn variable_field(
 ) -> Noted
     requires { ⌜ InLine (now s) c ⌝ }
     ensures follows { λ r. ⌜ Follows (now (s .entry)) c (restOf (takeField (term variable) (leftAt (now (s .entry)) c))) (r .cursor) ⌝ }
-    ensures keeps { λ r. ⌜ ((want : List (List ℕ)) → Holds (now (s .entry)) (startsOf (now (table .entry))) (sizesOf (now (table .entry))) (now (hints .entry)) n want → Holds (now (s .entry)) (startsOf (now (table .exit))) (sizesOf (now (table .exit))) (now (hints .exit)) (r .names) (notes (termsOf (takeField (term variable) (leftAt (now (s .entry)) c))) want)) ⌝ }
-    ensures adds { λ r. ⌜ (r .cursor .at ≤ c .end + 1 → (ss : List Slot) → Adds (now (s .entry)) (store (startsOf (now (table .entry))) (sizesOf (now (table .entry))) n (now (spots .entry)) k) (c .at) (store (startsOf (now (table .exit))) (sizesOf (now (table .exit))) (r .names) (now (spots .exit)) (r .spots)) (r .cursor .at) (found (markAt mark) (term variable ∷ ss) (now (s .entry)) c) (found (markAt mark) ss (now (s .entry)) (r .cursor))) ⌝ }
+    ensures keeps { λ r. ⌜ ((want : List (List ℕ)) → HoldsIn (now (s .entry)) (now (table .entry)) (now (hints .entry)) n want → HoldsIn (now (s .entry)) (now (table .exit)) (now (hints .exit)) (r .names) (notes (termsOf (takeField (term variable) (leftAt (now (s .entry)) c))) want)) ⌝ }
+    ensures adds { λ r. ⌜ (r .cursor .at ≤ c .end + 1 → (ss : List Slot) → Adds (now (s .entry)) (storeOf (now (table .entry)) n (now (spots .entry)) k) (c .at) (storeOf (now (table .exit)) (r .names) (now (spots .exit)) (r .spots)) (r .cursor .at) (found (markAt mark) (term variable ∷ ss) (now (s .entry)) c) (found (markAt mark) ss (now (s .entry)) (r .cursor))) ⌝ }
 {
     let at = c.at;
     let field = c.next_field(s);
@@ -196,8 +196,8 @@ pub fn variable_fields(
 ) -> Noted
     requires { ⌜ InLine (now s) c × (c .at ≤ c .end + 1) ⌝ }
     ensures follows { λ r. ⌜ Follows (now (s .entry)) c (restIn (takeTimes times (term variable) (leftAt (now (s .entry)) c))) (r .cursor) ⌝ }
-    ensures keeps { λ r. ⌜ (r .cursor .at ≤ c .end + 1 → (want : List (List ℕ)) → Holds (now (s .entry)) (startsOf (now (table .entry))) (sizesOf (now (table .entry))) (now (hints .entry)) n want → Holds (now (s .entry)) (startsOf (now (table .exit))) (sizesOf (now (table .exit))) (now (hints .exit)) (r .names) (notes (termsIn (takeTimes times (term variable) (leftAt (now (s .entry)) c))) want)) ⌝ }
-    ensures adds { λ r. ⌜ (r .cursor .at ≤ c .end + 1 → Adds (now (s .entry)) (store (startsOf (now (table .entry))) (sizesOf (now (table .entry))) n (now (spots .entry)) k) (c .at) (store (startsOf (now (table .exit))) (sizesOf (now (table .exit))) (r .names) (now (spots .exit)) (r .spots)) (r .cursor .at) (found (markAt mark) [] (now (s .entry)) c) (found (markAt mark) [] (now (s .entry)) (r .cursor))) ⌝ }
+    ensures keeps { λ r. ⌜ (r .cursor .at ≤ c .end + 1 → (want : List (List ℕ)) → HoldsIn (now (s .entry)) (now (table .entry)) (now (hints .entry)) n want → HoldsIn (now (s .entry)) (now (table .exit)) (now (hints .exit)) (r .names) (notes (termsIn (takeTimes times (term variable) (leftAt (now (s .entry)) c))) want)) ⌝ }
+    ensures adds { λ r. ⌜ (r .cursor .at ≤ c .end + 1 → Adds (now (s .entry)) (storeOf (now (table .entry)) n (now (spots .entry)) k) (c .at) (storeOf (now (table .exit)) (r .names) (now (spots .exit)) (r .spots)) (r .cursor .at) (found (markAt mark) [] (now (s .entry)) c) (found (markAt mark) [] (now (s .entry)) (r .cursor))) ⌝ }
 {
     let mut d = c;
     let mut m = n;

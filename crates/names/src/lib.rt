@@ -9,7 +9,7 @@ ghost use mathlib.Core.Bool.{false, true};
 ghost use lib.ListN.{length, getD, set};
 ghost use Rattle.text.specs.Text.{same, piece as pieceOf};
 ghost use Rattle.algebra.specs.Valid.{mem};
-ghost use Rattle.names.specs.bridge.Names.{hashOf, placeOf, startsOf, sizesOf, nameAt, listing, after as afterOf, Leads, Hinted, Free, Grows, Holds, Lists, kept};
+ghost use Rattle.names.specs.bridge.Names.{hashOf, placeOf, startsOf, sizesOf, after as afterOf, Leads, Hinted, Free, Grows, Lists, kept, namesIn, HoldsIn, nameIn};
 
 // An entry of the table: a name's start and size.
 pub type Entry = [u16; 2];
@@ -99,7 +99,7 @@ fn after(p: usize) -> usize
 // The name at an entry is this one.
 fn is_name(f: &[u8], s: &[u8], table: &[Entry; 1024], i: usize) -> bool
     requires { ⌜ i < 1024 ⌝ }
-    ensures { λ r. ⌜ r ≡ same (now (f .entry)) (nameAt (now (s .entry)) (startsOf (now (table .entry))) (sizesOf (now (table .entry))) i) ⌝ }
+    ensures { λ r. ⌜ r ≡ same (now (f .entry)) (nameIn (now (s .entry)) (now (table .entry)) i) ⌝ }
 {
     let e = table[i];
     equal(f, piece(s, wide(e[0]), wide(e[1])))
@@ -108,7 +108,7 @@ fn is_name(f: &[u8], s: &[u8], table: &[Entry; 1024], i: usize) -> bool
 // The entry of a name among the first n, looked for one by one, or n.
 fn scan(f: &[u8], s: &[u8], table: &[Entry; 1024], n: usize) -> usize
     requires { ⌜ n ≤ 1024 ⌝ }
-    ensures { λ r. ⌜ (r ≤ n) × (r < n → same (now (f .entry)) (nameAt (now (s .entry)) (startsOf (now (table .entry))) (sizesOf (now (table .entry))) r) ≡ true) × (r ≡ n → mem (now (f .entry)) (listing (now (s .entry)) (startsOf (now (table .entry))) (sizesOf (now (table .entry))) n) ≡ false) ⌝ }
+    ensures { λ r. ⌜ (r ≤ n) × (r < n → same (now (f .entry)) (nameIn (now (s .entry)) (now (table .entry)) r) ≡ true) × (r ≡ n → mem (now (f .entry)) (namesIn (now (s .entry)) (now (table .entry)) n) ≡ false) ⌝ }
 {
     let mut i = 0;
     while i < n {
@@ -123,7 +123,7 @@ fn scan(f: &[u8], s: &[u8], table: &[Entry; 1024], n: usize) -> usize
 // A hint leads to this name among the first n.
 fn is_hinted(f: &[u8], s: &[u8], table: &[Entry; 1024], n: usize, hint: usize) -> bool
     requires { ⌜ (n ≤ 1024) × (hint ≡ 0 → ⊥) ⌝ }
-    ensures { λ r. ⌜ (r ≡ true → hint ≤ n) × ((i : ℕ) → i < n → hint ≡ i + 1 → r ≡ same (now (f .entry)) (nameAt (now (s .entry)) (startsOf (now (table .entry))) (sizesOf (now (table .entry))) i)) ⌝ }
+    ensures { λ r. ⌜ (r ≡ true → hint ≤ n) × ((i : ℕ) → i < n → hint ≡ i + 1 → r ≡ same (now (f .entry)) (nameIn (now (s .entry)) (now (table .entry)) i)) ⌝ }
 {
     if n < hint {
         return false;
@@ -139,7 +139,7 @@ struct Seen {
 
 fn probe(f: &[u8], s: &[u8], table: &[Entry; 1024], hints: &[u16; 4096], n: usize) -> Seen
     requires { ⌜ n ≤ 1024 ⌝ }
-    ensures { λ r. ⌜ (r .entry ≤ n) × (r .entry < n → same (now (f .entry)) (nameAt (now (s .entry)) (startsOf (now (table .entry))) (sizesOf (now (table .entry))) (r .entry)) ≡ true) × (r .entry ≡ n → Hinted (now (hints .entry)) (listing (now (s .entry)) (startsOf (now (table .entry))) (sizesOf (now (table .entry))) n) → mem (now (f .entry)) (listing (now (s .entry)) (startsOf (now (table .entry))) (sizesOf (now (table .entry))) n) ≡ false) ⌝ }
+    ensures { λ r. ⌜ (r .entry ≤ n) × (r .entry < n → same (now (f .entry)) (nameIn (now (s .entry)) (now (table .entry)) (r .entry)) ≡ true) × (r .entry ≡ n → Hinted (now (hints .entry)) (namesIn (now (s .entry)) (now (table .entry)) n) → mem (now (f .entry)) (namesIn (now (s .entry)) (now (table .entry)) n) ≡ false) ⌝ }
     ensures free { λ r. ⌜ (r .entry ≡ n → Free (now (hints .entry)) (placeOf (now (f .entry))) (r .at)) ⌝ }
 {
     let mut p = place(f);
@@ -165,7 +165,7 @@ fn probe(f: &[u8], s: &[u8], table: &[Entry; 1024], hints: &[u16; 4096], n: usiz
 // The entry of a name among the first n, or n.
 pub fn find_name(f: &[u8], s: &[u8], table: &[Entry; 1024], hints: &[u16; 4096], n: usize) -> usize
     requires { ⌜ n ≤ 1024 ⌝ }
-    ensures { λ r. ⌜ (r ≤ n) × (r < n → same (now (f .entry)) (nameAt (now (s .entry)) (startsOf (now (table .entry))) (sizesOf (now (table .entry))) r) ≡ true) × (r ≡ n → Hinted (now (hints .entry)) (listing (now (s .entry)) (startsOf (now (table .entry))) (sizesOf (now (table .entry))) n) → mem (now (f .entry)) (listing (now (s .entry)) (startsOf (now (table .entry))) (sizesOf (now (table .entry))) n) ≡ false) ⌝ }
+    ensures { λ r. ⌜ (r ≤ n) × (r < n → same (now (f .entry)) (nameIn (now (s .entry)) (now (table .entry)) r) ≡ true) × (r ≡ n → Hinted (now (hints .entry)) (namesIn (now (s .entry)) (now (table .entry)) n) → mem (now (f .entry)) (namesIn (now (s .entry)) (now (table .entry)) n) ≡ false) ⌝ }
 {
     let r = probe(f, s, table, hints, n);
     r.entry
@@ -204,7 +204,7 @@ pub fn keep_name(
     n: usize,
 ) -> Listed
     requires { ⌜ (from < 65536) × (size < 65536) ⌝ }
-    ensures { λ r. ⌜ ((want : List (List ℕ)) → Holds (now (s .entry)) (startsOf (now (table .entry))) (sizesOf (now (table .entry))) (now (hints .entry)) n want → Holds (now (s .entry)) (startsOf (now (table .exit))) (sizesOf (now (table .exit))) (now (hints .exit)) (r .names) (kept (pieceOf from size (now (s .entry))) want)) ⌝ }
+    ensures { λ r. ⌜ ((want : List (List ℕ)) → HoldsIn (now (s .entry)) (now (table .entry)) (now (hints .entry)) n want → HoldsIn (now (s .entry)) (now (table .exit)) (now (hints .exit)) (r .names) (kept (pieceOf from size (now (s .entry))) want)) ⌝ }
     ensures lists { λ r. ⌜ Lists (now (s .entry)) (startsOf (now (table .entry))) (sizesOf (now (table .entry))) n (startsOf (now (table .exit))) (sizesOf (now (table .exit))) (r .names) (r .entry) (pieceOf from size (now (s .entry))) ⌝ }
 {
     if 1024 < n {
@@ -241,7 +241,7 @@ pub fn add_name(
     n: usize,
 ) -> usize
     requires { ⌜ (from < 65536) × (size < 65536) ⌝ }
-    ensures { λ r. ⌜ ((want : List (List ℕ)) → Holds (now (s .entry)) (startsOf (now (table .entry))) (sizesOf (now (table .entry))) (now (hints .entry)) n want → Holds (now (s .entry)) (startsOf (now (table .exit))) (sizesOf (now (table .exit))) (now (hints .exit)) r (kept (pieceOf from size (now (s .entry))) want)) ⌝ }
+    ensures { λ r. ⌜ ((want : List (List ℕ)) → HoldsIn (now (s .entry)) (now (table .entry)) (now (hints .entry)) n want → HoldsIn (now (s .entry)) (now (table .exit)) (now (hints .exit)) r (kept (pieceOf from size (now (s .entry))) want)) ⌝ }
 {
     let l = keep_name(s, from, size, table, hints, n);
     l.names

@@ -11,7 +11,7 @@ use text::piece;
 ghost use mathlib.Core.Path.{_≡_};
 ghost use Prim.Native.Nat.{ℕ, _+_, _≤_, _<_};
 ghost use lib.ListN.{length, getD};
-ghost use Rattle.names.specs.bridge.Names.{nameAt, listing, startsOf, sizesOf};
+ghost use Rattle.names.specs.bridge.Names.{startsOf, sizesOf, namesIn, nameIn};
 ghost use Rattle.scoping.specs.bridge.Pushes.{lookup, allPushes};
 ghost use Rattle.naming.specs.bridge.Code.{book, Stored, Apart, numberedBy, namesAt, said, written, Laid, Settled, Standard};
 
@@ -76,7 +76,7 @@ fn set_new_name(
     news: &mut [Entry],
 ) -> usize
     requires { ⌜ (k < 1024) × Stored (now text) (startsOf (now listed)) (sizesOf (now listed)) (now hints) (now tags) (now numbers) m × Apart (book (now text) (startsOf (now listed)) (sizesOf (now listed)) (now tags) (now numbers) m) × (at + 12 ≤ 16384) × (16384 ≤ length (now pool)) × (length (now news) ≡ 1024) ⌝ }
-    ensures { λ r. ⌜ Settled (book (now (text .entry)) (startsOf (now (listed .entry))) (sizesOf (now (listed .entry))) (now (tags .entry)) (now (numbers .entry)) m) (nameAt (now (text .entry)) (startsOf (now (table .entry))) (sizesOf (now (table .entry))) k) k at r (now (pool .entry)) (startsOf (now (news .entry))) (sizesOf (now (news .entry))) (now (pool .exit)) (startsOf (now (news .exit))) (sizesOf (now (news .exit))) ⌝ }
+    ensures { λ r. ⌜ Settled (book (now (text .entry)) (startsOf (now (listed .entry))) (sizesOf (now (listed .entry))) (now (tags .entry)) (now (numbers .entry)) m) (nameIn (now (text .entry)) (now (table .entry)) k) k at r (now (pool .entry)) (startsOf (now (news .entry))) (sizesOf (now (news .entry))) (now (pool .exit)) (startsOf (now (news .exit))) (sizesOf (now (news .exit))) ⌝ }
 {
     let e = table[k];
     let f = piece(text, wide(e[0]), wide(e[1]));
@@ -100,7 +100,7 @@ fn set_new_names(
     news: &mut [Entry],
 )
     requires { ⌜ (n ≤ 1024) × Stored (now text) (startsOf (now listed)) (sizesOf (now listed)) (now hints) (now tags) (now numbers) m × Apart (book (now text) (startsOf (now listed)) (sizesOf (now listed)) (now tags) (now numbers) m) × (16384 ≤ length (now pool)) × (length (now news) ≡ 1024) ⌝ }
-    ensures { λ _. ⌜ Standard (book (now (text .entry)) (startsOf (now (listed .entry))) (sizesOf (now (listed .entry))) (now (tags .entry)) (now (numbers .entry)) m) (listing (now (text .entry)) (startsOf (now (table .entry))) (sizesOf (now (table .entry))) n) n (now (pool .exit)) (startsOf (now (news .exit))) (sizesOf (now (news .exit))) (sizesOf (now (news .entry))) ⌝ }
+    ensures { λ _. ⌜ Standard (book (now (text .entry)) (startsOf (now (listed .entry))) (sizesOf (now (listed .entry))) (now (tags .entry)) (now (numbers .entry)) m) (namesIn (now (text .entry)) (now (table .entry)) n) n (now (pool .exit)) (startsOf (now (news .exit))) (sizesOf (now (news .exit))) (sizesOf (now (news .entry))) ⌝ }
 {
     let mut at = 0;
     let mut k = 0;
@@ -136,7 +136,7 @@ pub fn standardize_variables(
     news: &mut [Entry],
 )
     requires { ⌜ (n ≤ 1024) × (m ≤ 64) × ((i : ℕ) → i < m → getD (now joins) i 0 < n) × (16384 ≤ length (now pool)) × (length (now news) ≡ 1024) ⌝ }
-    ensures { λ _. ⌜ Standard (allPushes prefix (numberedBy (now (flags .entry)) (listing (now (text .entry)) (startsOf (now (table .entry))) (sizesOf (now (table .entry))) n)) (namesAt (now (text .entry)) (startsOf (now (table .entry))) (sizesOf (now (table .entry))) (now (joins .entry)) m 0)) (listing (now (text .entry)) (startsOf (now (table .entry))) (sizesOf (now (table .entry))) n) n (now (pool .exit)) (startsOf (now (news .exit))) (sizesOf (now (news .exit))) (sizesOf (now (news .entry))) ⌝ }
+    ensures { λ _. ⌜ Standard (allPushes prefix (numberedBy (now (flags .entry)) (namesIn (now (text .entry)) (now (table .entry)) n)) (namesAt (now (text .entry)) (startsOf (now (table .entry))) (sizesOf (now (table .entry))) (now (joins .entry)) m 0)) (namesIn (now (text .entry)) (now (table .entry)) n) n (now (pool .exit)) (startsOf (now (news .exit))) (sizesOf (now (news .exit))) (sizesOf (now (news .entry))) ⌝ }
 {
     let mut listed = [[0u16; 2]; 1024];
     let mut hints = [0u16; 4096];

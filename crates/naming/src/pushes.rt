@@ -13,7 +13,7 @@ ghost use Prim.Native.Nat.{ℕ, _+_, _≤_, _<_};
 ghost use lib.ListN.{length, getD, set};
 ghost use lib.Dec.{eqb};
 ghost use Rattle.text.specs.Text.{piece as pieceOf};
-ghost use Rattle.names.specs.bridge.Names.{nameAt, listing, Hinted, startsOf, sizesOf};
+ghost use Rattle.names.specs.bridge.Names.{Hinted, startsOf, sizesOf, namesIn, nameIn};
 ghost use Rattle.scoping.specs.Label.{base as baseOf};
 ghost use Rattle.scoping.specs.bridge.Pushes.{contains, pushed, pushes, allPushes};
 ghost use Rattle.scoping.specs.bridge.Becomes.{chosen};
@@ -27,7 +27,7 @@ pub fn find_label(
     hints: &[u16; 4096],
     m: usize,
 ) -> usize
-    requires { ⌜ (m ≤ 1024) × Hinted (now hints) (listing (now text) (startsOf (now listed)) (sizesOf (now listed)) m) ⌝ }
+    requires { ⌜ (m ≤ 1024) × Hinted (now hints) (namesIn (now text) (now listed) m) ⌝ }
     ensures { λ r. ⌜ LabelAt (now (f .entry)) (now (text .entry)) (startsOf (now (listed .entry))) (sizesOf (now (listed .entry))) m r ⌝ }
 {
     if ends_in_label(f) {
@@ -40,7 +40,7 @@ pub fn find_label(
 // The size of the base of the name at entry k.
 fn base_at(text: &[u8], table: &[Entry; 1024], k: usize) -> usize
     requires { ⌜ k < 1024 ⌝ }
-    ensures { λ r. ⌜ (pieceOf (getD (startsOf (now (table .entry))) k 0) r (now (text .entry)) ≡ baseOf (nameAt (now (text .entry)) (startsOf (now (table .entry))) (sizesOf (now (table .entry))) k)) × (r < 65536) ⌝ }
+    ensures { λ r. ⌜ (pieceOf (getD (startsOf (now (table .entry))) k 0) r (now (text .entry)) ≡ baseOf (nameIn (now (text .entry)) (now (table .entry)) k)) × (r < 65536) ⌝ }
 {
     let e = table[k];
     let from = wide(e[0]);
@@ -70,8 +70,8 @@ fn push(
     numbers: &mut [u16; 1024],
     m: usize,
 ) -> usize
-    requires { ⌜ (k < 1024) × (count < 65536) × Stored (now text) (startsOf (now listed)) (sizesOf (now listed)) (now hints) (now tags) (now numbers) m × (contains (baseOf (nameAt (now text) (startsOf (now table)) (sizesOf (now table)) k)) (book (now text) (startsOf (now listed)) (sizesOf (now listed)) (now tags) (now numbers) m) ≡ false → m < 1024) ⌝ }
-    ensures { λ r. ⌜ (book (now (text .entry)) (startsOf (now (listed .exit))) (sizesOf (now (listed .exit))) (now (tags .exit)) (now (numbers .exit)) r ≡ pushed prefix count (nameAt (now (text .entry)) (startsOf (now (table .entry))) (sizesOf (now (table .entry))) k) (book (now (text .entry)) (startsOf (now (listed .entry))) (sizesOf (now (listed .entry))) (now (tags .entry)) (now (numbers .entry)) m)) × Stored (now (text .entry)) (startsOf (now (listed .exit))) (sizesOf (now (listed .exit))) (now (hints .exit)) (now (tags .exit)) (now (numbers .exit)) r ⌝ }
+    requires { ⌜ (k < 1024) × (count < 65536) × Stored (now text) (startsOf (now listed)) (sizesOf (now listed)) (now hints) (now tags) (now numbers) m × (contains (baseOf (nameIn (now text) (now table) k)) (book (now text) (startsOf (now listed)) (sizesOf (now listed)) (now tags) (now numbers) m) ≡ false → m < 1024) ⌝ }
+    ensures { λ r. ⌜ (book (now (text .entry)) (startsOf (now (listed .exit))) (sizesOf (now (listed .exit))) (now (tags .exit)) (now (numbers .exit)) r ≡ pushed prefix count (nameIn (now (text .entry)) (now (table .entry)) k) (book (now (text .entry)) (startsOf (now (listed .entry))) (sizesOf (now (listed .entry))) (now (tags .entry)) (now (numbers .entry)) m)) × Stored (now (text .entry)) (startsOf (now (listed .exit))) (sizesOf (now (listed .exit))) (now (hints .exit)) (now (tags .exit)) (now (numbers .exit)) r ⌝ }
 {
     let from = wide(table[k][0]);
     let size = base_at(text, table, k);
@@ -129,8 +129,8 @@ fn push_one(
     tags: &mut [u8; 1024],
     numbers: &mut [u16; 1024],
 ) -> Pass
-    requires { ⌜ (k < 1024) × (first .count < 65536) × Stored (now text) (startsOf (now listed)) (sizesOf (now listed)) (now hints) (now tags) (now numbers) (first .m) × (contains (baseOf (nameAt (now text) (startsOf (now table)) (sizesOf (now table)) k)) (book (now text) (startsOf (now listed)) (sizesOf (now listed)) (now tags) (now numbers) (first .m)) ≡ false → first .m < 1024) ⌝ }
-    ensures { λ r. ⌜ (book (now (text .entry)) (startsOf (now (listed .exit))) (sizesOf (now (listed .exit))) (now (tags .exit)) (now (numbers .exit)) (r .m) ≡ pushes prefix (first .count) (cond (eqb flag 0) [] (nameAt (now (text .entry)) (startsOf (now (table .entry))) (sizesOf (now (table .entry))) k ∷ [])) (book (now (text .entry)) (startsOf (now (listed .entry))) (sizesOf (now (listed .entry))) (now (tags .entry)) (now (numbers .entry)) (first .m))) × (r .count ≡ first .count + length (cond (eqb flag 0) [] (nameAt (now (text .entry)) (startsOf (now (table .entry))) (sizesOf (now (table .entry))) k ∷ []))) × Stored (now (text .entry)) (startsOf (now (listed .exit))) (sizesOf (now (listed .exit))) (now (hints .exit)) (now (tags .exit)) (now (numbers .exit)) (r .m) ⌝ }
+    requires { ⌜ (k < 1024) × (first .count < 65536) × Stored (now text) (startsOf (now listed)) (sizesOf (now listed)) (now hints) (now tags) (now numbers) (first .m) × (contains (baseOf (nameIn (now text) (now table) k)) (book (now text) (startsOf (now listed)) (sizesOf (now listed)) (now tags) (now numbers) (first .m)) ≡ false → first .m < 1024) ⌝ }
+    ensures { λ r. ⌜ (book (now (text .entry)) (startsOf (now (listed .exit))) (sizesOf (now (listed .exit))) (now (tags .exit)) (now (numbers .exit)) (r .m) ≡ pushes prefix (first .count) (cond (eqb flag 0) [] (nameIn (now (text .entry)) (now (table .entry)) k ∷ [])) (book (now (text .entry)) (startsOf (now (listed .entry))) (sizesOf (now (listed .entry))) (now (tags .entry)) (now (numbers .entry)) (first .m))) × (r .count ≡ first .count + length (cond (eqb flag 0) [] (nameIn (now (text .entry)) (now (table .entry)) k ∷ []))) × Stored (now (text .entry)) (startsOf (now (listed .exit))) (sizesOf (now (listed .exit))) (now (hints .exit)) (now (tags .exit)) (now (numbers .exit)) (r .m) ⌝ }
 {
     if flag == 0 {
         return first;
@@ -168,8 +168,8 @@ fn push_flagged(
     tags: &mut [u8; 1024],
     numbers: &mut [u16; 1024],
 ) -> Pass
-    requires { ⌜ (n ≤ 1024) × (base ≤ 1024) × (first .count ≤ 1024) × Stored (now text) (startsOf (now listed)) (sizesOf (now listed)) (now hints) (now tags) (now numbers) (first .m) × Room (book (now text) (startsOf (now listed)) (sizesOf (now listed)) (now tags) (now numbers) (first .m)) (listing (now text) (startsOf (now table)) (sizesOf (now table)) n) ⌝ }
-    ensures { λ r. ⌜ (book (now (text .entry)) (startsOf (now (listed .exit))) (sizesOf (now (listed .exit))) (now (tags .exit)) (now (numbers .exit)) (r .m) ≡ pushes prefix (first .count) (chosen base (now (flags .entry)) (listing (now (text .entry)) (startsOf (now (table .entry))) (sizesOf (now (table .entry))) n)) (book (now (text .entry)) (startsOf (now (listed .entry))) (sizesOf (now (listed .entry))) (now (tags .entry)) (now (numbers .entry)) (first .m))) × (r .count ≡ first .count + length (chosen base (now (flags .entry)) (listing (now (text .entry)) (startsOf (now (table .entry))) (sizesOf (now (table .entry))) n))) × (r .count ≤ first .count + n) × Room (book (now (text .entry)) (startsOf (now (listed .exit))) (sizesOf (now (listed .exit))) (now (tags .exit)) (now (numbers .exit)) (r .m)) (listing (now (text .entry)) (startsOf (now (table .entry))) (sizesOf (now (table .entry))) n) × Stored (now (text .entry)) (startsOf (now (listed .exit))) (sizesOf (now (listed .exit))) (now (hints .exit)) (now (tags .exit)) (now (numbers .exit)) (r .m) ⌝ }
+    requires { ⌜ (n ≤ 1024) × (base ≤ 1024) × (first .count ≤ 1024) × Stored (now text) (startsOf (now listed)) (sizesOf (now listed)) (now hints) (now tags) (now numbers) (first .m) × Room (book (now text) (startsOf (now listed)) (sizesOf (now listed)) (now tags) (now numbers) (first .m)) (namesIn (now text) (now table) n) ⌝ }
+    ensures { λ r. ⌜ (book (now (text .entry)) (startsOf (now (listed .exit))) (sizesOf (now (listed .exit))) (now (tags .exit)) (now (numbers .exit)) (r .m) ≡ pushes prefix (first .count) (chosen base (now (flags .entry)) (namesIn (now (text .entry)) (now (table .entry)) n)) (book (now (text .entry)) (startsOf (now (listed .entry))) (sizesOf (now (listed .entry))) (now (tags .entry)) (now (numbers .entry)) (first .m))) × (r .count ≡ first .count + length (chosen base (now (flags .entry)) (namesIn (now (text .entry)) (now (table .entry)) n))) × (r .count ≤ first .count + n) × Room (book (now (text .entry)) (startsOf (now (listed .exit))) (sizesOf (now (listed .exit))) (now (tags .exit)) (now (numbers .exit)) (r .m)) (namesIn (now (text .entry)) (now (table .entry)) n) × Stored (now (text .entry)) (startsOf (now (listed .exit))) (sizesOf (now (listed .exit))) (now (hints .exit)) (now (tags .exit)) (now (numbers .exit)) (r .m) ⌝ }
 {
     let mut p = first;
     let mut k = 0;
@@ -206,7 +206,7 @@ pub fn push_all(
     numbers: &mut [u16; 1024],
 ) -> usize
     requires { ⌜ (n ≤ 1024) × (m ≤ 64) × ((i : ℕ) → i < m → getD (now joins) i 0 < n) × Stored (now text) (startsOf (now listed)) (sizesOf (now listed)) (now hints) (now tags) (now numbers) 0 ⌝ }
-    ensures { λ r. ⌜ (book (now (text .entry)) (startsOf (now (listed .exit))) (sizesOf (now (listed .exit))) (now (tags .exit)) (now (numbers .exit)) r ≡ allPushes prefix (numberedBy (now (flags .entry)) (listing (now (text .entry)) (startsOf (now (table .entry))) (sizesOf (now (table .entry))) n)) (namesAt (now (text .entry)) (startsOf (now (table .entry))) (sizesOf (now (table .entry))) (now (joins .entry)) m 0)) × Stored (now (text .entry)) (startsOf (now (listed .exit))) (sizesOf (now (listed .exit))) (now (hints .exit)) (now (tags .exit)) (now (numbers .exit)) r ⌝ }
+    ensures { λ r. ⌜ (book (now (text .entry)) (startsOf (now (listed .exit))) (sizesOf (now (listed .exit))) (now (tags .exit)) (now (numbers .exit)) r ≡ allPushes prefix (numberedBy (now (flags .entry)) (namesIn (now (text .entry)) (now (table .entry)) n)) (namesAt (now (text .entry)) (startsOf (now (table .entry))) (sizesOf (now (table .entry))) (now (joins .entry)) m 0)) × Stored (now (text .entry)) (startsOf (now (listed .exit))) (sizesOf (now (listed .exit))) (now (hints .exit)) (now (tags .exit)) (now (numbers .exit)) r ⌝ }
 {
     let k = push_joins(text, table, joins, m, listed, hints, tags, numbers);
     let a = push_flagged(

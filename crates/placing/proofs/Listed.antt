@@ -9,7 +9,7 @@ use lib.ListN.{length, getD, set, drop, List·getD-eq-default}
 use lib.Seq.{getD-set-same}
 use Rattle.text.specs.Text.{Bytes, Line, part, piece, linesFrom, First}
 use Rattle.text.proofs.Places.{lines-next}
-use Rattle.names.specs.bridge.Names.{listing, startsOf, sizesOf}
+use Rattle.names.specs.bridge.Names.{listing, namesIn, startsOf, sizesOf}
 use Rattle.names.proofs.Columns.{column-length, column-set, column-is}
 use Rattle.names.proofs.Laws.{listing-below, listing-long, listing-at}
 use Rattle.cursor.specs.bridge.Cursor.{left}
@@ -18,7 +18,7 @@ use Rattle.reader.specs.bridge.Lines.{LineEnd}
 use Rattle.reader.proofs.Laws.{nothing-here}
 use Rattle.walking.proofs.Laws.{line-split}
 use Rattle.placing.specs.declared.field.Field.{Field}
-use Rattle.placing.specs.bridge.Fields.{FieldIs, columnsIn, columnsOn}
+use Rattle.placing.specs.bridge.Fields.{FieldIs, columnsOn}
 
 pub columns-start : (s : Bytes) (a l : List ℕ) (cs : List Bytes) → listing s a l 0 ++ cs ≡ cs
 unfolding listing
@@ -34,16 +34,16 @@ module _ (s : Bytes) (n next end : ℕ) where
     columns-less = let e = ap length (w .here k) in omega arith
 
   -- one column more
-  pub columns-next : (k : next ≤ end) (f : Field) (w : FieldIs s next end f) (t : List (List ℕ)) (cs : List Bytes) → n < length t → columnsIn s t n ++ left s next end ≡ cs
-      → columnsIn s (set t n (next ∷ (f .to - next) ∷ [])) (n + 1) ++ left s (f .next) end ≡ cs
+  pub columns-next : (k : next ≤ end) (f : Field) (w : FieldIs s next end f) (t : List (List ℕ)) (cs : List Bytes) → n < length t → namesIn s t n ++ left s next end ≡ cs
+      → namesIn s (set t n (next ∷ (f .to - next) ∷ [])) (n + 1) ++ left s (f .next) end ≡ cs
   unfolding listing
   columns-next k f w t cs i h =
       let e = next ∷ (f .to - next) ∷ [] in
       rw (column-set 0 t n e, column-set 1 t n e, add-one, listing-below s (startsOf t) (sizesOf t) n next (f .to - next) n (omega arith), getD-set-same (startsOf t) n next 0 (rw (column-length 0 t) i), getD-set-same (sizesOf t) n (f .to - next) 0 (rw (column-length 1 t) i))
-      (append-assoc (columnsIn s t n) (part next (f .to) s ∷ []) (left s (f .next) end) ∙ ap (λ (r : List Bytes). columnsIn s t n ++ r) (sym (w .here k)) ∙ h)
+      (append-assoc (namesIn s t n) (part next (f .to) s ∷ []) (left s (f .next) end) ∙ ap (λ (r : List Bytes). namesIn s t n ++ r) (sym (w .here k)) ∙ h)
 
-  pub columns-done : (t : List (List ℕ)) (cs : List Bytes) → end < next → columnsIn s t n ++ left s next end ≡ cs → columnsIn s t n ≡ cs
-  columns-done t cs h e = sym (append-nil (columnsIn s t n)) ∙ ap (λ (r : List Bytes). columnsIn s t n ++ r) (sym (left-none s next end h)) ∙ e
+  pub columns-done : (t : List (List ℕ)) (cs : List Bytes) → end < next → namesIn s t n ++ left s next end ≡ cs → namesIn s t n ≡ cs
+  columns-done t cs h e = sym (append-nil (namesIn s t n)) ∙ ap (λ (r : List Bytes). namesIn s t n ++ r) (sym (left-none s next end h)) ∙ e
 
   pub columns-few : (c : ℕ) → end < next → n + length (left s next end) ≡ c → n ≡ c
   columns-few c h e = let z = ap length (left-none s next end h) in omega arith
@@ -52,7 +52,7 @@ module _ (s : Bytes) (n next end : ℕ) where
 pub column-none : (s : Bytes) (a l : List ℕ) (n k : ℕ) → n ≤ k → [] ≡ getD (listing s a l n) k []
 column-none s a l n k h = sym (List·getD-eq-default (listing s a l n) [] (let z = listing-long s a l n in omega arith))
 
-pub column-at-is : (s : Bytes) (t : List (List ℕ)) (n k x y : ℕ) → k < n → x ≡ getD (getD t k []) 0 0 → y ≡ getD (getD t k []) 1 0 → (r : Bytes) → r ≡ piece x y s → r ≡ getD (columnsIn s t n) k []
+pub column-at-is : (s : Bytes) (t : List (List ℕ)) (n k x y : ℕ) → k < n → x ≡ getD (getD t k []) 0 0 → y ≡ getD (getD t k []) 1 0 → (r : Bytes) → r ≡ piece x y s → r ≡ getD (namesIn s t n) k []
 column-at-is s t n k x y h p q r e = e ∙ ap₂ (λ (i j : ℕ). piece i j s) (column-is 0 t k x p) (column-is 1 t k y q) ∙ sym (listing-at s (startsOf t) (sizesOf t) k n h)
 
 -- the columns stand behind the word of the projection's line

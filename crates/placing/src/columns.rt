@@ -9,12 +9,13 @@ ghost use mathlib.Core.Path.{_≡_};
 ghost use Prim.Native.Nat.{_≤_};
 ghost use mathlib.Core.List.{[]};
 ghost use lib.ListN.{length, getD};
-ghost use Rattle.placing.specs.bridge.Fields.{columnsIn, columnsOn};
+ghost use Rattle.names.specs.bridge.Names.{namesIn};
+ghost use Rattle.placing.specs.bridge.Fields.{columnsOn};
 
 // Notes where each column of the projection's line stands, and says how many there are.
 pub fn read_columns(tree: &[u8], line: usize, columns: &mut [Entry; 64]) -> usize
     requires { ⌜ (length (now tree) ≤ 16384) × (length (columnsOn (now tree) line) ≤ 64) × (length (now columns) ≡ 64) ⌝ }
-    ensures { λ r. ⌜ (r ≤ 64) × (columnsIn (now (tree .entry)) (now (columns .exit)) r ≡ columnsOn (now (tree .entry)) line) ⌝ }
+    ensures { λ r. ⌜ (r ≤ 64) × (namesIn (now (tree .entry)) (now (columns .exit)) r ≡ columnsOn (now (tree .entry)) line) ⌝ }
 {
     let mut n = 0;
     let end = line_end(tree, line);
@@ -34,7 +35,7 @@ pub fn read_columns(tree: &[u8], line: usize, columns: &mut [Entry; 64]) -> usiz
 // The column at a position, a part of the tree's text; nothing where there is none.
 pub fn column_at<'a>(tree: &'a [u8], columns: &[Entry; 64], n: usize, k: usize) -> &'a [u8]
     requires { ⌜ n ≤ 64 ⌝ }
-    ensures { λ r. ⌜ now r ≡ getD (columnsIn (now (tree .entry)) (now (columns .entry)) n) k [] ⌝ }
+    ensures { λ r. ⌜ now r ≡ getD (namesIn (now (tree .entry)) (now (columns .entry)) n) k [] ⌝ }
 {
     if n <= k {
         return &tree[..0];

@@ -15,7 +15,7 @@ ghost use Prim.Native.Nat.{ℕ, _*_, _≤_, _<_};
 ghost use mathlib.Core.Bool.{true, false};
 ghost use mathlib.Core.List.{[]};
 ghost use lib.ListN.{length, getD};
-ghost use Rattle.names.specs.bridge.Names.{listing, startsOf, sizesOf};
+ghost use Rattle.names.specs.bridge.Names.{startsOf, sizesOf, namesIn};
 ghost use Rattle.lines.specs.bridge.Spotted.{Noted};
 ghost use Rattle.lists.specs.bridge.Pairs.{pairAt};
 ghost use Rattle.walking.specs.bridge.Code.{Named};
@@ -35,7 +35,7 @@ fn set_target(
     news: &mut [Entry; 1024],
 )
     requires { ⌜ (length (now news) ≡ 1024) × Named (now tree) (startsOf (now table)) (sizesOf (now table)) (now hints) n × (pairAt (now mapping) key .second ≡ [] → ⊥) ⌝ }
-    ensures { λ _. ⌜ Settled (listing (now (tree .entry)) (startsOf (now (table .entry))) (sizesOf (now (table .entry))) n) n (now (mapping .entry)) (pairAt (now (mapping .entry)) key) (startsOf (now (news .entry))) (sizesOf (now (news .entry))) (startsOf (now (news .exit))) (sizesOf (now (news .exit))) ⌝ }
+    ensures { λ _. ⌜ Settled (namesIn (now (tree .entry)) (now (table .entry)) n) n (now (mapping .entry)) (pairAt (now (mapping .entry)) key) (startsOf (now (news .entry))) (sizesOf (now (news .entry))) (startsOf (now (news .exit))) (sizesOf (now (news .exit))) ⌝ }
 {
     let k = find_name(field_at(mapping, key[0], key[1]), tree, table, hints, n);
     if k < n {
@@ -55,7 +55,7 @@ fn find_targets(
     news: &mut [Entry; 1024],
 )
     requires { ⌜ KnownPairs (now mapping) (now keys) m × (length (now news) ≡ 1024) × ((i : ℕ) → getD (sizesOf (now news)) i 0 ≡ 0) × Named (now tree) (startsOf (now table)) (sizesOf (now table)) (now hints) n ⌝ }
-    ensures { λ _. ⌜ Targets (listing (now (tree .entry)) (startsOf (now (table .entry))) (sizesOf (now (table .entry))) n) n (now (mapping .entry)) (startsOf (now (news .exit))) (sizesOf (now (news .exit))) ⌝ }
+    ensures { λ _. ⌜ Targets (namesIn (now (tree .entry)) (now (table .entry)) n) n (now (mapping .entry)) (startsOf (now (news .exit))) (sizesOf (now (news .exit))) ⌝ }
 {
     let mut i = 0;
     while i < m {
@@ -75,7 +75,7 @@ fn is_room(
     news: &[Entry; 1024],
     room: usize,
 ) -> bool
-    requires { ⌜ Surveyed (now tree) (startsOf (now table)) (sizesOf (now table)) n (now spots) k × Targets (listing (now tree) (startsOf (now table)) (sizesOf (now table)) n) n (now mapping) (startsOf (now news)) (sizesOf (now news)) ⌝ }
+    requires { ⌜ Surveyed (now tree) (startsOf (now table)) (sizesOf (now table)) n (now spots) k × Targets (namesIn (now tree) (now table) n) n (now mapping) (startsOf (now news)) (sizesOf (now news)) ⌝ }
     ensures { λ r. ⌜ (r ≡ true → renamedSize (now (tree .entry)) (startsOf (now (table .entry))) (sizesOf (now (table .entry))) n (now (spots .entry)) k (now (mapping .entry)) (startsOf (now (news .entry))) (sizesOf (now (news .entry))) ≤ room) × (r ≡ false → room < renamedSize (now (tree .entry)) (startsOf (now (table .entry))) (sizesOf (now (table .entry))) n (now (spots .entry)) k (now (mapping .entry)) (startsOf (now (news .entry))) (sizesOf (now (news .entry)))) ⌝ }
 {
     if tree.len() <= room / 44 {
@@ -111,7 +111,7 @@ fn rename_over(
     news: &[Entry; 1024],
     out: &mut [u8],
 ) -> Answer
-    requires { ⌜ Surveyed (now tree) (startsOf (now table)) (sizesOf (now table)) n (now spots) k × Targets (listing (now tree) (startsOf (now table)) (sizesOf (now table)) n) n (now mapping) (startsOf (now news)) (sizesOf (now news)) ⌝ }
+    requires { ⌜ Surveyed (now tree) (startsOf (now table)) (sizesOf (now table)) n (now spots) k × Targets (namesIn (now tree) (now table) n) n (now mapping) (startsOf (now news)) (sizesOf (now news)) ⌝ }
     ensures { λ r. ⌜ Answered (renameOutcome (now (tree .entry)) (now (mapping .entry))) (now (out .entry)) (now (out .exit)) r ⌝ }
 {
     if !is_room(tree, table, n, spots, k, mapping, news, out.len()) {
@@ -120,27 +120,6 @@ fn rename_over(
     let end = tree.len();
     let size = put_renamed(tree, 0, end, spots, 0, k, table, n, mapping, news, out, 0);
     Answer::Written(size)
-}
-
-// The same for a tree and a mapping that were checked.
-fn rename_of(
-    tree: &[u8],
-    table: &[Entry; 1024],
-    hints: &[u16; 4096],
-    n: usize,
-    spots: &[Spot],
-    k: usize,
-    mapping: &[u8],
-    keys: &[Pair; 64],
-    m: usize,
-    out: &mut [u8],
-) -> Answer
-    requires { ⌜ Known (now tree) (startsOf (now table)) (sizesOf (now table)) (now hints) n × Noted (now tree) 0 (listing (now tree) (startsOf (now table)) (sizesOf (now table)) n) (now spots) k × KnownPairs (now mapping) (now keys) m ⌝ }
-    ensures { λ r. ⌜ Answered (renameOutcome (now (tree .entry)) (now (mapping .entry))) (now (out .entry)) (now (out .exit)) r ⌝ }
-{
-    let mut news = [[0u16; 2]; 1024];
-    find_targets(tree, table, hints, n, mapping, keys, m, &mut news);
-    rename_over(tree, table, n, spots, k, mapping, &news, out)
 }
 
 // The same for a tree that was checked and any mapping.
@@ -154,12 +133,16 @@ fn rename_by(
     mapping: &[u8],
     out: &mut [u8],
 ) -> Answer
-    requires { ⌜ Known (now tree) (startsOf (now table)) (sizesOf (now table)) (now hints) n × Noted (now tree) 0 (listing (now tree) (startsOf (now table)) (sizesOf (now table)) n) (now spots) k ⌝ }
+    requires { ⌜ Known (now tree) (startsOf (now table)) (sizesOf (now table)) (now hints) n × Noted (now tree) 0 (namesIn (now tree) (now table) n) (now spots) k ⌝ }
     ensures { λ r. ⌜ Answered (renameOutcome (now (tree .entry)) (now (mapping .entry))) (now (out .entry)) (now (out .exit)) r ⌝ }
 {
     let mut keys = [[0u16; 4]; 64];
     match check_mapping(mapping, &mut keys) {
-        Check::Good(m) => { rename_of(tree, table, hints, n, spots, k, mapping, &keys, m, out) }
+        Check::Good(m) => {
+            let mut news = [[0u16; 2]; 1024];
+            find_targets(tree, table, hints, n, mapping, &keys, m, &mut news);
+            rename_over(tree, table, n, spots, k, mapping, &news, out)
+        }
         Check::Malformed => Answer::Malformed,
         Check::OverBound => Answer::OverBound,
     }

@@ -15,7 +15,7 @@ ghost use mathlib.Core.List.{[], _∷_};
 ghost use mathlib.Core.Bool.{cond};
 ghost use lib.Dec.{eqb};
 ghost use lib.ListN.{length};
-ghost use Rattle.names.specs.bridge.Names.{listing, nameAt, startsOf, sizesOf};
+ghost use Rattle.names.specs.bridge.Names.{startsOf, sizesOf, namesIn, nameIn};
 ghost use Rattle.emit.specs.bridge.Emit.{em, puts};
 ghost use Rattle.answers.specs.Outcome.{Answered};
 ghost use Rattle.renaming.specs.Scope.{scopeOutcome};
@@ -33,7 +33,7 @@ fn put_names(
     at: usize,
 ) -> usize
     requires { ⌜ (n ≤ 1024) × (base ≤ 1024) ⌝ }
-    ensures { λ r. ⌜ em r (now (out .exit)) ≡ tabbed (chosen base (now (flags .entry)) (listing (now (tree .entry)) (startsOf (now (table .entry))) (sizesOf (now (table .entry))) n)) (em at (now (out .entry))) ⌝ }
+    ensures { λ r. ⌜ em r (now (out .exit)) ≡ tabbed (chosen base (now (flags .entry)) (namesIn (now (tree .entry)) (now (table .entry)) n)) (em at (now (out .entry))) ⌝ }
 {
     let mut to = at;
     let mut k = 0;
@@ -54,7 +54,7 @@ fn put_name(
     at: usize,
 ) -> usize
     requires { ⌜ k < 1024 ⌝ }
-    ensures { λ r. ⌜ em r (now (out .exit)) ≡ tabbed (cond (eqb flag 0) [] (nameAt (now (tree .entry)) (startsOf (now (table .entry))) (sizesOf (now (table .entry))) k ∷ [])) (em at (now (out .entry))) ⌝ }
+    ensures { λ r. ⌜ em r (now (out .exit)) ≡ tabbed (cond (eqb flag 0) [] (nameIn (now (tree .entry)) (now (table .entry)) k ∷ [])) (em at (now (out .entry))) ⌝ }
 {
     if flag == 0 {
         return at;
@@ -78,7 +78,7 @@ fn put_scope(
     at: usize,
 ) -> usize
     requires { ⌜ n ≤ 1024 ⌝ }
-    ensures { λ r. ⌜ em r (now (out .exit)) ≡ puts (chosenText (now (flags .entry)) (listing (now (tree .entry)) (startsOf (now (table .entry))) (sizesOf (now (table .entry))) n)) (em at (now (out .entry))) ⌝ }
+    ensures { λ r. ⌜ em r (now (out .exit)) ≡ puts (chosenText (now (flags .entry)) (namesIn (now (tree .entry)) (now (table .entry)) n)) (em at (now (out .entry))) ⌝ }
 {
     let a = put_all(out, at, &IN);
     let b = put_names(tree, table, n, flags, 0, out, a);

@@ -16,7 +16,7 @@ ghost use mathlib.Core.Bool.{true};
 ghost use lib.ListN.{length, getD, take};
 ghost use Rattle.algebra.specs.Tree.{Pattern};
 ghost use Rattle.algebra.specs.Query.{Pair};
-ghost use Rattle.names.specs.bridge.Names.{listing, startsOf, sizesOf};
+ghost use Rattle.names.specs.bridge.Names.{startsOf, sizesOf, namesIn};
 ghost use Rattle.scoping.specs.Numbering.{numbered};
 ghost use Rattle.scoping.specs.bridge.Pushes.{allPushes, newName};
 ghost use Rattle.walking.specs.bridge.Code.{Inside};
@@ -54,7 +54,7 @@ fn name_side(
     news: &mut [Entry; 1024],
 )
     requires { ⌜ (n ≤ 1024) × Inside 1024 (now spots) (length (now spots)) × (m ≤ 64) × ((i : ℕ) → i < m → getD (now joins) i 0 < n) × (16384 ≤ length (now pool)) × (length (now news) ≡ 1024) × ((k : ℕ) → getD (sizesOf (now news)) k 0 ≡ 0) ⌝ }
-    ensures { λ _. ⌜ ((at : ℕ) (p : Pattern) → TreeIn (now (text .entry)) at (startsOf (now (table .entry))) (sizesOf (now (table .entry))) n (now (spots .entry)) p → Renames (listing (now (text .entry)) (startsOf (now (table .entry))) (sizesOf (now (table .entry))) n) n (now (pool .exit)) (startsOf (now (news .exit))) (sizesOf (now (news .exit))) (newName (allPushes prefix (numbered p) (namesAt (now (text .entry)) (startsOf (now (table .entry))) (sizesOf (now (table .entry))) (now (joins .entry)) m 0)))) ⌝ }
+    ensures { λ _. ⌜ ((at : ℕ) (p : Pattern) → TreeIn (now (text .entry)) at (startsOf (now (table .entry))) (sizesOf (now (table .entry))) n (now (spots .entry)) p → Renames (namesIn (now (text .entry)) (now (table .entry)) n) n (now (pool .exit)) (startsOf (now (news .exit))) (sizesOf (now (news .exit))) (newName (allPushes prefix (numbered p) (namesAt (now (text .entry)) (startsOf (now (table .entry))) (sizesOf (now (table .entry))) (now (joins .entry)) m 0)))) ⌝ }
 {
     let mut flags = [0u8; 2048];
     note_places(spots, spots.len(), &mut flags);
@@ -95,7 +95,7 @@ fn name_columns(
     line: &mut [u8],
 ) -> usize
     requires { ⌜ Letter prefix × (16384 ≤ length (now pool)) × (length (now news) ≡ 1024) × ((i : ℕ) → getD (sizesOf (now news)) i 0 ≡ 0) × (length (now line) ≡ 8336) × (m ≤ 64) × (length (now at) ≡ 64) × ((x : Projection) × Placed (now text) from (startsOf (now table)) (sizesOf (now table)) n (now spots) inner columns x × (inside (x .columns) (take m (now at)) ≡ true)) ⌝ }
-    ensures { λ r. ⌜ (r ≤ 8336) × ((x : Projection) → Placed (now (text .entry)) from (startsOf (now (table .entry))) (sizesOf (now (table .entry))) n (now (spots .entry)) inner columns x → inside (x .columns) (take m (now (at .entry))) ≡ true → Renames (listing (now (text .entry)) (startsOf (now (table .entry))) (sizesOf (now (table .entry))) n) n (now (pool .exit)) (startsOf (now (news .exit))) (sizesOf (now (news .exit))) (sideName prefix (x .columns) (x .inner) (take m (now (at .entry)))) × (columnsIn (now (line .exit)) r ≡ map (sideName prefix (x .columns) (x .inner) (take m (now (at .entry)))) (x .columns))) ⌝ }
+    ensures { λ r. ⌜ (r ≤ 8336) × ((x : Projection) → Placed (now (text .entry)) from (startsOf (now (table .entry))) (sizesOf (now (table .entry))) n (now (spots .entry)) inner columns x → inside (x .columns) (take m (now (at .entry))) ≡ true → Renames (namesIn (now (text .entry)) (now (table .entry)) n) n (now (pool .exit)) (startsOf (now (news .exit))) (sizesOf (now (news .exit))) (sideName prefix (x .columns) (x .inner) (take m (now (at .entry)))) × (columnsIn (now (line .exit)) r ≡ map (sideName prefix (x .columns) (x .inner) (take m (now (at .entry)))) (x .columns))) ⌝ }
 {
     let mut joins = [0u16; 64];
     join_entries(spots, at, m, &mut joins);

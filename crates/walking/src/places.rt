@@ -9,7 +9,7 @@ ghost use Prim.Native.Nat.{_≤_, _<_};
 ghost use mathlib.Core.List.{List};
 ghost use lib.ListN.{length, getD, drop};
 ghost use Rattle.text.specs.Text.{Bytes, piece as pieceOf};
-ghost use Rattle.names.specs.bridge.Names.{listing, nameAt, startsOf, sizesOf};
+ghost use Rattle.names.specs.bridge.Names.{startsOf, sizesOf, namesIn, nameIn};
 ghost use Rattle.emit.specs.bridge.Emit.{em, puts};
 ghost use Rattle.scoping.specs.Sets.{Once};
 ghost use Rattle.lines.specs.bridge.Spotted.{markAt, spotsOf};
@@ -46,7 +46,7 @@ fn put_new(pool: &[u8], news: &[Entry; 1024], entry: usize, out: &mut [u8], at: 
 // How many bytes the name at an entry has.
 fn name_size(text: &[u8], table: &[Entry; 1024], entry: usize) -> usize
     requires { ⌜ entry < 1024 ⌝ }
-    ensures { λ r. ⌜ r ≡ length (nameAt (now (text .entry)) (startsOf (now (table .entry))) (sizesOf (now (table .entry))) entry) ⌝ }
+    ensures { λ r. ⌜ r ≡ length (nameIn (now (text .entry)) (now (table .entry)) entry) ⌝ }
 {
     let e = table[entry];
     piece(text, wide(e[0]), wide(e[1])).len()
@@ -67,8 +67,8 @@ pub fn put_renamed(
     out: &mut [u8],
     at: usize,
 ) -> usize
-    requires { ⌜ (n ≤ 1024) × Once (listing (now text) (startsOf (now table)) (sizesOf (now table)) n) × Inside n (now spots) k × (i ≤ k) × Stands (now text) from to (drop i (spotsOf (listing (now text) (startsOf (now table)) (sizesOf (now table)) n) (now spots) k)) ⌝ }
-    ensures { λ r. ⌜ em r (now (out .exit)) ≡ rewritten (renames (now (text .entry)) (startsOf (now (table .entry))) (sizesOf (now (table .entry))) n (now (pool .entry)) (startsOf (now (news .entry))) (sizesOf (now (news .entry)))) (now (text .entry)) (drop i (spotsOf (listing (now (text .entry)) (startsOf (now (table .entry))) (sizesOf (now (table .entry))) n) (now (spots .entry)) k)) from to (em at (now (out .entry))) ⌝ }
+    requires { ⌜ (n ≤ 1024) × Once (namesIn (now text) (now table) n) × Inside n (now spots) k × (i ≤ k) × Stands (now text) from to (drop i (spotsOf (namesIn (now text) (now table) n) (now spots) k)) ⌝ }
+    ensures { λ r. ⌜ em r (now (out .exit)) ≡ rewritten (renames (now (text .entry)) (startsOf (now (table .entry))) (sizesOf (now (table .entry))) n (now (pool .entry)) (startsOf (now (news .entry))) (sizesOf (now (news .entry)))) (now (text .entry)) (drop i (spotsOf (namesIn (now (text .entry)) (now (table .entry)) n) (now (spots .entry)) k)) from to (em at (now (out .entry))) ⌝ }
 {
     let mut done = from;
     let mut put = at;

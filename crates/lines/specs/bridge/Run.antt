@@ -1,7 +1,7 @@
 -- What the descent says of the line machine's run. Assumes nothing.
 use Prim.Native.Nat.{ℕ, zero, suc, _≤_, _<_}
 use mathlib.Core.Path.{_≡_}
-use mathlib.Core.List.{List}
+use mathlib.Core.List.{List, _++_}
 use mathlib.Core.Bool.{true}
 use lib.ListN.{length}
 use Rattle.text.specs.Text.{Bytes, linesFrom}
@@ -12,7 +12,7 @@ use Rattle.algebra.specs.declared.Answer.{Answer}
 use Rattle.algebra.specs.declared.Answer.the-variants as A
 use Rattle.algebra.specs.bridge.Table.{opens}
 use Rattle.words.specs.bridge.Code.{sortAt, sortsIn}
-use Rattle.names.specs.bridge.Names.{Holds}
+use Rattle.names.specs.bridge.Names.{Holds, startsOf, sizesOf}
 use Rattle.lines.specs.declared.place.Place.{Place}
 use Rattle.lines.specs.declared.place.Taken.{Taken}
 
@@ -33,6 +33,11 @@ pub record Went (s : Bytes) (starts sizes hints : List ℕ) (ρ : More) (ws : Li
   pub on : p .fault ≡ 0 → (m : Tally) × (x ≡ run bounds (linesFrom s (p .from)) ρ ws m) × Stood s starts sizes hints p m
   pub wrong : p .fault ≡ 1 → x ≡ bad malformed
   pub over : (p .fault ≡ 0 → ⊥) → (p .fault ≡ 1 → ⊥) → x ≡ bad overBound
+
+-- from p to r the code went as the machine runs over these wants, with as many asked for instead, whatever is wanted behind them
+abbrev pub Runs : Bytes → List (List ℕ) → List ℕ → Place → List Want → List Want → List (List ℕ) → List ℕ → Place → Type 0
+Runs s t h p us vs t′ h′ r =
+    (ρ : More) (ws : List Want) (m : Tally) → Stood s (startsOf t) (sizesOf t) h p m → Went s (startsOf t′) (sizesOf t′) h′ ρ (vs ++ ws) (run bounds (linesFrom s (p .from)) ρ (us ++ ws) m) r
 
 -- what a good line from p on asks for is of known sorts, and its numbers are those of a field
 pub record Sound (s : Bytes) (p : Place) (sort level : ℕ) (r : Taken) : Type 0 where

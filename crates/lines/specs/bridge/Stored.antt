@@ -13,7 +13,7 @@ use Rattle.scoping.specs.bridge.Walk.{State, state, beneath, whole}
 use Rattle.scoping.specs.bridge.Spots.{Spot, spot, spotsIn, Trace, trace, spotLine}
 use Rattle.cursor.specs.declared.Cursor.{Cursor}
 use Rattle.words.specs.bridge.Code.{sortAt, rowOf}
-use Rattle.names.specs.bridge.Names.{listing}
+use Rattle.names.specs.bridge.Names.{listing, startsOf, sizesOf}
 use Rattle.lines.specs.declared.line.Line.{Line as Read}
 use Rattle.lines.specs.declared.line.Line.the-variants.{Asks, Malformed, OverBound}
 use Rattle.lines.specs.bridge.Spotted.{markAt, Spotted}
@@ -29,6 +29,9 @@ pub record Store : Type 0 where
 
 abbrev pub store : List ℕ → List ℕ → ℕ → List (List ℕ) → ℕ → Store
 store starts sizes n spots k = record { starts = starts; sizes = sizes; names = n; spots = spots; many = k }
+
+abbrev pub storeOf : List (List ℕ) → ℕ → List (List ℕ) → ℕ → Store
+storeOf t n spots k = store (startsOf t) (sizesOf t) n spots k
 
 -- before a place of the text s there are the spots xs, and there is room for all that the text can have: each takes three bytes
 pub record Keeps (s : Bytes) (A : Store) (at : ℕ) (xs : List Spot) : Type 0 where

@@ -13,7 +13,7 @@ use Rattle.scoping.specs.bridge.Places.{Mark, visible, silent, under}
 use Rattle.scoping.specs.bridge.Walk.{State, state, beneath, whole, tree}
 use Rattle.scoping.specs.bridge.Spots.{Spot, Trace, trace, spotLine}
 use Rattle.words.specs.bridge.Code.{sortAt, rowOf}
-use Rattle.names.specs.bridge.Names.{listing}
+use Rattle.names.specs.bridge.Names.{listing, startsOf, sizesOf}
 use Rattle.lines.specs.declared.place.Place.{Place}
 use Rattle.lines.specs.declared.place.Taken.{Taken}
 use Rattle.lines.specs.declared.check.Noting.{Noting}
@@ -29,9 +29,16 @@ walkAt s p xs = state (linesFrom s (p .from)) (trace (p .from) xs)
 abbrev pub storeAt : List ℕ → List ℕ → List (List ℕ) → Place → Store
 storeAt a l spots p = store a l (p .n) spots (p .spots)
 
+abbrev pub storeIn : List (List ℕ) → List (List ℕ) → Place → Store
+storeIn t spots p = storeAt (startsOf t) (sizesOf t) spots p
+
 -- from p to r the walk f was done
 unfoldable pub Walks : Bytes → Store → Place → Store → Place → (State Trace → State Trace) → Type 0
 Walks s A p B r f = (xs : List Spot) → Keeps s A (p .from) xs → (ys : List Spot) × Keeps s B (r .from) ys × (walkAt s r ys ≡ f (walkAt s p xs))
+
+-- the same by the table and the spots before and after
+abbrev pub Notes : Bytes → List (List ℕ) → List (List ℕ) → Place → List (List ℕ) → List (List ℕ) → Place → (State Trace → State Trace) → Type 0
+Notes s t v p t′ v′ r f = Walks s (storeIn t v p) p (storeIn t′ v′ r) r f
 
 -- a line was walked, and what it asks for is still to be walked
 unfoldable pub LineWalks : Bytes → Store → Place → Store → ℕ → ℕ → Taken → Type 0

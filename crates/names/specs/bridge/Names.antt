@@ -35,6 +35,13 @@ unfoldable pub listing : Bytes → List ℕ → List ℕ → ℕ → List Bytes
 listing s starts sizes zero = []
 listing s starts sizes (suc n) = listing s starts sizes n ++ (nameAt s starts sizes n ∷ [])
 
+-- the same by the table's entries
+abbrev pub nameIn : Bytes → List (List ℕ) → ℕ → Bytes
+nameIn s t i = nameAt s (startsOf t) (sizesOf t) i
+
+abbrev pub namesIn : Bytes → List (List ℕ) → ℕ → List Bytes
+namesIn s t n = listing s (startsOf t) (sizesOf t) n
+
 -- the place after a place, around the end
 abbrev pub after : ℕ → ℕ
 after p = (p + 1) % 4096
@@ -75,6 +82,9 @@ pub record Holds (s : Bytes) (starts sizes hints : List ℕ) (n : ℕ) (want : L
   pub fits : n ≤ 1024 → listing s starts sizes n ≡ want
   pub hinted : n ≤ 1024 → Hinted hints want
   pub over : 1024 < n → 1024 < length want
+
+abbrev pub HoldsIn : Bytes → List (List ℕ) → List ℕ → ℕ → List Bytes → Type 0
+HoldsIn s t hints n want = Holds s (startsOf t) (sizesOf t) hints n want
 
 -- a table with n names has grown to one with m, which lists the name f at an entry, where it has room
 pub record Lists (s : Bytes) (a l : List ℕ) (n : ℕ) (a′ l′ : List ℕ) (m entry : ℕ) (f : Bytes) : Type 0 where

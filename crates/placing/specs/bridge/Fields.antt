@@ -4,7 +4,6 @@ use mathlib.Core.Path.{_≡_}
 use mathlib.Core.List.{List, [], _∷_}
 use lib.ListN.{getD, drop}
 use Rattle.text.specs.Text.{Bytes, part, linesFrom}
-use Rattle.names.specs.bridge.Names.{listing, startsOf, sizesOf}
 use Rattle.cursor.specs.bridge.Cursor.{left}
 use Rattle.placing.specs.declared.field.Field.{Field}
 
@@ -18,10 +17,6 @@ pub record FieldIs (s : Bytes) (at end : ℕ) (f : Field) : Type 0 where
   pub here : at ≤ end → left s at end ≡ part at (f .to) s ∷ left s (f .next) end
   pub is : part at (f .to) s ≡ getD (left s at end) 0 []
   pub rest : left s (f .next) end ≡ drop 1 (left s at end)
-
--- the columns that the first n entries tell
-abbrev pub columnsIn : Bytes → List (List ℕ) → ℕ → List Bytes
-columnsIn s columns n = listing s (startsOf columns) (sizesOf columns) n
 
 -- the fields behind the word of the line that starts here
 abbrev pub columnsOn : Bytes → ℕ → List Bytes

@@ -7,7 +7,7 @@ use lib.ListN.{length, getD, take, drop, length-set}
 use Rattle.cursor.specs.bridge.Cursor.{left as fieldsLeft}
 use Rattle.emit.specs.bridge.Emit.{em, puts}
 use Rattle.walking.specs.bridge.Walk.{tabbed}
-use Rattle.placing.specs.bridge.Fields.{columnsIn}
+use Rattle.names.specs.bridge.Names.{namesIn}
 use Rattle.filtering.specs.bridge.SetLines.{cellsFrom, valuesLine}
 use Rattle.binding.specs.bridge.Bound.{boundFrom}
 use Rattle.binding.proofs.Valued as Vd
@@ -16,7 +16,7 @@ use Rattle.binding.proofs.values.put_bound.Tie as tie
 
 abbrev Inv-loop : tie.InvT-loop
 Inv-loop tree columns n sets from end out₀ at to₀ next₀ out to next =
-    (length out ≡ length out₀) × (next ≤ end + 1) × (puts (tabbed (boundFrom (columnsIn tree columns n) (fieldsLeft sets next end))) (em to out) ≡ puts (tabbed (boundFrom (columnsIn tree columns n) (fieldsLeft sets from end))) (em at out₀))
+    (length out ≡ length out₀) × (next ≤ end + 1) × (puts (tabbed (boundFrom (namesIn tree columns n) (fieldsLeft sets next end))) (em to out) ≡ puts (tabbed (boundFrom (namesIn tree columns n) (fieldsLeft sets from end))) (em at out₀))
 
 abbrev μ-loop : tie.MeasureT-loop
 μ-loop tree columns n sets from end out₀ at to₀ next₀ out to next =
@@ -37,7 +37,7 @@ put-bound-spec =
     (λ c κs. search needs)
     (λ c κs. search needs)
     (λ c κs. search needs)
-    (λ c. let h = c .before .before .before .before .before .before .before .before .before .before .before .field-at .ensures .high in let w = c .before .before .before .before .before .before .before .before .before .before .before .field-at .ensures .low in let v = c .before .before .before .before .before .before .before .before .before .before .before .field-at .ensures .last in let u = c .before .before .before .before .before .before .before .before .before .before .before .field-at .ensures .more (c .before .before .before .before .before .before .before .before .before .before .before .before .loop-test .taken) in let z = c .before .before .before .before .before .before .before .before .before .before .before .field-at .ensures .after in omega arith)
-    (λ c. (search needs, c .before .before .before .before .before .before .before .before .before .before .before .field-at .ensures .last, Vd.bound-next (columnsIn (c .before .before .before .before .before .before .before .before .before .before .before .before .before .before .before .before .before .args .tree .now) (c .before .before .before .before .before .before .before .before .before .before .before .before .before .before .before .before .before .args .columns .now) (c .before .before .before .before .before .before .before .before .before .before .before .before .before .before .before .before .before .args .n)) _ _ _ (c .before .before .before .before .before .before .before .before .before .before .before .before .loop-test .taken) _ (c .before .before .before .before .before .before .before .before .before .before .before .field-at .ensures) _ (c .before .before .before .before .position-of .ensures .0) _ (c .before .before .before .column-at .ensures) _ _ _ (c .before .before .before .before .before .before .before .before .before .put .ensures) (c .before .before .put-all .ensures) ∙ c .before .before .before .before .before .before .before .before .before .before .before .before .before .loop .inv .2))
+    (λ c. let c11 = c .before .before .before .before .before .before .before .before .before .before .before in let c12 = c11 .before in let h = c11 .field-at .ensures .high in let w = c11 .field-at .ensures .low in let v = c11 .field-at .ensures .last in let u = c11 .field-at .ensures .more (c12 .loop-test .taken) in let z = c11 .field-at .ensures .after in omega arith)
+    (λ c. let c2 = c .before .before in let c3 = c2 .before in let c4 = c3 .before in let c9 = c4 .before .before .before .before .before in let c11 = c9 .before .before in let c12 = c11 .before in let c13 = c12 .before in let c17 = c13 .before .before .before .before in (search needs, c11 .field-at .ensures .last, Vd.bound-next (namesIn (c17 .args .tree .now) (c17 .args .columns .now) (c17 .args .n)) _ _ _ (c12 .loop-test .taken) _ (c11 .field-at .ensures) _ (c4 .position-of .ensures .0) _ (c3 .column-at .ensures) _ _ _ (c9 .put .ensures) (c2 .put-all .ensures) ∙ c13 .loop .inv .2))
     (λ c. c .before .loop .inv .0)
-    (λ c. sym (Vd.bound-done (columnsIn (c .before .before .before .before .before .args .tree .now) (c .before .before .before .before .before .args .columns .now) (c .before .before .before .before .before .args .n)) _ _ _ (c .loop-test .left) _) ∙ c .before .loop .inv .2))
+    (λ c. sym (Vd.bound-done (namesIn (c .before .before .before .before .before .args .tree .now) (c .before .before .before .before .before .args .columns .now) (c .before .before .before .before .before .args .n)) _ _ _ (c .loop-test .left) _) ∙ c .before .loop .inv .2))

@@ -8,7 +8,7 @@ use Rattle.text.specs.Text.{linesFrom}
 use Rattle.text.proofs.Texts.{Ended}
 use Rattle.emit.specs.bridge.Emit.{em, puts}
 use Rattle.walking.specs.bridge.Walk.{tabbed}
-use Rattle.placing.specs.bridge.Fields.{columnsIn}
+use Rattle.names.specs.bridge.Names.{namesIn}
 use Rattle.filtering.specs.bridge.SetLines.{cellsFrom, valuesLine}
 use Rattle.binding.specs.bridge.Bound.{boundFrom}
 use Rattle.binding.proofs.Valued as Vd
@@ -17,7 +17,7 @@ use Rattle.binding.proofs.values.put_values.Tie as tie
 
 abbrev Inv-loop : tie.InvT-loop
 Inv-loop tree columns n sets out₀ at to₀ from₀ out to from =
-    (length out ≡ length out₀) × Ended (linesFrom sets from) × (puts (Vd.ValuesText (columnsIn tree columns n) (linesFrom sets from)) (em to out) ≡ puts (Vd.ValuesText (columnsIn tree columns n) (linesFrom sets 0)) (em at out₀))
+    (length out ≡ length out₀) × Ended (linesFrom sets from) × (puts (Vd.ValuesText (namesIn tree columns n) (linesFrom sets from)) (em to out) ≡ puts (Vd.ValuesText (namesIn tree columns n) (linesFrom sets 0)) (em at out₀))
 
 abbrev μ-loop : tie.MeasureT-loop
 μ-loop tree columns n sets out₀ at to₀ from₀ out to from =
@@ -37,6 +37,6 @@ put-values-spec =
     (λ c κs. search needs)
     (λ c. let h = c .before .before .before .before .before .before .before .before .before .line-end .ensures .high in let n = c .before .before .before .before .before .before .before .before .if1 .left in omega arith)
     (λ c. let h = c .before .before .before .before .before .before .before .before .before .line-end .ensures .high in let t = c .before .before .before .before .before .before .before .before .before .before .loop-test .taken in let l = c .before .before .before .before .before .before .before .before .before .line-end .ensures .ends (omega arith) .low in omega arith)
-    (λ c. (search needs, Vd.values-ended (columnsIn (c .before .before .before .before .before .before .before .before .before .before .before .before .before .before .before .args .tree .now) (c .before .before .before .before .before .before .before .before .before .before .before .before .before .before .before .args .columns .now) (c .before .before .before .before .before .before .before .before .before .before .before .before .before .before .before .args .n)) _ _ (em 0 (c .before .before .before .before .before .before .before .before .before .before .before .loop .out)) _ (c .before .before .before .before .before .before .before .before .before .line-end .ensures) (c .before .before .before .before .before .before .before .before .if1 .left) (c .before .before .before .before .before .before .before .before .before .before .before .loop .inv .1), Vd.values-next _ _ _ _ _ (c .before .before .before .before .before .before .before .before .before .line-end .ensures) (c .before .before .before .before .before .before .before .before .if1 .left) _ _ (c .before .before .before .before .before .before .put-fields .ensures) (c .before .before .put .ensures) ∙ c .before .before .before .before .before .before .before .before .before .before .before .loop .inv .2))
+    (λ c. let c2 = c .before .before in let c6 = c2 .before .before .before .before in let c8 = c6 .before .before in let c9 = c8 .before in let c11 = c9 .before .before in let c15 = c11 .before .before .before .before in (search needs, Vd.values-ended (namesIn (c15 .args .tree .now) (c15 .args .columns .now) (c15 .args .n)) _ _ (em 0 (c11 .loop .out)) _ (c9 .line-end .ensures) (c8 .if1 .left) (c11 .loop .inv .1), Vd.values-next _ _ _ _ _ (c9 .line-end .ensures) (c8 .if1 .left) _ _ (c6 .put-fields .ensures) (c2 .put .ensures) ∙ c11 .loop .inv .2))
     (λ c. c .before .loop .inv .0)
     (λ c. sym (Vd.values-done _ _ _ _ (c .loop-test .left)) ∙ c .before .loop .inv .2))

@@ -6,7 +6,7 @@ use Prim.Native.Nat.{_+_, _-_}
 use lib.ListN.{length}
 use Rattle.text.specs.Text.{linesFrom, split, part}
 use Rattle.emit.specs.bridge.Emit.{em}
-use Rattle.placing.specs.bridge.Fields.{columnsIn}
+use Rattle.names.specs.bridge.Names.{namesIn}
 use Rattle.filtering.specs.bridge.FilterLines.{partsBelow, severalParts, treeToExpression}
 use Rattle.expressing.proofs.Expressed as X
 use Prim.Native.Nat.{ℕ, _<_}
@@ -44,7 +44,7 @@ tree-to-expression-below t =
 
 abbrev tree-to-expression-Inv-loop : tree-to-expression-lts.InvT-loop
 tree-to-expression-Inv-loop tree columns n filters from left out₀ at end first expressed₀ to₀ next₀ parts₀ out expressed to next parts =
-    (length out ≡ length out₀) × X.Going (treeToExpression (columnsIn tree columns n) (left - 1)) parts (linesFrom filters next) expressed (em to out) (severalParts (treeToExpression (columnsIn tree columns n) (left - 1)) (partsBelow (split 9 (part from end filters))) (linesFrom filters (end + 1))) expressed₀ (em to₀ out₀)
+    (length out ≡ length out₀) × X.Going (treeToExpression (namesIn tree columns n) (left - 1)) parts (linesFrom filters next) expressed (em to out) (severalParts (treeToExpression (namesIn tree columns n) (left - 1)) (partsBelow (split 9 (part from end filters))) (linesFrom filters (end + 1))) expressed₀ (em to₀ out₀)
 
 abbrev tree-to-expression-μ-loop : tree-to-expression-lts.MeasureT-loop
 tree-to-expression-μ-loop tree columns n filters from left out₀ at end first expressed₀ to₀ next₀ parts₀ out expressed to next parts =
@@ -69,15 +69,15 @@ pub +tree-to-expression-spec : {M : Type 1} → statement M
     tree-to-expression.Post
     tree-to-expression-Inv-loop
     tree-to-expression-μ-loop
-    (λ c. let a = c .before .before .before .before .args in let cs = columnsIn (a .tree .now) (a .columns .now) (a .n) in X.none-left cs _ _ _ _ _ refl (c .if1 .taken) refl)
+    (λ c. let a = c .before .before .before .before .args in let cs = namesIn (a .tree .now) (a .columns .now) (a .n) in X.none-left cs _ _ _ _ _ refl (c .if1 .taken) refl)
     (λ c κs. search needs)
-    (λ c. let a = c .before .before .before .before .before .before .args in let cs = columnsIn (a .tree .now) (a .columns .now) (a .n) in X.no-line cs _ _ _ _ _ refl (c .before .before .if1 .left) _ (c .before .line-end .ensures) (c .if2 .taken) refl)
-    (λ c κs. let a = c .before .before .before .before .before .before .args in let cs = columnsIn (a .tree .now) (a .columns .now) (a .n) in (X.line-low cs _ _ (a .left) _ (c .before .before .if1 .left) (c .before .line-end .ensures) (c .if2 .left), c .before .line-end .ensures .high))
+    (λ c. let a = c .before .before .before .before .before .before .args in let cs = namesIn (a .tree .now) (a .columns .now) (a .n) in X.no-line cs _ _ _ _ _ refl (c .before .before .if1 .left) _ (c .before .line-end .ensures) (c .if2 .taken) refl)
+    (λ c κs. let a = c .before .before .before .before .before .before .args in let cs = namesIn (a .tree .now) (a .columns .now) (a .n) in (X.line-low cs _ _ (a .left) _ (c .before .before .if1 .left) (c .before .line-end .ensures) (c .if2 .left), c .before .line-end .ensures .high))
     (λ c. let h = c .before .before .before .line-end .ensures .high in let w = c .before .word-at .ensures .0 .high in omega arith)
     (λ c κs. let h = c .before .before .before .before .line-end .ensures .high in let n = c .before .before .before .if2 .left in let w = c .before .before .word-at .ensures .0 .high in (c .before .before .before .before .before .before .before .before .before .pre .1, omega arith, omega arith))
     (λ c. let h = c .before .before .before .before .before .before .before .line-end .ensures .high in let n = c .before .before .before .before .before .before .if2 .left in omega arith)
     (λ c κs. let h = c .before .before .before .before .before .before .before .line-end .ensures .high in let n = c .before .before .before .before .before .before .if2 .left in omega arith)
-    (λ c. let a = c .before .before .before .before .before .before .before .before .before .before .before .before .before .args in let cs = columnsIn (a .tree .now) (a .columns .now) (a .n) in let w = c .before .before .before .before .before .before .word-at .ensures in (refl, rw (X.parts-here cs _ _ (a .left) _ (c .before .before .before .before .before .before .before .before .before .if1 .left) (c .before .before .before .before .before .before .before .before .line-end .ensures) (c .before .before .before .before .before .before .before .if2 .left) _ (w .0) _ (c .parts-below .ensures _ (w .1))) (X.going-start _ _ _ _ _)))
+    (λ c. let a = c .before .before .before .before .before .before .before .before .before .before .before .before .before .args in let cs = namesIn (a .tree .now) (a .columns .now) (a .n) in let w = c .before .before .before .before .before .before .word-at .ensures in (refl, rw (X.parts-here cs _ _ (a .left) _ (c .before .before .before .before .before .before .before .before .before .if1 .left) (c .before .before .before .before .before .before .before .before .line-end .ensures) (c .before .before .before .before .before .before .before .if2 .left) _ (w .0) _ (c .parts-below .ensures _ (w .1))) (X.going-start _ _ _ _ _)))
     (λ c. let n = c .before .before .before .before .before .before .before .before .before .before .before .if1 .left in omega arith)
     (λ c κs. let n = c .before .before .before .before .before .before .before .before .before .before .before .before .if1 .left in let m = c .before .before .before .before .before .before .before .before .before .before .before .before .before .before .before .before .pre .0 in (omega arith, c .before .before .before .before .before .before .before .before .before .before .before .before .before .before .before .before .pre .1))
     (λ c κs. search needs)
@@ -85,4 +85,4 @@ pub +tree-to-expression-spec : {M : Type 1} → statement M
     (λ c. search needs)
     (λ c. let l = c .before .before .before .before .before .before .loop .inv .1 in (search needs, X.going-next _ _ _ _ _ _ _ _ _ l (c .before .before .before .before .before .loop-test .taken) _ _ (c .before .before .before .tree-to-expression .ensures) _ (c .both .ensures)))
     (λ c. search needs)
-    (λ c. let a = c .before .before .before .before .before .before .before .before .before .before .before .before .before .before .before .args in let cs = columnsIn (a .tree .now) (a .columns .now) (a .n) in let w = c .before .before .before .before .before .before .before .before .word-at .ensures in let l = c .before .loop .inv .1 in let n = c .loop-test .left in X.walked cs _ _ (a .left) _ (c .before .before .before .before .before .before .before .before .before .before .before .if1 .left) (c .before .before .before .before .before .before .before .before .before .before .line-end .ensures) (c .before .before .before .before .before .before .before .before .before .if2 .left) _ _ _ _ (X.headed cs _ _ (a .left) _ (c .before .before .before .before .before .before .before .before .before .before .before .if1 .left) (c .before .before .before .before .before .before .before .before .before .before .line-end .ensures) (c .before .before .before .before .before .before .before .before .before .if2 .left) _ (w .0) _ _ _ (c .before .before .before .before .before .put-head .ensures _ (w .1))) _ (X.all-expressed _ _ _ _ _ _ _ _ _ l n) (X.all-left _ _ _ _ _ _ _ _ _ l n) (X.all-lines _ _ _ _ _ _ _ _ _ l n))
+    (λ c. let c5 = c .before .before .before .before .before in let c8 = c5 .before .before .before in let c9 = c8 .before in let c10 = c9 .before in let c11 = c10 .before in let c15 = c11 .before .before .before .before in let a = c15 .args in let cs = namesIn (a .tree .now) (a .columns .now) (a .n) in let w = c8 .word-at .ensures in let l = c .before .loop .inv .1 in let n = c .loop-test .left in X.walked cs _ _ (a .left) _ (c11 .if1 .left) (c10 .line-end .ensures) (c9 .if2 .left) _ _ _ _ (X.headed cs _ _ (a .left) _ (c11 .if1 .left) (c10 .line-end .ensures) (c9 .if2 .left) _ (w .0) _ _ _ (c5 .put-head .ensures _ (w .1))) _ (X.all-expressed _ _ _ _ _ _ _ _ _ l n) (X.all-left _ _ _ _ _ _ _ _ _ l n) (X.all-lines _ _ _ _ _ _ _ _ _ l n))

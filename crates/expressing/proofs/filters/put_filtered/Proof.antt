@@ -27,4 +27,4 @@ put-filtered-spec =
     (λ c. let a = c .before .before .before .before .before .before .before .before .before .before .before .before .before .before .before .before .before .before .before .before .before .before .before .before .before .before .before .before .pre .0 in let b = c .before .before .before .before .before .before .before .before .before .before .before .before .before .before .before .before .before .before .before .before .before .before .before .before .before .before .before .before .pre .1 in omega arith)
     (λ c κs. search needs)
     (λ c. search needs)
-    (λ c. Wh.filtered-put _ _ _ _ _ _ _ _ _ _ _ _ (c .before .before .before .before .before .before .before .before .before .before .before .before .before .before .before .before .before .before .before .before .before .before .before .before .before .before .put-all .ensures) (c .before .before .before .before .before .before .before .before .before .before .before .before .before .before .before .before .before .before .before .before .before .put-all2 .ensures) (c .before .before .before .before .before .before .before .before .before .before .before .before .before .before .before .before .put-all3 .ensures) (c .before .before .before .before .before .before .before .before .before .before .before .put-repeated .ensures) (c .before .before .before .before .before .before .before .put-expressions .ensures) (c .before .before .put-all4 .ensures)))
+    (λ c. let c2 = c .before .before in let c7 = c2 .before .before .before .before .before in let c11 = c7 .before .before .before .before in let c16 = c11 .before .before .before .before .before in let c21 = c16 .before .before .before .before .before in let c26 = c21 .before .before .before .before .before in Wh.filtered-put _ _ _ _ _ _ _ _ _ _ _ _ (c26 .put-all .ensures) (c21 .put-all2 .ensures) (c16 .put-all3 .ensures) (c11 .put-repeated .ensures) (c7 .put-expressions .ensures) (c2 .put-all4 .ensures)))

@@ -1,7 +1,7 @@
 -- `expressing::head/put_ref` meets its contract. Assumes nothing.
 use borrow.Author.Needs.{needs}
 use native.Mathlib.Omega.{arith}
-use Rattle.placing.specs.bridge.Fields.{columnsIn}
+use Rattle.names.specs.bridge.Names.{namesIn}
 use Rattle.expressing.proofs.Headed as H
 use Rattle.expressing.proofs.head.put_ref.Statement.{statement}
 use Rattle.expressing.proofs.head.put_ref.Tie as tie
@@ -21,4 +21,4 @@ put-ref-spec =
     (λ c κs. search needs)
     (λ c κs. search needs)
     (λ c. search needs)
-    (λ c. H.ref-put _ _ _ _ (c .before .before .before .before .before .before .before .before .before .before .before .before .before .before .before .before .field-at .ensures) (columnsIn (c .before .before .before .before .before .before .before .before .before .before .before .before .before .before .before .before .before .before .before .before .args .tree .now) (c .before .before .before .before .before .before .before .before .before .before .before .before .before .before .before .before .before .before .before .before .args .columns .now) (c .before .before .before .before .before .before .before .before .before .before .before .before .before .before .before .before .before .before .before .before .args .n)) _ (c .before .before .before .before .before .before .before .before .position-of .ensures .0) _ (c .before .before .before .before .before .before .before .column-at .ensures) _ _ _ _ (c .before .before .before .before .before .before .before .before .before .before .before .before .before .put-all .ensures) (c .before .before .before .before .before .before .put-all2 .ensures) (c .before .before .put .ensures)))
+    (λ c. let c2 = c .before .before in let c6 = c2 .before .before .before .before in let c7 = c6 .before in let c8 = c7 .before in let c13 = c8 .before .before .before .before .before in let c16 = c13 .before .before .before in let c20 = c16 .before .before .before .before in H.ref-put _ _ _ _ (c16 .field-at .ensures) (namesIn (c20 .args .tree .now) (c20 .args .columns .now) (c20 .args .n)) _ (c8 .position-of .ensures .0) _ (c7 .column-at .ensures) _ _ _ _ (c13 .put-all .ensures) (c6 .put-all2 .ensures) (c2 .put .ensures)))

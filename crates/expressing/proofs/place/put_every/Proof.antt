@@ -8,7 +8,7 @@ use native.Mathlib.Omega.{arith}
 use lib.ListN.{length}
 use Rattle.text.specs.Text.{textOf, linesFrom}
 use Rattle.emit.specs.bridge.Emit.{em, puts}
-use Rattle.placing.specs.bridge.Fields.{columnsIn}
+use Rattle.names.specs.bridge.Names.{namesIn}
 use Rattle.filtering.specs.bridge.FilterLines.{placedFilters}
 use Rattle.expressing.specs.bridge.Walks.{allPlaced}
 use Rattle.expressing.proofs.Counted as C
@@ -17,8 +17,8 @@ use Rattle.expressing.proofs.place.put_every.Tie as tie
 
 abbrev Inv-loop : tie.InvT-loop
 Inv-loop tree columns n filters out₀ at to₀ from₀ left₀ out to from left =
-    (length out ≡ length out₀) × (allPlaced (columnsIn tree columns n) left (linesFrom filters from) ≡ true)
-    × (puts (textOf (placedFilters (columnsIn tree columns n) left (linesFrom filters from) .lines)) (em to out) ≡ puts (textOf (placedFilters (columnsIn tree columns n) (length filters) (linesFrom filters 0) .lines)) (em at out₀))
+    (length out ≡ length out₀) × (allPlaced (namesIn tree columns n) left (linesFrom filters from) ≡ true)
+    × (puts (textOf (placedFilters (namesIn tree columns n) left (linesFrom filters from) .lines)) (em to out) ≡ puts (textOf (placedFilters (namesIn tree columns n) (length filters) (linesFrom filters 0) .lines)) (em at out₀))
 
 abbrev μ-loop : tie.MeasureT-loop
 μ-loop tree columns n filters out₀ at to₀ from₀ left₀ out to from left = left
@@ -31,10 +31,10 @@ put-every-spec =
     μ-loop
     (λ c. (refl, c .before .before .before .pre .1, refl))
     (λ c. c .before .before .loop .inv .0)
-    (λ c. C.every-put-end (columnsIn (c .before .before .before .before .before .before .args .tree .now) (c .before .before .before .before .before .before .args .columns .now) (c .before .before .before .before .before .before .args .n)) _ _ _ _ _ (c .before .before .loop .inv .2) (c .if1 .taken))
+    (λ c. C.every-put-end (namesIn (c .before .before .before .before .before .before .args .tree .now) (c .before .before .before .before .before .before .args .columns .now) (c .before .before .before .before .before .before .args .n)) _ _ _ _ _ (c .before .before .loop .inv .2) (c .if1 .taken))
     (λ c κs. search needs)
     (λ c. search needs)
     (λ c. search needs)
-    (λ c. let i = c .before .before .before .before .before .before .loop .inv in let n = C.every-put-next (columnsIn (c .before .before .before .before .before .before .before .before .before .before .args .tree .now) (c .before .before .before .before .before .before .before .before .before .before .args .columns .now) (c .before .before .before .before .before .before .before .before .before .before .args .n)) _ _ _ _ _ (i .2) (c .before .before .before .before .before .loop-test .taken) (i .1) _ _ (c .before .before .tree-to-expression .ensures) in (search needs, n .0, n .1))
+    (λ c. let i = c .before .before .before .before .before .before .loop .inv in let n = C.every-put-next (namesIn (c .before .before .before .before .before .before .before .before .before .before .args .tree .now) (c .before .before .before .before .before .before .before .before .before .before .args .columns .now) (c .before .before .before .before .before .before .before .before .before .before .args .n)) _ _ _ _ _ (i .2) (c .before .before .before .before .before .loop-test .taken) (i .1) _ _ (c .before .before .tree-to-expression .ensures) in (search needs, n .0, n .1))
     (λ c. c .before .loop .inv .0)
-    (λ c. C.every-put-done (columnsIn (c .before .before .before .before .before .args .tree .now) (c .before .before .before .before .before .args .columns .now) (c .before .before .before .before .before .args .n)) _ _ _ _ _ (c .before .loop .inv .2) (c .loop-test .left)))
+    (λ c. C.every-put-done (namesIn (c .before .before .before .before .before .args .tree .now) (c .before .before .before .before .before .args .columns .now) (c .before .before .before .before .before .args .n)) _ _ _ _ _ (c .before .loop .inv .2) (c .loop-test .left)))

@@ -20,6 +20,6 @@ merge-listed-spec =
     (λ c. search needs)
     (λ c. search needs)
     (λ c. search needs)
-    (λ c. let g = (Calls.lists-good _ _ _ _ _ (c .before .before .before .before .before .before .check-lists .ensures) (c .before .before .before .before .enum-told .given .1)) in A.answered (mergedBehind (take 0 (c .before .before .before .before .before .before .before .before .before .before .before .before .before .args .left .now)) (c .before .before .before .before .before .before .before .before .before .before .before .before .before .pre .0 .pattern) (c .before .before .before .before .before .before .before .before .before .before .before .before .before .pre .1 .pattern) (g .js) (g .left .list) (g .right .list)) (mergePatternsOutcome (c .before .before .before .before .before .before .before .before .before .before .before .before .before .args .left .now) (c .before .before .before .before .before .before .before .before .before .before .before .before .before .args .right .now) (c .before .before .before .before .before .before .before .before .before .before .before .before .before .args .pairs .now) (c .before .before .before .before .before .before .before .before .before .before .before .before .before .args .left-constants .now) (c .before .before .before .before .before .before .before .before .before .before .before .before .before .args .right-constants .now)) (c .before .before .before .before .before .before .before .before .before .before .before .before .before .args .out .now) (c .before .before .merge-trees .last .1 .1 .1 .1 .1 .1 .1 .1 .1 .1 .1 .1 .1 .0) (c .before .before .merge-trees .result) (Calls.patterns-ask _ _ _ _ _ g _ _ (c .before .before .before .before .before .before .before .before .before .before .before .before .before .pre .0 .read) (c .before .before .before .before .before .before .before .before .before .before .before .before .before .pre .1 .read)) (c .before .before .merge-trees .ensures _ _ _ _ _ (K.tree-stands _ _ _ _ _ (c .before .before .before .before .before .before .before .before .before .before .before .before .before .pre .0)) (K.tree-stands _ _ _ _ _ (c .before .before .before .before .before .before .before .before .before .before .before .before .before .pre .1)) (W.lists-are _ _ _ g)))
+    (λ c. let c2 = c .before .before in let c4 = c2 .before .before in let c6 = c4 .before .before in let c13 = c6 .before .before .before .before .before .before .before in let g = (Calls.lists-good _ _ _ _ _ (c6 .check-lists .ensures) (c4 .enum-told .given .1)) in A.answered (mergedBehind (take 0 (c13 .args .left .now)) (c13 .pre .0 .pattern) (c13 .pre .1 .pattern) (g .js) (g .left .list) (g .right .list)) (mergePatternsOutcome (c13 .args .left .now) (c13 .args .right .now) (c13 .args .pairs .now) (c13 .args .left-constants .now) (c13 .args .right-constants .now)) (c13 .args .out .now) (c2 .merge-trees .last .1 .1 .1 .1 .1 .1 .1 .1 .1 .1 .1 .1 .1 .0) (c2 .merge-trees .result) (Calls.patterns-ask _ _ _ _ _ g _ _ (c13 .pre .0 .read) (c13 .pre .1 .read)) (c2 .merge-trees .ensures _ _ _ _ _ (K.tree-stands _ _ _ _ _ (c13 .pre .0)) (K.tree-stands _ _ _ _ _ (c13 .pre .1)) (W.lists-are _ _ _ g)))
     (λ c. Calls.lists-malformed _ _ _ _ _ _ _ (c .before .before .before .before .before .before .before .before .before .pre .0 .read) _ (c .before .before .before .before .before .before .before .before .before .pre .1 .read) _ (c .before .before .check-lists .ensures) (c .enum-told2 .given .1))
     (λ c. Calls.lists-over _ _ _ _ _ _ _ (c .before .before .before .before .before .before .before .before .before .pre .0 .read) _ (c .before .before .before .before .before .before .before .before .before .pre .1 .read) _ (c .before .before .check-lists .ensures) (c .enum-told3 .given .1)))

@@ -186,7 +186,18 @@ pub +check-below+check-child+check-entry+check-expression+check-lines+check-patt
     (λ c κs. let c12 = c .before .before .before .before .before .before .before .before .before .before .before in c12 .pre .1 .0)
     (λ c κs. let c7 = c .before .before .before .before .before .before in let c11 = c7 .before .before .before .before in let c17 = c11 .before .before .before .before .before in let k = c11 .take-line .ensures .1 .0 (c7 .if1 .left) in (let p = c17 .pre .0 in let i = k .inside in let b = k .behind in omega (arith, p, i, b), (k .sorts, k .small .0, k .small .1, k .ready)))
     (λ c. search needs)
-    (λ c. let c6 = c .before .before .before .before .before in let c9 = c6 .before .before .before in let c13 = c9 .before .before .before .before in let c19 = c13 .before .before .before .before .before in (λ ρ ws m st. D.below-went _ ρ ws _ (c13 .take-line .result .row .below) (below (c19 .args .sort) (c19 .args .level)) (c13 .take-line .result .first) (c13 .take-line .result .second) _ _ _ _ _ _ _ _ _ (c6 .below-level .ensures) (c13 .take-line .ensures .0 ρ ws m st) (c9 .if1 .left) (c .before .check-below .ensures .0), (λ z. let b = c13 .take-line .ensures .1 .0 (c9 .if1 .left) .behind in let w = c .before .check-below .ensures .1 .0 z in let v = w .0 in (omega (arith, b, v), w .1), (λ z low. W.entry-below _ _ _ _ (c19 .args .level) (c19 .args .sort) (c19 .args .mark) (c13 .take-line .result) (c13 .take-line .ensures .1 .1 (c9 .if1 .left) low) _ (c6 .below-level .ensures) _ _ (c .before .check-below .ensures .1 .1 z (c13 .take-line .ensures .1 .0 (c9 .if1 .left) .trees low)), λ z. c13 .take-line .ensures .1 .0 (c9 .if1 .left) .deep)))))
+    (λ c. let c6 = c .before .before .before .before .before in
+    let c9 = c6 .before .before .before in
+    let c13 = c9 .before .before .before .before in
+    let c19 = c13 .before .before .before .before .before in (
+      λ ρ ws m st. D.below-went _ ρ ws _ (c13 .take-line .result .row .below) (below (c19 .args .sort) (c19 .args .level)) (c13 .take-line .result .first) (c13 .take-line .result .second) _ _ _ _ _ _ _ _ _ (c6 .below-level .ensures) (c13 .take-line .ensures .0 ρ ws m st) (c9 .if1 .left) (c .before .check-below .ensures .0),
+      (
+        λ z. let b = c13 .take-line .ensures .1 .0 (c9 .if1 .left) .behind in
+            let w = c .before .check-below .ensures .1 .0 z in
+            let v = w .0 in (omega (arith, b, v), w .1),
+        (λ z low. W.entry-below _ _ _ _ (c19 .args .level) (c19 .args .sort) (c19 .args .mark) (c13 .take-line .result) (c13 .take-line .ensures .1 .1 (c9 .if1 .left) low) _ (c6 .below-level .ensures) _ _ (c .before .check-below .ensures .1 .1 z (c13 .take-line .ensures .1 .0 (c9 .if1 .left) .trees low)), λ z. c13 .take-line .ensures .1 .0 (c9 .if1 .left) .deep),
+      ),
+    )))
     (λ t. check-expression-lts.spec
     (check-entry-below t, check-entry.Post)
     (check-expression-at t)
@@ -211,7 +222,19 @@ pub +check-below+check-child+check-entry+check-expression+check-lines+check-patt
     (λ c. let c3 = c .before .before .before in let c10 = c3 .before .before .before .before .before .before in c3 .check-child .kept .1 .1 .1 .1 .1 .1 .1 .1 .0 ∙ c10 .loop .inv .3)
     (λ c. let c3 = c .before .before .before in let c9 = c3 .before .before .before .before .before in let c10 = c9 .before in let c12 = c10 .before .before in (D.lines-stop _ _ _ _ _ _ _ _ (want (sortAt (c12 .args .sort)) (c12 .args .level) (c12 .args .width)) (c12 .args .times) _ _ (c10 .loop .inv .2) (c10 .loop .inv .0 .going) (c9 .loop-test .taken) _ _ _ _ (c3 .check-child .ensures .0) (c .if1 .taken), (λ z. absurd (c .if1 .taken z), λ z. absurd (c .if1 .taken z))))
     (λ c. search needs)
-    (λ c. let c3 = c .before .before .before in let c8 = c3 .before .before .before .before in let c9 = c8 .before in let c10 = c9 .before in let c12 = c10 .before .before in let w = c3 .check-child .ensures .1 .0 (c .if1 .left) in (w .1, (let v = w .0 in let x = c10 .loop .inv .1 in omega (arith, v, x)), D.lines-one _ _ _ _ _ _ _ _ (want (sortAt (c12 .args .sort)) (c12 .args .level) (c12 .args .width)) (c12 .args .times) _ _ (c10 .loop .inv .2) (c10 .loop .inv .0 .going) (c9 .loop-test .taken) _ _ _ _ (c3 .check-child .ensures .0), c3 .check-child .kept .1 .1 .1 .1 .1 .1 .1 .1 .0 ∙ c10 .loop .inv .3, λ low. W.left-next _ _ _ _ _ _ _ (c12 .args .level) (c12 .args .flag) (c12 .args .mark) (c12 .args .sort) (c12 .args .times) (c10 .loop .left) (c8 .mark-below .result) (eqb (c10 .loop .left - 1) 0) (c10 .loop .inv .4 low) (c9 .loop-test .taken) refl (c8 .mark-below .ensures) low (c3 .check-child .ensures .1 .1 .1 (c .if1 .left)) (c3 .check-child .ensures .1 .1 .0 (c .if1 .left) (omega (arith, low)))))
+    (λ c. let c3 = c .before .before .before in
+    let c8 = c3 .before .before .before .before in
+    let c9 = c8 .before in
+    let c10 = c9 .before in
+    let c12 = c10 .before .before in
+    let w = c3 .check-child .ensures .1 .0 (c .if1 .left) in (
+      w .1,
+      (let v = w .0 in
+          let x = c10 .loop .inv .1 in omega (arith, v, x)),
+      D.lines-one _ _ _ _ _ _ _ _ (want (sortAt (c12 .args .sort)) (c12 .args .level) (c12 .args .width)) (c12 .args .times) _ _ (c10 .loop .inv .2) (c10 .loop .inv .0 .going) (c9 .loop-test .taken) _ _ _ _ (c3 .check-child .ensures .0),
+      c3 .check-child .kept .1 .1 .1 .1 .1 .1 .1 .1 .0 ∙ c10 .loop .inv .3,
+      λ low. W.left-next _ _ _ _ _ _ _ (c12 .args .level) (c12 .args .flag) (c12 .args .mark) (c12 .args .sort) (c12 .args .times) (c10 .loop .left) (c8 .mark-below .result) (eqb (c10 .loop .left - 1) 0) (c10 .loop .inv .4 low) (c9 .loop-test .taken) refl (c8 .mark-below .ensures) low (c3 .check-child .ensures .1 .1 .1 (c .if1 .left)) (c3 .check-child .ensures .1 .1 .0 (c .if1 .left) (omega (arith, low))),
+    ))
     (λ c. c .before .loop .inv .3)
     (λ c. let c3 = c .before .before .before in (D.lines-all _ _ _ _ _ _ _ _ (want (sortAt (c3 .args .sort)) (c3 .args .level) (c3 .args .width)) (c3 .args .times) _ _ (c .before .loop .inv .2) (c .loop-test .left), (λ z. (c .before .loop .inv .1, c .before .loop .inv .0), λ z low. W.left-done _ _ _ _ _ (child spotLine (tree spotLine (c3 .args .level)) (eqb (c3 .args .flag) 1) (markAt (c3 .args .mark)) (sortAt (c3 .args .sort))) (c3 .args .times) (c .before .loop .left) (c .before .loop .inv .4 low) (c .loop-test .left)))))
     λ t. check-pattern-lts.spec

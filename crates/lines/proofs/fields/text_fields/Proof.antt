@@ -32,5 +32,5 @@ text-fields-spec =
     (λ c. R.repeat-fault _ _ _ _ (λ l. restOf (takeField (text (kindAt (c .before .before .before .before .before .before .before .args .kind))) l)) (λ k l. restIn (takeTimes k (text (kindAt (c .before .before .before .before .before .before .before .args .kind))) l)) _ _ (R.times-more (text (kindAt (c .before .before .before .before .before .before .before .args .kind)))) (c .before .before .before .before .before .loop .inv .4) (c .before .before .before .before .before .loop .inv .1) (c .before .before .before .before .before .loop .inv .2) (c .before .before .before .text-field .ensures) (c .before .before .before .before .loop-test .taken) (c .if1 .taken))
     (λ c. search needs)
     (λ c. search needs)
-    (λ c. let x = R.repeat-next _ _ _ _ (λ l. restOf (takeField (text (kindAt (c .before .before .before .before .before .before .before .args .kind))) l)) (λ k l. restIn (takeTimes k (text (kindAt (c .before .before .before .before .before .before .before .args .kind))) l)) _ _ (R.times-more (text (kindAt (c .before .before .before .before .before .before .before .args .kind)))) (c .before .before .before .before .before .loop .inv .4) (c .before .before .before .before .before .loop .inv .1) (c .before .before .before .before .before .loop .inv .2) (c .before .before .before .text-field .ensures) (c .before .before .before .before .loop-test .taken) (c .if1 .left) in (R.follows-line _ _ _ _ (c .before .before .before .before .before .loop .inv .0) (c .before .before .before .text-field .ensures), x .1, x .2, x .3, x .0))
+    (λ c. let c3 = c .before .before .before in let c4 = c3 .before in let c5 = c4 .before in let c7 = c5 .before .before in let x = R.repeat-next _ _ _ _ (λ l. restOf (takeField (text (kindAt (c7 .args .kind))) l)) (λ k l. restIn (takeTimes k (text (kindAt (c7 .args .kind))) l)) _ _ (R.times-more (text (kindAt (c7 .args .kind)))) (c5 .loop .inv .4) (c5 .loop .inv .1) (c5 .loop .inv .2) (c3 .text-field .ensures) (c4 .loop-test .taken) (c .if1 .left) in (R.follows-line _ _ _ _ (c5 .loop .inv .0) (c3 .text-field .ensures), x .1, x .2, x .3, x .0))
     (λ c. R.repeat-end _ _ _ (λ k l. restIn (takeTimes k (text (kindAt (c .before .before .before .args .kind))) l)) _ _ (R.times-end (text (kindAt (c .before .before .before .args .kind)))) (c .before .loop .inv .4) (c .loop-test .left) (c .before .loop .inv .1) (c .before .loop .inv .2) (c .before .loop .inv .3)))

@@ -35,8 +35,39 @@ read-line-spec =
     (λ c. search needs)
     (λ c. let c2 = c .before .before in let c8 = c2 .before .before .before .before .before .before in let c14 = c8 .before .before .before .before .before .before in let c19 = c14 .before .before .before .before in let c21 = c19 .before .before in let c23 = c21 .before .before in let c24 = c23 .before in let c26 = c24 .before .before in let x = (C.next-at _ _ _ _ (c24 .word-at .ensures .0) (c19 .behind .ensures)) in let e = c8 .if1 .left ∙ ap (λ e. e + 1) (c14 .fields .ensures .0 .along .0) in (λ m hl hw hh. K.is-deep _ _ _ _ _ _ _ (c26 .pre .0) (c26 .pre .1) x _ _ _ m _ (c23 .row-at .ensures .0 _ (c24 .word-at .ensures .1)) (c21 .found .given .0 .0) (c21 .found .given .1) _ _ _ _ (c14 .fields .ensures .0) e _ (c .before .opens-level .ensures) (c .if6 .taken) (c2 .if5 .taken), (tt, λ h. N.none-over _ _ _ _ _ _ _ _ _ _ _ _)))
     (λ c. search needs)
-    (λ c. let c3 = c .before .before .before in let c5 = c3 .before .before in let c7 = c5 .before .before in let c8 = c7 .before in let c11 = c8 .before .before .before in let c14 = c11 .before .before .before in let c19 = c14 .before .before .before .before in let c21 = c19 .before .before in let c23 = c21 .before .before in let c24 = c23 .before in let c26 = c24 .before .before in let x = (C.next-at _ _ _ _ (c24 .word-at .ensures .0) (c19 .behind .ensures)) in let e = c8 .if1 .left ∙ ap (λ e. e + 1) (c14 .fields .ensures .0 .along .0) in let r = c23 .row-at .ensures in (λ m hl hw hh. K.is-asked _ _ _ _ _ _ _ (c26 .pre .0) (c26 .pre .1) x _ _ _ m _ (r .0 _ (c24 .word-at .ensures .1)) (c21 .found .given .0 .0) (c21 .found .given .1) _ _ _ _ (c14 .fields .ensures .0) e _ (c14 .fields .ensures .1 .0 e _ hh) (c11 .spots-behind .result) hw (rw hl (c7 .if2 .left)) (c5 .if3 .left) (c3 .if4 .left) (K.not-opening (c26 .args .sort) _ _ (c .before .opens-level .ensures) (c .if6 .left)) (r .1 .0), ((c14 .fields .ensures .0 .small .0, c14 .fields .ensures .0 .small .1, subst (Tidy (c26 .args .sort)) (c21 .found .given .1) (r .1 .0), K.not-opening (c26 .args .sort) _ _ (c .before .opens-level .ensures) (c .if6 .left)), λ h. N.line-notes _ _ _ _ (c26 .pre .0) (c26 .pre .1) x (c26 .args .sort) (c26 .args .mark) _ (r .0 _ (c24 .word-at .ensures .1)) (r .1 .1 _ (c24 .word-at .ensures .1)) (r .1 .0) (c21 .found .given .0 .0) (c21 .found .given .1) _ _ _ _ _ (c14 .fields .ensures .0) e _ _ _ _ _ _ _ _ _ _ _ (c14 .fields .ensures .1 .1) (c11 .spots-behind .ensures) (c3 .if4 .left) h)))
+    (λ c. let c3 = c .before .before .before in
+    let c5 = c3 .before .before in
+    let c7 = c5 .before .before in
+    let c8 = c7 .before in
+    let c11 = c8 .before .before .before in
+    let c14 = c11 .before .before .before in
+    let c19 = c14 .before .before .before .before in
+    let c21 = c19 .before .before in
+    let c23 = c21 .before .before in
+    let c24 = c23 .before in
+    let c26 = c24 .before .before in
+    let x = (C.next-at _ _ _ _ (c24 .word-at .ensures .0) (c19 .behind .ensures)) in
+    let e = c8 .if1 .left ∙ ap (λ e. e + 1) (c14 .fields .ensures .0 .along .0) in
+    let r = c23 .row-at .ensures in (
+      λ m hl hw hh. K.is-asked _ _ _ _ _ _ _ (c26 .pre .0) (c26 .pre .1) x _ _ _ m _ (r .0 _ (c24 .word-at .ensures .1)) (c21 .found .given .0 .0) (c21 .found .given .1) _ _ _ _ (c14 .fields .ensures .0) e _ (c14 .fields .ensures .1 .0 e _ hh) (c11 .spots-behind .result) hw (rw hl (c7 .if2 .left)) (c5 .if3 .left) (c3 .if4 .left) (K.not-opening (c26 .args .sort) _ _ (c .before .opens-level .ensures) (c .if6 .left)) (r .1 .0),
+      (
+        (c14 .fields .ensures .0 .small .0, c14 .fields .ensures .0 .small .1, subst (Tidy (c26 .args .sort)) (c21 .found .given .1) (r .1 .0), K.not-opening (c26 .args .sort) _ _ (c .before .opens-level .ensures) (c .if6 .left)),
+        λ h. N.line-notes _ _ _ _ (c26 .pre .0) (c26 .pre .1) x (c26 .args .sort) (c26 .args .mark) _ (r .0 _ (c24 .word-at .ensures .1)) (r .1 .1 _ (c24 .word-at .ensures .1)) (r .1 .0) (c21 .found .given .0 .0) (c21 .found .given .1) _ _ _ _ _ (c14 .fields .ensures .0) e _ _ _ _ _ _ _ _ _ _ _ (c14 .fields .ensures .1 .1) (c11 .spots-behind .ensures) (c3 .if4 .left) h,
+      ),
+    ))
     (λ c. search needs)
-    (λ c. let c3 = c .before .before .before in let c5 = c3 .before .before in let c6 = c5 .before in let c9 = c6 .before .before .before in let c12 = c9 .before .before .before in let c17 = c12 .before .before .before .before in let c19 = c17 .before .before in let c21 = c19 .before .before in let c22 = c21 .before in let c24 = c22 .before .before in let x = (C.next-at _ _ _ _ (c22 .word-at .ensures .0) (c17 .behind .ensures)) in let e = c6 .if1 .left ∙ ap (λ e. e + 1) (c12 .fields .ensures .0 .along .0) in let r = c21 .row-at .ensures in (λ m hl hw hh. K.is-asked _ _ _ _ _ _ _ (c24 .pre .0) (c24 .pre .1) x _ _ _ m _ (r .0 _ (c22 .word-at .ensures .1)) (c19 .found .given .0 .0) (c19 .found .given .1) _ _ _ _ (c12 .fields .ensures .0) e _ (c12 .fields .ensures .1 .0 e _ hh) (c9 .spots-behind .result) hw (rw hl (c5 .if2 .left)) (c3 .if3 .left) (c .before .if4 .left) (λ p n. c .if5 .left n) (r .1 .0), ((c12 .fields .ensures .0 .small .0, c12 .fields .ensures .0 .small .1, subst (Tidy (c24 .args .sort)) (c19 .found .given .1) (r .1 .0), λ p n. c .if5 .left n), λ h. N.line-notes _ _ _ _ (c24 .pre .0) (c24 .pre .1) x (c24 .args .sort) (c24 .args .mark) _ (r .0 _ (c22 .word-at .ensures .1)) (r .1 .1 _ (c22 .word-at .ensures .1)) (r .1 .0) (c19 .found .given .0 .0) (c19 .found .given .1) _ _ _ _ _ (c12 .fields .ensures .0) e _ _ _ _ _ _ _ _ _ _ _ (c12 .fields .ensures .1 .1) (c9 .spots-behind .ensures) (c .before .if4 .left) h)))
+    (λ c. let c3 = c .before .before .before in
+    let c5 = c3 .before .before in
+    let c6 = c5 .before in
+    let c9 = c6 .before .before .before in
+    let c12 = c9 .before .before .before in
+    let c17 = c12 .before .before .before .before in
+    let c19 = c17 .before .before in
+    let c21 = c19 .before .before in
+    let c22 = c21 .before in
+    let c24 = c22 .before .before in
+    let x = (C.next-at _ _ _ _ (c22 .word-at .ensures .0) (c17 .behind .ensures)) in
+    let e = c6 .if1 .left ∙ ap (λ e. e + 1) (c12 .fields .ensures .0 .along .0) in
+    let r = c21 .row-at .ensures in (λ m hl hw hh. K.is-asked _ _ _ _ _ _ _ (c24 .pre .0) (c24 .pre .1) x _ _ _ m _ (r .0 _ (c22 .word-at .ensures .1)) (c19 .found .given .0 .0) (c19 .found .given .1) _ _ _ _ (c12 .fields .ensures .0) e _ (c12 .fields .ensures .1 .0 e _ hh) (c9 .spots-behind .result) hw (rw hl (c5 .if2 .left)) (c3 .if3 .left) (c .before .if4 .left) (λ p n. c .if5 .left n) (r .1 .0), ((c12 .fields .ensures .0 .small .0, c12 .fields .ensures .0 .small .1, subst (Tidy (c24 .args .sort)) (c19 .found .given .1) (r .1 .0), λ p n. c .if5 .left n), λ h. N.line-notes _ _ _ _ (c24 .pre .0) (c24 .pre .1) x (c24 .args .sort) (c24 .args .mark) _ (r .0 _ (c22 .word-at .ensures .1)) (r .1 .1 _ (c22 .word-at .ensures .1)) (r .1 .0) (c19 .found .given .0 .0) (c19 .found .given .1) _ _ _ _ _ (c12 .fields .ensures .0) e _ _ _ _ _ _ _ _ _ _ _ (c12 .fields .ensures .1 .1) (c9 .spots-behind .ensures) (c .before .if4 .left) h)))
     (λ c. search needs)
     (λ c. let c2 = c .before .before in let c3 = c2 .before in let c5 = c3 .before .before in let x = C.next-at _ _ _ (record { at = _; end = _; awaited = _ }) (c3 .word-at .ensures .0) (refl, refl, refl) in (λ m hl hw hh. K.is-unknown _ _ _ _ _ _ _ (c5 .pre .0) (c5 .pre .1) x _ _ _ m _ (c2 .row-at .ensures .0 _ (c3 .word-at .ensures .1)) (c .enum-told .given .1), (tt, λ h. N.none-wrong _ _ _ _ _ _ _ _ _ _ _ _))))

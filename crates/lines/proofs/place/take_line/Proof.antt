@@ -23,7 +23,24 @@ take-line-spec =
     (λ c. let c11 = c .before .before .before .before .before .before .before .before .before .before in let c14 = c11 .before .before .before in let h = c11 .next-end .ensures .high in let n = c14 .pre .1 .short in omega (arith, h, n))
     (λ c. let c12 = c .before .before .before .before .before .before .before .before .before .before .before in let c15 = c12 .before .before .before in let h = c12 .next-end .ensures .high in let l = c12 .next-end .ensures .low in let n = c15 .pre .1 .short in let f = c15 .pre .1 .few in omega (arith, h, l, n, f))
     (λ c. search needs)
-    (λ c. let c3 = c .before .before .before in let c6 = c3 .before .before .before in let c11 = c6 .before .before .before .before in let c12 = c11 .before in let c15 = c12 .before .before .before in (λ ρ ws m st. D.line-asks _ _ _ _ ρ ws (c15 .args .sort) (c15 .args .level) (c15 .args .width) (c15 .args .p) m _ (c12 .next-end .ensures) (let h = c12 .next-end .ensures .high in let n = c11 .if2 .left in omega (arith, n, h)) _ (c6 .read-line .ensures .0 m (st .lines) (st .wide) (st .names)) _ (c3 .l .given .1) (st .lines), (λ z. let l = c12 .next-end .ensures .low in let h = c12 .next-end .ensures .high in let n = c11 .if2 .left in let o = c15 .pre .1 .short in let f = c15 .pre .1 .few in let q = (subst (Small (c15 .args .sort) (c15 .args .level)) (c3 .l .given .1) (c6 .read-line .ensures .1 .0)) in record { inside = omega (arith, l, h, n, o); behind = omega (arith, l); ready = record { short = o; few = omega (arith, l, f); going = refl }; sorts = q .2 .1; trees = λ low. N.plain-row (c15 .args .sort) (c3 .l .given .0 .0 .row) low (q .2 .2) .sorts; deep = q .3; small = (q .0, q .1) }, λ z low. W.line-walked _ _ _ _ _ _ _ (c15 .args .p) (c15 .args .sort) (c15 .args .mark) _ (c12 .next-end .ensures) (let h = c12 .next-end .ensures .high in let n = c11 .if2 .left in omega (arith, n, h)) _ _ (c3 .l .given .1) _ _ (c6 .read-line .ensures .1 .1 low))))
+    (λ c. let c3 = c .before .before .before in
+    let c6 = c3 .before .before .before in
+    let c11 = c6 .before .before .before .before in
+    let c12 = c11 .before in
+    let c15 = c12 .before .before .before in (
+      λ ρ ws m st. D.line-asks _ _ _ _ ρ ws (c15 .args .sort) (c15 .args .level) (c15 .args .width) (c15 .args .p) m _ (c12 .next-end .ensures) (let h = c12 .next-end .ensures .high in
+          let n = c11 .if2 .left in omega (arith, n, h)) _ (c6 .read-line .ensures .0 m (st .lines) (st .wide) (st .names)) _ (c3 .l .given .1) (st .lines),
+      (
+        λ z. let l = c12 .next-end .ensures .low in
+            let h = c12 .next-end .ensures .high in
+            let n = c11 .if2 .left in
+            let o = c15 .pre .1 .short in
+            let f = c15 .pre .1 .few in
+            let q = (subst (Small (c15 .args .sort) (c15 .args .level)) (c3 .l .given .1) (c6 .read-line .ensures .1 .0)) in record { inside = omega (arith, l, h, n, o); behind = omega (arith, l); ready = record { short = o; few = omega (arith, l, f); going = refl }; sorts = q .2 .1; trees = λ low. N.plain-row (c15 .args .sort) (c3 .l .given .0 .0 .row) low (q .2 .2) .sorts; deep = q .3; small = (q .0, q .1) },
+        λ z low. W.line-walked _ _ _ _ _ _ _ (c15 .args .p) (c15 .args .sort) (c15 .args .mark) _ (c12 .next-end .ensures) (let h = c12 .next-end .ensures .high in
+            let n = c11 .if2 .left in omega (arith, n, h)) _ _ (c3 .l .given .1) _ _ (c6 .read-line .ensures .1 .1 low),
+      ),
+    ))
     (λ c. search needs)
     (λ c κs. search needs)
     (λ c. search needs)

@@ -45,6 +45,13 @@ variable-fields-spec =
     (λ c. let c5 = c .before .before .before .before .before in let c10 = c5 .before .before .before .before in let c11 = c10 .before in (R.repeat-fault _ _ _ _ (λ l. restOf (takeField (term variable) l)) (λ k l. restIn (takeTimes k (term variable) l)) _ _ (R.times-more (term variable)) (c11 .loop .inv .4) (c11 .loop .inv .1) (c11 .loop .inv .2) (c5 .variable-field .ensures .0) (c10 .loop-test .taken) (c .if1 .taken), (λ h. let x = R.follows-along _ _ _ _ (c5 .variable-field .ensures .0) .0 in let y = c11 .loop .inv .1 .0 in let z = c .if1 .taken in absurd (omega arith), λ h. let x = R.follows-along _ _ _ _ (c5 .variable-field .ensures .0) .0 in let y = c11 .loop .inv .1 .0 in let z = c .if1 .taken in absurd (omega arith))))
     (λ c. search needs)
     (λ c. search needs)
-    (λ c. let c5 = c .before .before .before .before .before in let c10 = c5 .before .before .before .before in let c11 = c10 .before in let c13 = c11 .before .before in let x = R.follows-along _ _ _ _ (c5 .variable-field .ensures .0) .0 in let q = c .if1 .left in let f = R.follows-fine _ _ _ _ (c5 .variable-field .ensures .0) (omega arith) in let x = R.repeat-next _ _ _ _ (λ l. restOf (takeField (term variable) l)) (λ k l. restIn (takeTimes k (term variable) l)) _ _ (R.times-more (term variable)) (c11 .loop .inv .4) (c11 .loop .inv .1) (c11 .loop .inv .2) (c5 .variable-field .ensures .0) (c10 .loop-test .taken) (c .if1 .left) in (R.follows-line _ _ _ _ (c11 .loop .inv .0) (c5 .variable-field .ensures .0), x .1, x .2, x .3, x .0, (c11 .loop .inv .5 .0 ++ termsOf (takeField (term variable) (leftAt (now (c13 .args .s)) (c11 .loop .d))), F.terms-next _ (term variable) _ _ (c11 .loop .inv .5 .0) _ (c11 .loop .inv .5 .1) (c10 .loop-test .taken) (f .0), λ want h. rw notes-more (c5 .variable-field .ensures .1 .0 _ (c11 .loop .inv .5 .2 want h))), c5 .variable-field .kept .1 .1 .1 .1 .1 .1 .0 ∙ c11 .loop .inv .6, D.more-adds _ (c13 .args .c) (c11 .loop .d) (c5 .variable-field .result .cursor) _ _ _ _ variable (c11 .loop .inv .7) (c5 .variable-field .ensures .1 .1 (omega arith) [])))
+    (λ c. let c5 = c .before .before .before .before .before in
+    let c10 = c5 .before .before .before .before in
+    let c11 = c10 .before in
+    let c13 = c11 .before .before in
+    let x = R.follows-along _ _ _ _ (c5 .variable-field .ensures .0) .0 in
+    let q = c .if1 .left in
+    let f = R.follows-fine _ _ _ _ (c5 .variable-field .ensures .0) (omega arith) in
+    let x = R.repeat-next _ _ _ _ (λ l. restOf (takeField (term variable) l)) (λ k l. restIn (takeTimes k (term variable) l)) _ _ (R.times-more (term variable)) (c11 .loop .inv .4) (c11 .loop .inv .1) (c11 .loop .inv .2) (c5 .variable-field .ensures .0) (c10 .loop-test .taken) (c .if1 .left) in (R.follows-line _ _ _ _ (c11 .loop .inv .0) (c5 .variable-field .ensures .0), x .1, x .2, x .3, x .0, (c11 .loop .inv .5 .0 ++ termsOf (takeField (term variable) (leftAt (now (c13 .args .s)) (c11 .loop .d))), F.terms-next _ (term variable) _ _ (c11 .loop .inv .5 .0) _ (c11 .loop .inv .5 .1) (c10 .loop-test .taken) (f .0), λ want h. rw notes-more (c5 .variable-field .ensures .1 .0 _ (c11 .loop .inv .5 .2 want h))), c5 .variable-field .kept .1 .1 .1 .1 .1 .1 .0 ∙ c11 .loop .inv .6, D.more-adds _ (c13 .args .c) (c11 .loop .d) (c5 .variable-field .result .cursor) _ _ _ _ variable (c11 .loop .inv .7) (c5 .variable-field .ensures .1 .1 (omega arith) [])))
     (λ c. c .before .loop .inv .6)
     (λ c. let c3 = c .before .before .before in (R.repeat-end _ _ _ (λ k l. restIn (takeTimes k (term variable) l)) _ _ (R.times-end (term variable)) (c .before .loop .inv .4) (c .loop-test .left) (c .before .loop .inv .1) (c .before .loop .inv .2) (c .before .loop .inv .3), (λ h want q. let z = F.terms-end (c .before .loop .left) (term variable) (leftAt (now (c3 .args .s)) (c .before .loop .d)) (c .before .loop .inv .5 .0) _ (c .before .loop .inv .5 .1) (c .loop-test .left) in rw z (c .before .loop .inv .5 .2 want q), λ h. c .before .loop .inv .7))))

@@ -18,4 +18,4 @@ base-at-spec =
     (λ c κs. search needs)
     (λ c κs. search needs)
     (λ c κs. search needs)
-    (λ c. L.base-at _ (startsOf (c .before .before .before .before .before .before .args .table .now)) (sizesOf (c .before .before .before .before .before .before .args .table .now)) (c .before .before .before .before .before .before .args .k) _ _ _ _ (R.column-is 0 (c .before .before .before .before .before .before .args .table .now) (c .before .before .before .before .before .before .args .k) _ (c .before .before .before .wide .ensures .0), c .before .before .before .wide .ensures .1) (R.column-is 1 (c .before .before .before .before .before .before .args .table .now) (c .before .before .before .before .before .before .args .k) _ (c .before .before .wide2 .ensures .0), c .before .before .wide2 .ensures .1) (c .before .piece .ensures) (c .base-size .ensures)))
+    (λ c. let c2 = c .before .before in let c3 = c2 .before in let c6 = c3 .before .before .before in L.base-at _ (startsOf (c6 .args .table .now)) (sizesOf (c6 .args .table .now)) (c6 .args .k) _ _ _ _ (R.column-is 0 (c6 .args .table .now) (c6 .args .k) _ (c3 .wide .ensures .0), c3 .wide .ensures .1) (R.column-is 1 (c6 .args .table .now) (c6 .args .k) _ (c2 .wide2 .ensures .0), c2 .wide2 .ensures .1) (c .before .piece .ensures) (c .base-size .ensures)))

@@ -7,14 +7,15 @@ use native.Mathlib.Nat.{zero-add}
 use native.Mathlib.Omega.{arith}
 use lib.ListN.{length, length-set}
 use Rattle.cursor.specs.bridge.Cursor.{left}
-use Rattle.placing.specs.bridge.Fields.{columnsIn, columnsOn}
+use Rattle.names.specs.bridge.Names.{namesIn}
+use Rattle.placing.specs.bridge.Fields.{columnsOn}
 use Rattle.placing.proofs.Listed as L
 use Rattle.placing.proofs.columns.read_columns.Statement.{statement}
 use Rattle.placing.proofs.columns.read_columns.Tie as tie
 
 abbrev Inv-loop : tie.InvT-loop
 Inv-loop tree line columns₀ n₀ end next₀ columns n next =
-    (length columns ≡ 64) × (next ≤ end + 1) × (n + length (left tree next end) ≡ length (columnsOn tree line)) × (columnsIn tree columns n ++ left tree next end ≡ columnsOn tree line)
+    (length columns ≡ 64) × (next ≤ end + 1) × (n + length (left tree next end) ≡ length (columnsOn tree line)) × (namesIn tree columns n ++ left tree next end ≡ columnsOn tree line)
 
 abbrev μ-loop : tie.MeasureT-loop
 μ-loop tree line columns₀ n₀ end next₀ columns n next = end + 1 - next

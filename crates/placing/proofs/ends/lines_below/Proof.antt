@@ -23,4 +23,11 @@ lines-below-spec =
     (λ c. let c3 = c .before .before .before in let c4 = c3 .before in let c8 = c4 .before .before .before .before in let u = C.amount-fits (c8 .row-of .result .below) _ _ _ (c .before .amount .ensures) (c4 .count-at .ensures .2) (c3 .count-at2 .ensures .2) in let v = C.amount-fits (c8 .row-of .result .below / 512) _ _ _ (c .amount2 .ensures) (c4 .count-at .ensures .2) (c3 .count-at2 .ensures .2) in omega (arith, u, v))
     (λ c κs. search needs)
     (λ c. let c4 = c .before .before .before .before in let c5 = c4 .before in let c9 = c5 .before .before .before .before in let u = C.amount-fits (c9 .row-of .result .below) _ _ _ (c .before .before .amount .ensures) (c5 .count-at .ensures .2) (c4 .count-at2 .ensures .2) in let v = C.amount-fits (c9 .row-of .result .below / 512) _ _ _ (c .before .amount2 .ensures) (c5 .count-at .ensures .2) (c4 .count-at2 .ensures .2) in let w = C.amount-fits (c9 .row-of .result .below / 512 / 512) _ _ _ (c .amount3 .ensures) (c5 .count-at .ensures .2) (c4 .count-at2 .ensures .2) in omega (arith, u, v, w))
-    (λ c. let c4 = c .before .before .before .before in let c5 = c4 .before in let c9 = c5 .before .before .before .before in let u = C.amount-fits (c9 .row-of .result .below) _ _ _ (c .before .before .amount .ensures) (c5 .count-at .ensures .2) (c4 .count-at2 .ensures .2) in let v = C.amount-fits (c9 .row-of .result .below / 512) _ _ _ (c .before .amount2 .ensures) (c5 .count-at .ensures .2) (c4 .count-at2 .ensures .2) in let w = C.amount-fits (c9 .row-of .result .below / 512 / 512) _ _ _ (c .amount3 .ensures) (c5 .count-at .ensures .2) (c4 .count-at2 .ensures .2) in let c10 = c9 .before in let c12 = c10 .before .before in (C.come-is _ _ _ _ _ _ (c9 .row-of .result) _ _ _ (W.line-split _ _ _ _ (c12 .pre .1) (c12 .pre .0) (c10 .word-at .ensures .0)) (c9 .row-of .ensures _ (c10 .word-at .ensures .1)) (c5 .count-at .ensures .0) (W.second-number _ _ _ _ _ (c5 .count-at .ensures .1) (c4 .count-at2 .ensures .0)) (c .before .before .amount .ensures) (c .before .amount2 .ensures) (c .amount3 .ensures), omega (arith, u, v, w))))
+    (λ c. let c4 = c .before .before .before .before in
+    let c5 = c4 .before in
+    let c9 = c5 .before .before .before .before in
+    let u = C.amount-fits (c9 .row-of .result .below) _ _ _ (c .before .before .amount .ensures) (c5 .count-at .ensures .2) (c4 .count-at2 .ensures .2) in
+    let v = C.amount-fits (c9 .row-of .result .below / 512) _ _ _ (c .before .amount2 .ensures) (c5 .count-at .ensures .2) (c4 .count-at2 .ensures .2) in
+    let w = C.amount-fits (c9 .row-of .result .below / 512 / 512) _ _ _ (c .amount3 .ensures) (c5 .count-at .ensures .2) (c4 .count-at2 .ensures .2) in
+    let c10 = c9 .before in
+    let c12 = c10 .before .before in (C.come-is _ _ _ _ _ _ (c9 .row-of .result) _ _ _ (W.line-split _ _ _ _ (c12 .pre .1) (c12 .pre .0) (c10 .word-at .ensures .0)) (c9 .row-of .ensures _ (c10 .word-at .ensures .1)) (c5 .count-at .ensures .0) (W.second-number _ _ _ _ _ (c5 .count-at .ensures .1) (c4 .count-at2 .ensures .0)) (c .before .before .amount .ensures) (c .before .amount2 .ensures) (c .amount3 .ensures), omega (arith, u, v, w))))

@@ -20,4 +20,4 @@ put-head-spec =
     (λ c. search needs)
     (λ c κs. search needs)
     (λ c. search needs)
-    (λ c. W.two-heads _ _ _ _ _ _ _ _ _ (W.put-piece _ _ _ _ (c .before .before .before .before .before .before .before .before .before .before .before .before .before .before .before .before .before .before .before .before .before .before .put-all .ensures) (c .before .before .before .before .before .before .before .before .before .before .before .before .before .before .before .before .before .before .before .before .before .before .before .piece .ensures)) (c .before .before .before .before .before .before .before .before .before .before .before .before .before .before .before .before .before .put-all2 .ensures) (c .before .before .before .before .before .before .before .before .before .before .before .before .put-columns .ensures) (c .before .before .before .before .before .before .before .put-columns2 .ensures) (c .before .before .put-all3 .ensures)))
+    (λ c. let c2 = c .before .before in let c7 = c2 .before .before .before .before .before in let c12 = c7 .before .before .before .before .before in let c17 = c12 .before .before .before .before .before in let c22 = c17 .before .before .before .before .before in let c23 = c22 .before in W.two-heads _ _ _ _ _ _ _ _ _ (W.put-piece _ _ _ _ (c22 .put-all .ensures) (c23 .piece .ensures)) (c17 .put-all2 .ensures) (c12 .put-columns .ensures) (c7 .put-columns2 .ensures) (c2 .put-all3 .ensures)))

@@ -1,6 +1,9 @@
 -- `renaming::rename/rename_by` meets its contract. Assumes nothing.
 use borrow.Author.Needs.{needs}
+use mathlib.Core.Path.{refl}
+use Rattle.names.proofs.Cleared.{no-size}
 use Rattle.lists.proofs.Said as Said
+use Rattle.renaming.proofs.Tables as T
 use Rattle.renaming.proofs.Renamed as R
 use Rattle.renaming.proofs.rename.rename_by.Statement.{statement}
 use Rattle.renaming.proofs.rename.rename_by.Tie as tie
@@ -11,7 +14,8 @@ rename-by-spec =
     (tie.spec
     (λ c κs. search needs)
     (λ c. search needs)
-    (λ c κs. let k = c .before .before .before .before .before .before .before .before .before .before .pre in (k .0, k .1, Said.said-good _ _ _ _ (c .before .before .before .before .before .check-mapping .ensures) _ (c .before .before .before .m .given .1)))
+    (λ c κs. let k = c .before .before .before .before .before .before .before .before .before .before .pre in (Said.said-good _ _ _ _ (c .before .before .before .before .before .check-mapping .ensures) _ (c .before .before .before .m .given .1), refl, no-size 1024, T.known-named _ _ _ _ _ (k .0)))
+    (λ c κs. let k = c .before .before .before .before .before .before .before .before .before .before .before .before .before .pre in (T.surveyed _ _ _ _ _ _ _ (k .0) (k .1), c .before .before .find-targets .ensures))
     (λ c. search needs)
     (λ c. search needs)
     (λ c. search needs)

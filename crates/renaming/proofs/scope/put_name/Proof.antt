@@ -21,4 +21,4 @@ put-name-spec =
     (λ c κs. search needs)
     (λ c κs. search needs)
     (λ c. search needs)
-    (λ c. let s = c .before .before .before .before .before .before .before .before .before .before .before .before .before .before .before in L.name-put _ _ _ _ _ _ (c .before .before .before .before .before .before .before .before .before .before .before .before .if1 .left) (c .before .before .before .before .before .before .before .before .before .before .put .ensures) (c .before .before .put-all .ensures) (L.name-at (s .args .tree .now) (startsOf (s .args .table .now)) (sizesOf (s .args .table .now)) (s .args .k) _ _ _ (column-is 0 (s .args .table .now) (s .args .k) _ (c .before .before .before .before .before .wide .ensures)) (column-is 1 (s .args .table .now) (s .args .k) _ (c .before .before .before .before .wide2 .ensures)) (c .before .before .before .piece .ensures))))
+    (λ c. let c2 = c .before .before in let c3 = c2 .before in let c4 = c3 .before in let c5 = c4 .before in let c10 = c5 .before .before .before .before .before in let c12 = c10 .before .before in let c15 = c12 .before .before .before in let s = c15 in L.name-put _ _ _ _ _ _ (c12 .if1 .left) (c10 .put .ensures) (c2 .put-all .ensures) (L.name-at (s .args .tree .now) (startsOf (s .args .table .now)) (sizesOf (s .args .table .now)) (s .args .k) _ _ _ (column-is 0 (s .args .table .now) (s .args .k) _ (c5 .wide .ensures)) (column-is 1 (s .args .table .now) (s .args .k) _ (c4 .wide2 .ensures)) (c3 .piece .ensures))))

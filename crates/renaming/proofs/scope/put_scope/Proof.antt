@@ -17,4 +17,4 @@ put-scope-spec =
     (λ c κs. search needs)
     (λ c κs. search needs)
     (λ c. search needs)
-    (λ c. L.two-lines _ _ _ _ _ _ _ _ _ (c .before .before .before .before .before .before .before .before .before .before .before .before .before .before .before .before .before .before .before .before .before .before .before .put-all .ensures) (c .before .before .before .before .before .before .before .before .before .before .before .before .before .before .before .before .before .before .before .put-names .ensures) (c .before .before .before .before .before .before .before .before .before .before .before .before .before .before .before .put .ensures) (c .before .before .before .before .before .before .before .before .before .before .put-all2 .ensures) (c .before .before .before .before .before .before .put-names2 .ensures) (c .before .before .put2 .ensures)))
+    (λ c. let c2 = c .before .before in let c6 = c2 .before .before .before .before in let c10 = c6 .before .before .before .before in let c15 = c10 .before .before .before .before .before in let c19 = c15 .before .before .before .before in let c23 = c19 .before .before .before .before in L.two-lines _ _ _ _ _ _ _ _ _ (c23 .put-all .ensures) (c19 .put-names .ensures) (c15 .put .ensures) (c10 .put-all2 .ensures) (c6 .put-names2 .ensures) (c2 .put2 .ensures)))

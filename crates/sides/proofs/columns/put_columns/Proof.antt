@@ -32,6 +32,6 @@ put-columns-spec =
     (λ c κs. search needs)
     (λ c. let h = c .before .before .before .before .before .field-end .ensures .high in let p = c .before .before .before .before .before .before .before .before .before .before .pre .0 in omega arith)
     (λ c. let l = c .before .before .before .before .before .field-end .ensures .low in let t = L.columns-more _ _ _ _ _ _ (c .before .before .before .before .before .before .before .loop .inv .1) (c .before .before .before .before .before .before .loop-test .taken) in let h = c .before .before .before .before .before .field-end .ensures .high in omega arith)
-    (λ c. let t = L.columns-more _ _ _ _ _ _ (c .before .before .before .before .before .before .before .loop .inv .1) (c .before .before .before .before .before .before .loop-test .taken) in (c .before .before .before .put-column .kept .1 .1 .1 .1 .0 ∙ c .before .before .before .before .before .before .before .loop .inv .0, L.columns-less _ _ _ _ _ _ (c .before .before .before .before .before .before .before .before .before .before .pre .0) t (c .before .before .before .before .before .field-end .ensures) _ _ _ refl (c .before .before .before .before .before .before .before .loop .inv .1) (c .less .ensures), L.columns-next _ _ _ _ _ _ (c .before .before .before .before .before .before .before .before .before .before .pre .0) t (c .before .before .before .before .before .field-end .ensures) _ _ _ refl (c .before .before .before .put-column .ensures) ∙ c .before .before .before .before .before .before .before .loop .inv .2))
+    (λ c. let c3 = c .before .before .before in let c5 = c3 .before .before in let c6 = c5 .before in let c7 = c6 .before in let c10 = c7 .before .before .before in let t = L.columns-more _ _ _ _ _ _ (c7 .loop .inv .1) (c6 .loop-test .taken) in (c3 .put-column .kept .1 .1 .1 .1 .0 ∙ c7 .loop .inv .0, L.columns-less _ _ _ _ _ _ (c10 .pre .0) t (c5 .field-end .ensures) _ _ _ refl (c7 .loop .inv .1) (c .less .ensures), L.columns-next _ _ _ _ _ _ (c10 .pre .0) t (c5 .field-end .ensures) _ _ _ refl (c3 .put-column .ensures) ∙ c7 .loop .inv .2))
     (λ c. c .before .loop .inv .0)
     (λ c. L.nothing-left _ _ _ _ (c .before .loop .inv .1) (c .loop-test .left) (c .before .loop .inv .2)))

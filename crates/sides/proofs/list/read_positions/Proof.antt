@@ -40,5 +40,5 @@ read-positions-spec =
     (λ c. let a = Q.going-low _ _ _ _ _ _ _ _ (c .before .before .before .before .before .loop .inv .2 (c .before .before .before .before .before .before .before .pre .3 .0) (c .before .before .before .before .before .before .before .pre .3 .1)) _ (c .before .before .before .line-end .ensures) (c .before .before .if1 .left) in let b = c .before .before .before .before .before .before .before .pre .3 .1 .few in omega arith)
     (λ c. let h = c .before .before .before .line-end .ensures .high in let n = c .before .before .if1 .left in omega arith)
     (λ c. let t = c .before .before .before .before .loop-test .taken in let h = Q.field-low _ _ _ (c .before .before .before .line-end .ensures) (c .before .before .if1 .left) in let g = c .before .before .before .line-end .ensures .high in omega arith)
-    (λ c. let a = Q.going-low _ _ _ _ _ _ _ _ (c .before .before .before .before .before .loop .inv .2 (c .before .before .before .before .before .before .before .pre .3 .0) (c .before .before .before .before .before .before .before .pre .3 .1)) _ (c .before .before .before .line-end .ensures) (c .before .before .if1 .left) in let b = c .before .before .before .before .before .before .before .pre .3 .1 .few in (simp length-set (c .before .before .before .before .before .loop .inv .0), simp length-set (c .before .before .before .before .before .loop .inv .1), λ xs l. Q.going-next _ _ _ _ _ _ _ _ (c .before .before .before .before .before .loop .inv .2 xs l) _ (c .before .before .before .line-end .ensures) (c .before .before .if1 .left) _ (c .before .position-at .ensures) (c .if2 .left) (let d = c .before .before .before .before .before .loop .inv .0 in omega arith) (let d = c .before .before .before .before .before .loop .inv .1 in omega arith)))
+    (λ c. let c2 = c .before .before in let c3 = c2 .before in let c5 = c3 .before .before in let c7 = c5 .before .before in let a = Q.going-low _ _ _ _ _ _ _ _ (c5 .loop .inv .2 (c7 .pre .3 .0) (c7 .pre .3 .1)) _ (c3 .line-end .ensures) (c2 .if1 .left) in let b = c7 .pre .3 .1 .few in (simp length-set (c5 .loop .inv .0), simp length-set (c5 .loop .inv .1), λ xs l. Q.going-next _ _ _ _ _ _ _ _ (c5 .loop .inv .2 xs l) _ (c3 .line-end .ensures) (c2 .if1 .left) _ (c .before .position-at .ensures) (c .if2 .left) (let d = c5 .loop .inv .0 in omega arith) (let d = c5 .loop .inv .1 in omega arith)))
     (λ c. (c .before .loop .inv .0, c .before .loop .inv .1, λ xs l. Q.going-done _ _ _ _ _ _ _ _ (c .before .loop .inv .2 xs l) (c .loop-test .left))))

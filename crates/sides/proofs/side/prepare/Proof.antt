@@ -19,16 +19,15 @@ prepare-spec =
     (λ c. search needs)
     (λ c. search needs)
     (λ c. (c .before .before .before .before .before .before .before .before .before .before .before .pre .6, λ x js ks t nar lj lk. S.first-false _ (inside (x .columns) (positionsIn false ks)) (S.found-outside _ _ _ _ _ _ _ (x .columns) (c .before .before .read-positions .ensures .2 js lj) (c .enum-told .given .1) (c .before .before .before .before .before .find-columns .ensures .1 x (t .lines) .0))))
-    (λ c κs. (let w = c .before .before .before .before .before .before .before .before .find-columns .ensures .1 _ (c .before .before .before .before .before .before .before .before .before .before .before .before .before .before .pre .0 .stands .lines) .0 in let n = c .before .before .before .before .before .before .before .before .before .before .before .before .before .before .pre .0 .narrow in omega arith, c .before .before .before .before .before .before .before .before .before .before .before .before .before .before .pre .6, c .before .before .before .before .before .before .before .before .before .before .before .before .before .before .pre .7, (c .before .before .before .before .before .before .before .before .before .before .before .before .before .before .pre .0 .terms, c .before .before .before .before .before .before .before .before .before .before .before .before .before .before .pre .0 .terms-listed)))
+    (λ c κs. let c8 = c .before .before .before .before .before .before .before .before in let c14 = c8 .before .before .before .before .before .before in (let w = c8 .find-columns .ensures .1 _ (c14 .pre .0 .stands .lines) .0 in let n = c14 .pre .0 .narrow in omega arith, c14 .pre .6, c14 .pre .7, (c14 .pre .0 .terms, c14 .pre .0 .terms-listed)))
     (λ c. search needs)
     (λ c. search needs)
     (λ c. (c .before .before .read-positions2 .ensures .0, λ x js ks t nar lj lk. S.neither (inside (x .columns) (positionsIn (c .before .before .before .before .before .before .before .before .before .before .before .before .before .before .before .before .before .args .second) js)) _ (S.found-outside _ _ _ _ _ _ _ (x .columns) (c .before .before .read-positions2 .ensures .2 ks lk) (c .enum-told2 .given .1) (c .before .before .before .before .before .before .before .before .before .before .before .find-columns .ensures .1 x (t .lines) .0))))
-    (λ c κs.
-    let kj = (S.found-all _ _ _ _ _ _ _ _ (c .before .before .before .before .before .before .before .before .before .before .before .before .before .read-positions .ensures .2 (c .before .before .before .before .before .before .before .before .before .before .before .before .before .before .before .before .before .before .before .before .before .before .pre .0 .joins) (c .before .before .before .before .before .before .before .before .before .before .before .before .before .before .before .before .before .before .before .before .before .before .pre .0 .joins-listed)) (c .before .before .before .before .before .before .before .before .before .before .before .k .given .1)) in
-    let pl = (S.placed-at _ _ _ _ _ _ _ _ (c .before .before .before .before .before .before .before .before .before .before .before .before .before .before .before .before .before .before .before .before .before .before .pre .0 .projection) (c .before .before .before .before .before .before .before .before .before .before .before .before .before .before .before .before .before .before .before .before .before .before .pre .0 .stands) (c .before .before .before .before .before .before .before .before .before .before .before .before .before .before .before .before .before .before .before .before .before .before .pre .0 .narrow) (c .before .before .before .before .before .before .before .before .before .before .before .before .before .before .before .before .find-columns .ensures)) in
-    (c .before .before .before .before .before .before .before .before .before .before .before .before .before .before .before .before .before .before .before .before .before .before .pre .1, c .before .before .before .before .before .before .before .before .before .before .before .before .before .before .before .before .before .before .before .before .before .before .pre .2, c .before .before .before .before .before .before .before .before .before .before .before .before .before .before .before .before .before .before .before .before .before .before .pre .3, c .before .before .before .before .before .before .before .before .before .before .before .before .before .before .before .before .before .before .before .before .before .before .pre .4, c .before .before .before .before .before .before .before .before .before .before .before .before .before .before .before .before .before .before .before .before .before .before .pre .5, S.kept-few _ _ _ _ _ _ _ (kj .1) (c .before .before .before .before .before .before .before .before .before .before .before .before .before .before .before .before .before .before .before .before .before .before .pre .0 .joins-listed), c .before .before .before .before .before .before .before .before .before .before .before .before .before .read-positions .ensures .0, (c .before .before .before .before .before .before .before .before .before .before .before .before .before .before .before .before .before .before .before .before .before .before .pre .0 .projection, pl, S.kept-inside _ _ _ _ _ _ _ _ kj (pl .width) .0)))
-    (λ c κs. (S.kept-few _ _ _ _ _ _ _ ((S.found-all _ _ _ _ _ _ _ _ (c .before .before .before .before .before .before .before .before .before .before .before .before .before .read-positions2 .ensures .2 (c .before .before .before .before .before .before .before .before .before .before .before .before .before .before .before .before .before .before .before .before .before .before .before .before .before .before .before .before .pre .0 .terms) (c .before .before .before .before .before .before .before .before .before .before .before .before .before .before .before .before .before .before .before .before .before .before .before .before .before .before .before .before .pre .0 .terms-listed)) (c .before .before .before .before .before .before .before .before .before .before .before .m .given .1)) .1) (c .before .before .before .before .before .before .before .before .before .before .before .before .before .before .before .before .before .before .before .before .before .before .before .before .before .before .before .before .pre .0 .terms-listed), c .before .before .before .before .before .before .before .before .before .before .before .before .before .read-positions2 .ensures .0, let w = c .before .before .before .before .before .before .before .before .before .before .before .before .before .before .before .before .before .before .before .before .before .before .find-columns .ensures .1 _ (c .before .before .before .before .before .before .before .before .before .before .before .before .before .before .before .before .before .before .before .before .before .before .before .before .before .before .before .before .pre .0 .stands .lines) .0 in let n = c .before .before .before .before .before .before .before .before .before .before .before .before .before .before .before .before .before .before .before .before .before .before .before .before .before .before .before .before .pre .0 .narrow in omega arith))
-    (λ c κs. (S.kept-few _ _ _ _ _ _ _ ((S.found-all _ _ _ _ _ _ _ _ (c .before .before .before .before .before .before .before .before .before .before .before .before .before .before .before .before .before .before .before .before .before .read-positions .ensures .2 (c .before .before .before .before .before .before .before .before .before .before .before .before .before .before .before .before .before .before .before .before .before .before .before .before .before .before .before .before .before .before .pre .0 .joins) (c .before .before .before .before .before .before .before .before .before .before .before .before .before .before .before .before .before .before .before .before .before .before .before .before .before .before .before .before .before .before .pre .0 .joins-listed)) (c .before .before .before .before .before .before .before .before .before .before .before .before .before .before .before .before .before .before .before .k .given .1)) .1) (c .before .before .before .before .before .before .before .before .before .before .before .before .before .before .before .before .before .before .before .before .before .before .before .before .before .before .before .before .before .before .pre .0 .joins-listed), c .before .before .before .before .before .before .before .before .before .before .before .before .before .before .before .before .before .before .before .before .before .read-positions .ensures .0, let w = c .before .before .before .before .before .before .before .before .before .before .before .before .before .before .before .before .before .before .before .before .before .before .before .before .find-columns .ensures .1 _ (c .before .before .before .before .before .before .before .before .before .before .before .before .before .before .before .before .before .before .before .before .before .before .before .before .before .before .before .before .before .before .pre .0 .stands .lines) .0 in let n = c .before .before .before .before .before .before .before .before .before .before .before .before .before .before .before .before .before .before .before .before .before .before .before .before .before .before .before .before .before .before .pre .0 .narrow in omega arith))
+    (λ c κs. let c11 = c .before .before .before .before .before .before .before .before .before .before .before in let c13 = c11 .before .before in let c16 = c13 .before .before .before in let c22 = c16 .before .before .before .before .before .before in let kj = (S.found-all _ _ _ _ _ _ _ _ (c13 .read-positions .ensures .2 (c22 .pre .0 .joins) (c22 .pre .0 .joins-listed)) (c11 .k .given .1)) in
+    let pl = (S.placed-at _ _ _ _ _ _ _ _ (c22 .pre .0 .projection) (c22 .pre .0 .stands) (c22 .pre .0 .narrow) (c16 .find-columns .ensures)) in
+    (c22 .pre .1, c22 .pre .2, c22 .pre .3, c22 .pre .4, c22 .pre .5, S.kept-few _ _ _ _ _ _ _ (kj .1) (c22 .pre .0 .joins-listed), c13 .read-positions .ensures .0, (c22 .pre .0 .projection, pl, S.kept-inside _ _ _ _ _ _ _ _ kj (pl .width) .0)))
+    (λ c κs. let c11 = c .before .before .before .before .before .before .before .before .before .before .before in let c13 = c11 .before .before in let c22 = c13 .before .before .before .before .before .before .before .before .before in let c28 = c22 .before .before .before .before .before .before in (S.kept-few _ _ _ _ _ _ _ ((S.found-all _ _ _ _ _ _ _ _ (c13 .read-positions2 .ensures .2 (c28 .pre .0 .terms) (c28 .pre .0 .terms-listed)) (c11 .m .given .1)) .1) (c28 .pre .0 .terms-listed), c13 .read-positions2 .ensures .0, let w = c22 .find-columns .ensures .1 _ (c28 .pre .0 .stands .lines) .0 in let n = c28 .pre .0 .narrow in omega arith))
+    (λ c κs. let c19 = c .before .before .before .before .before .before .before .before .before .before .before .before .before .before .before .before .before .before .before in let c21 = c19 .before .before in let c24 = c21 .before .before .before in let c30 = c24 .before .before .before .before .before .before in (S.kept-few _ _ _ _ _ _ _ ((S.found-all _ _ _ _ _ _ _ _ (c21 .read-positions .ensures .2 (c30 .pre .0 .joins) (c30 .pre .0 .joins-listed)) (c19 .k .given .1)) .1) (c30 .pre .0 .joins-listed), c21 .read-positions .ensures .0, let w = c24 .find-columns .ensures .1 _ (c30 .pre .0 .stands .lines) .0 in let n = c30 .pre .0 .narrow in omega arith))
     (λ c. search needs)
     (λ c. search needs)
     (λ c. (

@@ -23,4 +23,4 @@ put-values-spec =
     (λ c κs. search needs)
     (λ c κs. search needs)
     (λ c. search needs)
-    (λ c. λ ks k. Lines.values-put _ _ _ _ _ _ _ _ _ _ _ _ (c .before .before .before .before .before .before .before .before .before .before .before .before .before .before .before .before .before .before .before .before .before .before .before .before .before .before .before .before .before .before .before .if1 .left) (c .before .before .before .before .before .before .before .before .before .before .before .before .before .before .before .before .before .before .before .before .before .before .before .before .before .before .before .before .put-all .ensures) (c .before .before .before .before .before .before .before .before .before .before .before .before .before .before .before .before .before .before .before .before .before .before .before .before .put-decimal .ensures) (c .before .before .before .before .before .before .before .before .before .before .before .before .before .before .before .before .before .before .before .put-all2 .ensures) (c .before .before .before .before .before .before .before .before .before .before .before .before .before .before .before .put-columns .ensures) (c .before .before .before .before .before .before .before .before .before .before .put-all3 .ensures) (c .before .before .before .before .before .before .put-terms .ensures ks k) (c .before .before .put .ensures)))
+    (λ c. let c2 = c .before .before in let c6 = c2 .before .before .before .before in let c10 = c6 .before .before .before .before in let c15 = c10 .before .before .before .before .before in let c19 = c15 .before .before .before .before in let c24 = c19 .before .before .before .before .before in let c28 = c24 .before .before .before .before in let c31 = c28 .before .before .before in λ ks k. Lines.values-put _ _ _ _ _ _ _ _ _ _ _ _ (c31 .if1 .left) (c28 .put-all .ensures) (c24 .put-decimal .ensures) (c19 .put-all2 .ensures) (c15 .put-columns .ensures) (c10 .put-all3 .ensures) (c6 .put-terms .ensures ks k) (c2 .put .ensures)))
