@@ -2,8 +2,9 @@
 use mathlib.Core.Path.{_≡_, refl, sym, ap, ap₂, subst, _∙_}
 use mathlib.Core.List.{List, [], _∷_, _++_}
 use mathlib.Core.Bool.{Bool, true, false, cond, _||_}
+use mathlib.Core.Logic.{⊎-elim}
 use Prim.Native.Nat.{ℕ, zero, suc, _+_, _≤_, _<_}
-use native.Mathlib.Nat.{le-refl, le-step}
+use native.Mathlib.Nat.{le-refl, le-step, eq-or-lt-of-le}
 use native.Mathlib.Decide.{decLe}
 use native.Mathlib.Numerals.{add-one}
 use native.Mathlib.Omega.{arith}
@@ -28,7 +29,7 @@ book-long s f l g n (suc m) = ap suc (book-long s f l g n m)
 -- no push
 pub stored-none : (s : Bytes) (f l h g n : List ℕ) → length f ≡ 1024 → length l ≡ 1024 → length h ≡ 4096 → length g ≡ 1024 → length n ≡ 1024 → Stored s f l h g n 0
 unfolding listing
-stored-none s f l h g n a b c d e = record { few = omega arith; bases = holds-none s f l h a b c; tags = d; numbers = e }
+stored-none s f l h g n a b c d e = record { few = omega arith; bases = holds-none s f l h a b c; prefixes = d; numbers = e; small = λ k q. absurd (omega arith) }
 
 -- ---- the arrays agree
 
@@ -86,8 +87,14 @@ module _ (s : Bytes) (f l h g n : List ℕ) (m : ℕ) (stored : Stored s f l h g
     long : length (listing s f l m) ≡ m
     long = listing-long s f l m
 
-    own : r ≤ 1024 → (g′ n′ : List ℕ) → length g′ ≡ length g → length n′ ≡ length n → Stored s f′ l′ h′ g′ n′ r
-    own few g′ n′ eg en = record { few = few; bases = subst (λ (ns : List Bytes). Holds s f′ l′ h′ r ns) (sym (holds .fits few)) holds; tags = eg ∙ stored .tags; numbers = en ∙ stored .numbers }
+    own : r ≤ 1024 → (g′ n′ : List ℕ) → length g′ ≡ length g → length n′ ≡ length n → ((d : ℕ) → d < r → getD g′ d 0 < 256) → Stored s f′ l′ h′ g′ n′ r
+    own few g′ n′ eg en small = record {
+      few = few;
+      bases = subst (λ (ns : List Bytes). Holds s f′ l′ h′ r ns) (sym (holds .fits few)) holds;
+      prefixes = eg ∙ stored .prefixes;
+      numbers = en ∙ stored .numbers;
+      small = small;
+    }
 
     -- the base was there
     was-there : r ≡ m → mem b (listing s f l m) ≡ true
@@ -116,7 +123,7 @@ module _ (s : Bytes) (f l h g n : List ℕ) (m : ℕ) (stored : Stored s f l h g
     push-known eq =
         let few : r ≤ 1024 = let most = stored .few in omega arith in (
           book-agree s f′ l′ g n f l g n m (stays few (omega arith)) (λ j low. refl) (λ j low. refl) ∙ there (contains-listed s f l g n b m (was-there eq)),
-          subst (λ (d : ℕ). Stored s f′ l′ h′ g n d) eq (own few g n refl refl),
+          subst (λ (d : ℕ). Stored s f′ l′ h′ g n d) eq (own few g n refl refl (λ d w. stored .small d (omega arith))),
         )
 
     module _ (more : r ≡ m → ⊥) where
@@ -134,9 +141,9 @@ module _ (s : Bytes) (f l h g n : List ℕ) (m : ℕ) (stored : Stored s f l h g
       pub push-room : m ≤ i → (contains (base v) ps ≡ false → m < 1024) → m < 1024
       push-room high room = room (not-there high)
 
-      pub push-new : m ≤ i → (contains (base v) ps ≡ false → m < 1024) → (g′ n′ : List ℕ) → (g′ ≡ set g m p) × (n′ ≡ set n m c) → (book s f′ l′ g′ n′ r ≡ pushed p c v ps) × Stored s f′ l′ h′ g′ n′ r
+      pub push-new : m ≤ i → (contains (base v) ps ≡ false → m < 1024) → p < 256 → (g′ n′ : List ℕ) → (g′ ≡ set g m p) × (n′ ≡ set n m c) → (book s f′ l′ g′ n′ r ≡ pushed p c v ps) × Stored s f′ l′ h′ g′ n′ r
       unfolding pushed book
-      push-new high room g′ n′ put =
+      push-new high room byte g′ n′ put =
           let small = room (not-there high) in
           let ns = listing s f l m in
           let now : kept b ns ≡ ns ++ (b ∷ []) = ap (λ (t : Bool). cond t ns (ns ++ (b ∷ []))) was-new in
@@ -147,7 +154,7 @@ module _ (s : Bytes) (f l h g n : List ℕ) (m : ℕ) (stored : Stored s f l h g
           ∙ ap (λ (xs : List Bytes). getD xs m []) (holds .fits (omega arith) ∙ now)
           ∙ ap (λ (d : ℕ). getD (ns ++ (b ∷ [])) d []) (sym long)
           ∙ getD-append-seam ns b [] [] in
-          let lg = stored .tags in
+          let lg = stored .prefixes in
           let ln = stored .numbers in
           let tag : getD g′ m 0 ≡ p = ap (λ (y : List ℕ). getD y m 0) (put .0) ∙ getD-set-same g m p 0 (omega arith) in
           let number : getD n′ m 0 ≡ c = ap (λ (y : List ℕ). getD y m 0) (put .1) ∙ getD-set-same n m c 0 (omega arith) in
@@ -157,5 +164,5 @@ module _ (s : Bytes) (f l h g n : List ℕ) (m : ℕ) (stored : Stored s f l h g
                 ∙ (λ j. aPush (last j) (tag j) (number j) ∷ before j)
                 ∙ ap (λ (u : Bytes). aPush u p c ∷ ps) is
                 ∙ sym (ap (λ (t : Bool). cond t ps (aPush (base v) p c ∷ ps)) (not-there high)),
-            own (omega arith) g′ n′ (ap length (put .0) ∙ length-set g m p) (ap length (put .1) ∙ length-set n m c),
+            own (omega arith) g′ n′ (ap length (put .0) ∙ length-set g m p) (ap length (put .1) ∙ length-set n m c) (λ d w. ⊎-elim (λ (t : d ≡ m). rw (t, tag) byte) (λ (t : d < m). rw (put .0, other g m p d t) (stored .small d t)) (eq-or-lt-of-le (omega arith))),
           )

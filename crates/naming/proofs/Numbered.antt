@@ -1,5 +1,5 @@
 -- Laws of the loops over the join variables and over the table's flags, one for each turn and end. Assumes nothing.
-use mathlib.Core.Path.{_≡_, refl, sym, ap, _∙_}
+use mathlib.Core.Path.{_≡_, refl, sym, ap, ap₂, _∙_}
 use mathlib.Core.List.{List, [], _∷_, _++_}
 use mathlib.Core.Bool.{Bool, true, false, cond, _||_, false≢true}
 use Prim.Native.Nat.{ℕ, zero, suc, _+_, _-_, _≤_, _<_}
@@ -38,15 +38,19 @@ unfolding pushes
 pushes-append p c d [] us ps e = ap (λ (k : ℕ). pushes p k us ps) (omega arith)
 pushes-append p c d (v ∷ vs) us ps e = pushes-append p (suc c) d vs us (pushed p c v ps) (omega arith)
 
--- the join variables, then the names in scope, then the hidden ones
-pub all-three : (p c : ℕ) (flags : List ℕ) (vs ns : List Bytes) (ps qs rs : List Push) → ps ≡ pushes 106 0 vs [] → qs ≡ pushes p 0 (chosen 0 flags ns) ps → c ≡ 0 + length (chosen 0 flags ns)
-    → rs ≡ pushes p c (chosen 1024 flags ns) qs → rs ≡ allPushes p (numberedBy flags ns) vs
-unfolding allPushes numberedBy
-all-three p c flags vs ns ps qs rs x y e z =
+-- the names in scope, then the hidden ones
+pub both-flags : (p q c : ℕ) (flags : List ℕ) (ns : List Bytes) (ps qs rs : List Push) → qs ≡ pushes p 0 (chosen 0 flags ns) ps → q ≡ p → c ≡ 0 + length (chosen 0 flags ns)
+    → rs ≡ pushes q c (chosen 1024 flags ns) qs → rs ≡ pushes p 0 (numberedBy flags ns) ps
+unfolding numberedBy
+both-flags p q c flags ns ps qs rs y o e z =
     z
-    ∙ ap (pushes p c (chosen 1024 flags ns)) y
+    ∙ ap₂ (λ (d : ℕ) (xs : List Push). pushes d c (chosen 1024 flags ns) xs) o y
     ∙ sym (pushes-append p 0 c (chosen 0 flags ns) (chosen 1024 flags ns) ps e)
-    ∙ ap (pushes p 0 (chosen 0 flags ns ++ chosen 1024 flags ns)) x
+
+-- the join variables before them
+pub all-pushes : (p : ℕ) (vs js : List Bytes) (ps qs : List Push) → ps ≡ pushes 106 0 js [] → qs ≡ pushes p 0 vs ps → qs ≡ allPushes p vs js
+unfolding allPushes
+all-pushes p vs js ps qs x y = y ∙ ap (pushes p 0 vs) x
 
 -- ---- the join variables
 
@@ -142,10 +146,11 @@ module _ (s : Bytes) (a l flags : List ℕ) (at n p c₀ : ℕ) (ps₀ : List Pu
       record { low = omega arith; few = omega arith; room = r; does = ap (λ (x : List Bytes). pushes p c₀ x ps₀) z; counts = ap (λ (x : List Bytes). c₀ + length x) z }
 
   module _ (ps : List Push) (c k : ℕ) (to : PushedTo s a l flags at n p c₀ ps₀ ps c k) where
-    pub flags-next : (qs : List Push) (d : ℕ) (h : k < n) → qs ≡ pushes p c (one s a l flags at n k h) ps → d ≡ c + length (one s a l flags at n k h) → PushedTo s a l flags at n p c₀ ps₀ qs d (k + 1)
+    pub flags-next : (qs : List Push) (q d : ℕ) (h : k < n) → q ≡ p → qs ≡ pushes q c (one s a l flags at n k h) ps → d ≡ c + length (one s a l flags at n k h) → PushedTo s a l flags at n p c₀ ps₀ qs d (k + 1)
     unfolding mem
-    flags-next qs d h does counts =
+    flags-next qs q d h e made counts =
         let step = chosen-next s a l flags at n k h in
+        let does : qs ≡ pushes p c (one s a l flags at n k h) ps = made ∙ ap (λ (x : ℕ). pushes x c (one s a l flags at n k h) ps) e in
         record {
           low = omega arith;
           few = grows (eqb (getD flags (at + k) 0) 0) counts;

@@ -97,25 +97,20 @@ piece-kept o o′ at a z h k j e =
 
 -- ---- one name
 
-module _ (ps : List Push) (s : Bytes) (a l : List ℕ) (i x y : ℕ) (f : Bytes) (ex : x ≡ getD a i 0) (ey : y ≡ getD l i 0) (ef : f ≡ piece x y s) (h : Hit) (says : said h ≡ lookup f ps)
-    (at r : ℕ) (pool pool′ : Bytes) (put : Laid (written h) at r pool pool′) (room : at + 12 ≤ length pool) where
+module _ (h : Hit) (i at r : ℕ) (pool pool′ : Bytes) (put : Laid (written h) at r pool pool′) (room : at + 12 ≤ length pool) where
   fits : at + length (written h) ≤ length pool
   fits = omega (arith, put .size, room)
 
-  named : orSelf (said h) (nameAt s a l i) ≡ newName ps (nameAt s a l i)
-  unfolding newName
-  named = ap (λ (o : Option Bytes). orSelf o (nameAt s a l i)) (says ∙ ap (λ (w : Bytes). lookup w ps) (ef ∙ ap₂ (λ (p q : ℕ). piece p q s) ex ey))
-
-  settled : (targets spans : List ℕ) → i < length targets → i < length spans → Settled ps (nameAt s a l i) i at r pool targets spans pool′ (set targets i at) (set spans i (r - at))
+  settled : (targets spans : List ℕ) → i < length targets → i < length spans → Settled h i at r pool targets spans pool′ (set targets i at) (set spans i (r - at))
   settled targets spans ht hs =
       let span : r - at ≡ length (written h) = omega (arith, put .end) in
       let t : getD (set targets i at) i 0 ≡ at = getD-set-same targets i at 0 ht in
       let u : getD (set spans i (r - at)) i 0 ≡ r - at = getD-set-same spans i (r - at) 0 hs in
       record {
-        here = ap₂ (λ (p q : ℕ). cond (eqb q 0) (nameAt s a l i) (piece p q pool′)) t (u ∙ span)
-            ∙ ap (λ (o : Bytes). cond (eqb (length (written h)) 0) (nameAt s a l i) o) (ap (λ (o : Bytes). piece at (length (written h)) o) (put .over) ∙ sets-piece (written h) pool at fits)
-            ∙ picks (nameAt s a l i) h
-            ∙ named;
+        here = λ w.
+            ap₂ (λ (p q : ℕ). cond (eqb q 0) w (piece p q pool′)) t (u ∙ span)
+            ∙ ap (λ (o : Bytes). cond (eqb (length (written h)) 0) w o) (ap (λ (o : Bytes). piece at (length (written h)) o) (put .over) ∙ sets-piece (written h) pool at fits)
+            ∙ picks w h;
         inside = omega (arith, t, u, put .end);
         low = omega (arith, put .end);
         high = omega (arith, put .end, put .size);
@@ -124,10 +119,10 @@ module _ (ps : List Push) (s : Bytes) (a l : List ℕ) (i x y : ℕ) (f : Bytes)
       }
 
   -- the entry of the name is its start and its size
-  pub settles : (t : List (List ℕ)) → i < length t → Settled ps (nameAt s a l i) i at r pool (startsOf t) (sizesOf t) pool′ (startsOf (set t i (at ∷ (r - at) ∷ []))) (sizesOf (set t i (at ∷ (r - at) ∷ [])))
-  settles t h =
+  pub settles : (t : List (List ℕ)) → i < length t → Settled h i at r pool (startsOf t) (sizesOf t) pool′ (startsOf (set t i (at ∷ (r - at) ∷ []))) (sizesOf (set t i (at ∷ (r - at) ∷ [])))
+  settles t few =
       rw (column-set 0 t i (at ∷ (r - at) ∷ []), column-set 1 t i (at ∷ (r - at) ∷ []))
-      (settled (startsOf t) (sizesOf t) (omega (arith, h, column-length 0 t)) (omega (arith, h, column-length 1 t)))
+      (settled (startsOf t) (sizesOf t) (omega (arith, few, column-length 0 t)) (omega (arith, few, column-length 1 t)))
 
 -- ---- one more
 
@@ -136,7 +131,12 @@ module _ (ps : List Push) (s : Bytes) (a l : List ℕ) where
   settled-none pool targets spans = record { each = λ j h. absurd (omega arith); behind = λ k h. refl }
 
   module _ (i at r : ℕ) (pool targets spans spans₀ pool′ targets′ spans′ : List ℕ) (to : SettledTo ps s a l i at pool targets spans spans₀)
-      (one : Settled ps (nameAt s a l i) i at r pool targets spans pool′ targets′ spans′) (in-pool : at ≤ length pool) (same-long : length pool′ ≡ length pool) where
+      (h : Hit) (one : Settled h i at r pool targets spans pool′ targets′ spans′) (in-pool : at ≤ length pool) (same-long : length pool′ ≡ length pool)
+      (x y : ℕ) (f : Bytes) (ex : x ≡ getD a i 0) (ey : y ≡ getD l i 0) (ef : f ≡ piece x y s) (says : said h ≡ lookup f ps) where
+    named : orSelf (said h) (nameAt s a l i) ≡ newName ps (nameAt s a l i)
+    unfolding newName
+    named = ap (λ (o : Option Bytes). orSelf o (nameAt s a l i)) (says ∙ ap (λ (w : Bytes). lookup w ps) (ef ∙ ap₂ (λ (p q : ℕ). piece p q s) ex ey))
+
     stays : (j : ℕ) → j < i → (w : Bytes) → becomesAt pool′ targets′ spans′ j w ≡ becomesAt pool targets spans j w
     stays j h w =
         let o = one .others j (λ q. omega arith) in
@@ -150,7 +150,7 @@ module _ (ps : List Push) (s : Bytes) (a l : List ℕ) where
         each : (j : ℕ) → j < i + 1 → (becomesAt pool′ targets′ spans′ j (nameAt s a l j) ≡ newName ps (nameAt s a l j)) × (getD targets′ j 0 + getD spans′ j 0 ≤ r)
         each j h =
             ⊎-elim
-            (λ (q : j ≡ i). rw q (one .here, one .inside))
+            (λ (q : j ≡ i). rw q (one .here (nameAt s a l i) ∙ named, one .inside))
             (λ (q : j < i).
             let o = one .others j (λ z. omega arith) in
             (stays j q (nameAt s a l j) ∙ to .each j q .0, omega (arith, o .0, o .1, to .each j q .1, one .low)))

@@ -4,6 +4,7 @@ use crate::numbers::put_generated;
 use crate::numbers::wide;
 use crate::pushes::find_label;
 use crate::pushes::push_all;
+use crate::pushes::push_joins;
 use emit::put_all;
 use names::Entry;
 use names::find_name;
@@ -11,9 +12,9 @@ use text::piece;
 ghost use mathlib.Core.Path.{_≡_};
 ghost use Prim.Native.Nat.{ℕ, _+_, _≤_, _<_};
 ghost use lib.ListN.{length, getD};
-ghost use Rattle.names.specs.bridge.Names.{startsOf, sizesOf, namesIn, nameIn};
+ghost use Rattle.names.specs.bridge.Names.{startsOf, sizesOf, namesIn};
 ghost use Rattle.scoping.specs.bridge.Pushes.{lookup, allPushes};
-ghost use Rattle.naming.specs.bridge.Code.{book, Stored, Apart, numberedBy, namesAt, said, written, Laid, Settled, Standard};
+ghost use Rattle.naming.specs.bridge.Code.{bookOf, StoredIn, Apart, numberedBy, namesAt, said, written, Laid, Settled, Standard};
 
 // What was found for a name: nothing, a prefix and a number, or these with Label behind them.
 enum Hit {
@@ -28,20 +29,21 @@ fn find_push(
     text: &[u8],
     listed: &[Entry; 1024],
     hints: &[u16; 4096],
-    tags: &[u8; 1024],
-    numbers: &[u16; 1024],
+    marks: &[Entry; 1024],
     m: usize,
 ) -> Hit
-    requires { ⌜ Stored (now text) (startsOf (now listed)) (sizesOf (now listed)) (now hints) (now tags) (now numbers) m × Apart (book (now text) (startsOf (now listed)) (sizesOf (now listed)) (now tags) (now numbers) m) ⌝ }
-    ensures { λ r. ⌜ said r ≡ lookup (now (f .entry)) (book (now (text .entry)) (startsOf (now (listed .entry))) (sizesOf (now (listed .entry))) (now (tags .entry)) (now (numbers .entry)) m) ⌝ }
+    requires { ⌜ StoredIn (now text) (now listed) (now hints) (now marks) m × Apart (bookOf (now text) (now listed) (now marks) m) ⌝ }
+    ensures { λ r. ⌜ said r ≡ lookup (now (f .entry)) (bookOf (now (text .entry)) (now (listed .entry)) (now (marks .entry)) m) ⌝ }
 {
     let i = find_label(f, text, listed, hints, m);
     if i < m {
-        return Hit::Labelled(tags[i], numbers[i]);
+        let e = marks[i];
+        return Hit::Labelled(e[0] as u8, e[1]);
     }
     let k = find_name(f, text, listed, hints, m);
     if k < m {
-        return Hit::Plain(tags[k], numbers[k]);
+        let e = marks[k];
+        return Hit::Plain(e[0] as u8, e[1]);
     }
     Hit::Missing
 }
@@ -61,26 +63,11 @@ fn put_hit(out: &mut [u8], at: usize, h: Hit) -> usize
     }
 }
 
-// The new name of the name at entry k, put into the pool at `at`: its start and size are kept, a size of 0 where the name stays.
-fn set_new_name(
-    text: &[u8],
-    table: &[Entry; 1024],
-    k: usize,
-    listed: &[Entry; 1024],
-    hints: &[u16; 4096],
-    tags: &[u8; 1024],
-    numbers: &[u16; 1024],
-    m: usize,
-    pool: &mut [u8],
-    at: usize,
-    news: &mut [Entry],
-) -> usize
-    requires { ⌜ (k < 1024) × Stored (now text) (startsOf (now listed)) (sizesOf (now listed)) (now hints) (now tags) (now numbers) m × Apart (book (now text) (startsOf (now listed)) (sizesOf (now listed)) (now tags) (now numbers) m) × (at + 12 ≤ 16384) × (16384 ≤ length (now pool)) × (length (now news) ≡ 1024) ⌝ }
-    ensures { λ r. ⌜ Settled (book (now (text .entry)) (startsOf (now (listed .entry))) (sizesOf (now (listed .entry))) (now (tags .entry)) (now (numbers .entry)) m) (nameIn (now (text .entry)) (now (table .entry)) k) k at r (now (pool .entry)) (startsOf (now (news .entry))) (sizesOf (now (news .entry))) (now (pool .exit)) (startsOf (now (news .exit))) (sizesOf (now (news .exit))) ⌝ }
+// What was found for the name at entry k, put into the pool at `at`: its start and size are kept, a size of 0 where the name stays.
+fn set_new_name(h: Hit, k: usize, pool: &mut [u8], at: usize, news: &mut [Entry]) -> usize
+    requires { ⌜ (k < 1024) × (at + 12 ≤ 16384) × (16384 ≤ length (now pool)) × (length (now news) ≡ 1024) ⌝ }
+    ensures { λ r. ⌜ Settled h k at r (now (pool .entry)) (startsOf (now (news .entry))) (sizesOf (now (news .entry))) (now (pool .exit)) (startsOf (now (news .exit))) (sizesOf (now (news .exit))) ⌝ }
 {
-    let e = table[k];
-    let f = piece(text, wide(e[0]), wide(e[1]));
-    let h = find_push(f, text, listed, hints, tags, numbers, m);
     let to = put_hit(pool, at, h);
     news[k] = [at as u16, (to - at) as u16];
     to
@@ -93,31 +80,21 @@ fn set_new_names(
     n: usize,
     listed: &[Entry; 1024],
     hints: &[u16; 4096],
-    tags: &[u8; 1024],
-    numbers: &[u16; 1024],
+    marks: &[Entry; 1024],
     m: usize,
     pool: &mut [u8],
     news: &mut [Entry],
 )
-    requires { ⌜ (n ≤ 1024) × Stored (now text) (startsOf (now listed)) (sizesOf (now listed)) (now hints) (now tags) (now numbers) m × Apart (book (now text) (startsOf (now listed)) (sizesOf (now listed)) (now tags) (now numbers) m) × (16384 ≤ length (now pool)) × (length (now news) ≡ 1024) ⌝ }
-    ensures { λ _. ⌜ Standard (book (now (text .entry)) (startsOf (now (listed .entry))) (sizesOf (now (listed .entry))) (now (tags .entry)) (now (numbers .entry)) m) (namesIn (now (text .entry)) (now (table .entry)) n) n (now (pool .exit)) (startsOf (now (news .exit))) (sizesOf (now (news .exit))) (sizesOf (now (news .entry))) ⌝ }
+    requires { ⌜ (n ≤ 1024) × StoredIn (now text) (now listed) (now hints) (now marks) m × Apart (bookOf (now text) (now listed) (now marks) m) × (16384 ≤ length (now pool)) × (length (now news) ≡ 1024) ⌝ }
+    ensures { λ _. ⌜ Standard (bookOf (now (text .entry)) (now (listed .entry)) (now (marks .entry)) m) (namesIn (now (text .entry)) (now (table .entry)) n) n (now (pool .exit)) (startsOf (now (news .exit))) (sizesOf (now (news .exit))) (sizesOf (now (news .entry))) ⌝ }
 {
     let mut at = 0;
     let mut k = 0;
     while k < n {
-        at = set_new_name(
-            text,
-            table,
-            k,
-            listed,
-            hints,
-            tags,
-            numbers,
-            m,
-            pool,
-            at,
-            news,
-        );
+        let e = table[k];
+        let f = piece(text, wide(e[0]), wide(e[1]));
+        let h = find_push(f, text, listed, hints, marks, m);
+        at = set_new_name(h, k, pool, at, news);
         k += 1;
     }
 }
@@ -140,31 +117,18 @@ pub fn standardize_variables(
 {
     let mut listed = [[0u16; 2]; 1024];
     let mut hints = [0u16; 4096];
-    let mut tags = [0u8; 1024];
-    let mut numbers = [0u16; 1024];
+    let mut marks = [[0u16; 2]; 1024];
+    let j = push_joins(text, table, joins, m, &mut listed, &mut hints, &mut marks);
     let k = push_all(
         text,
         table,
         n,
         flags,
         prefix,
-        joins,
-        m,
         &mut listed,
         &mut hints,
-        &mut tags,
-        &mut numbers,
+        &mut marks,
+        j,
     );
-    set_new_names(
-        text,
-        table,
-        n,
-        &listed,
-        &hints,
-        &tags,
-        &numbers,
-        k,
-        pool,
-        news,
-    );
+    set_new_names(text, table, n, &listed, &hints, &marks, k, pool, news);
 }

@@ -9,8 +9,9 @@ use lib.Seq.{sets}
 use lib.Dec.{eqb}
 use Rattle.text.specs.Text.{Bytes, same, piece}
 use Rattle.algebra.specs.Valid.{mem}
-use Rattle.names.specs.bridge.Names.{nameAt, listing, Holds}
+use Rattle.names.specs.bridge.Names.{column, startsOf, sizesOf, nameAt, listing, Holds}
 use Rattle.scoping.specs.Label.{label, base, generated}
+use Rattle.scoping.specs.Standardize.{orSelf}
 use Rattle.scoping.specs.bridge.Pushes.{Push, aPush, contains, newName}
 use Rattle.scoping.specs.bridge.Becomes.{replacement}
 use Rattle.scoping.specs.bridge.Becomes.{chosen}
@@ -21,15 +22,29 @@ use Rattle.naming.specs.declared.new_names.Hit.the-variants.{Missing, Pl
 
 -- the first m pushes, the last one first: start and size of the base in the text s, prefix byte, number
 unfoldable pub book : Bytes → List ℕ → List ℕ → List ℕ → List ℕ → ℕ → List Push
-book s froms lens tags numbers zero = []
-book s froms lens tags numbers (suc m) = aPush (nameAt s froms lens m) (getD tags m 0) (getD numbers m 0) ∷ book s froms lens tags numbers m
+book s froms lens prefixes numbers zero = []
+book s froms lens prefixes numbers (suc m) = aPush (nameAt s froms lens m) (getD prefixes m 0) (getD numbers m 0) ∷ book s froms lens prefixes numbers m
 
--- their arrays: the bases are a table of names with hints h, and t and n have 1,024 entries
+-- their arrays: the bases are a table of names with hints h; t and n have 1,024 entries, and the prefixes in t are bytes
 pub record Stored (s : Bytes) (f l h t n : List ℕ) (m : ℕ) : Type 0 where
   pub few : m ≤ 1024
   pub bases : Holds s f l h m (listing s f l m)
-  pub tags : length t ≡ 1024
+  pub prefixes : length t ≡ 1024
   pub numbers : length n ≡ 1024
+  pub small : (k : ℕ) → k < m → getD t k 0 < 256
+
+-- the same by the code's two tables: starts and sizes of the bases are listed, and each push is marked with its prefix and its number
+abbrev pub prefixesOf : List (List ℕ) → List ℕ
+prefixesOf marks = column 0 marks
+
+abbrev pub numbersOf : List (List ℕ) → List ℕ
+numbersOf marks = column 1 marks
+
+abbrev pub bookOf : Bytes → List (List ℕ) → List (List ℕ) → ℕ → List Push
+bookOf s listed marks m = book s (startsOf listed) (sizesOf listed) (prefixesOf marks) (numbersOf marks) m
+
+abbrev pub StoredIn : Bytes → List (List ℕ) → List ℕ → List (List ℕ) → ℕ → Type 0
+StoredIn s listed hints marks m = Stored s (startsOf listed) (sizesOf listed) hints (prefixesOf marks) (numbersOf marks) m
 
 -- no push has a base that was there before it
 unfoldable pub Apart : List Push → Type 0
@@ -88,9 +103,9 @@ pub record Laid (b : Bytes) (at r : ℕ) (pool pool′ : Bytes) : Type 0 where
 abbrev pub becomesAt : Bytes → List ℕ → List ℕ → ℕ → Bytes → Bytes
 becomesAt pool targets spans j w = cond (eqb (getD spans j 0) 0) w (piece (getD targets j 0) (getD spans j 0) pool)
 
--- the new name of w was put at `at` of the pool, for entry i, and r is behind it; the rest is as it was
-pub record Settled (ps : List Push) (w : Bytes) (i at r : ℕ) (pool targets spans pool′ targets′ spans′ : List ℕ) : Type 0 where
-  pub here : becomesAt pool′ targets′ spans′ i w ≡ newName ps w
+-- what was found was put at `at` of the pool, for the name at entry i, and r is behind it; the rest is as it was
+pub record Settled (h : Hit) (i at r : ℕ) (pool targets spans pool′ targets′ spans′ : List ℕ) : Type 0 where
+  pub here : (w : Bytes) → becomesAt pool′ targets′ spans′ i w ≡ orSelf (said h) w
   pub inside : getD targets′ i 0 + getD spans′ i 0 ≤ r
   pub low : at ≤ r
   pub high : r ≤ at + 12

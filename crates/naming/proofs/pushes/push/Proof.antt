@@ -2,6 +2,7 @@
 use Rattle.names.specs.bridge.Names.{startsOf, sizesOf}
 use Rattle.names.proofs.Columns as R
 use borrow.Author.Needs.{needs}
+use native.Mathlib.Omega.{arith}
 use Rattle.naming.proofs.Book as L
 use Rattle.naming.proofs.pushes.push.Statement.{statement}
 use Rattle.naming.proofs.pushes.push.Tie as tie
@@ -17,8 +18,11 @@ push-spec =
     (λ c κs. search needs)
     (λ c κs. search needs)
     (λ c κs. (c .before .before .before .before .before .before .before .pre .2 .few, c .before .before .before .before .before .before .before .pre .2 .bases .hinted (c .before .before .before .before .before .before .before .pre .2 .few)))
-    (λ c. let s = c .before .before .before .before .before .before .before .before .before in L.push-labelled _ _ _ _ _ _ _ (s .pre .2) (startsOf (s .args .table .now)) (sizesOf (s .args .table .now)) (s .args .k) _ _ (R.column-is 0 (s .args .table .now) (s .args .k) _ (c .before .before .before .before .before .before .wide .ensures .0), c .before .before .before .before .before .before .wide .ensures .1) (c .before .before .before .before .before .base-at .ensures) _ (c .before .before .before .before .piece .ensures) _ (c .before .find-label .ensures) (s .args .prefix) (s .args .count) (c .if1 .taken))
+    (λ c. let s = c .before .before .before .before .before .before .before .before .before in L.push-labelled _ _ _ _ _ _ _ (s .pre .2) (startsOf (s .args .table .now)) (sizesOf (s .args .table .now)) (s .args .k) _ _ (R.column-is 0 (s .args .table .now) (s .args .k) _ (c .before .before .before .before .before .before .wide .ensures .0), c .before .before .before .before .before .before .wide .ensures .1) (c .before .before .before .before .before .base-at .ensures) _ (c .before .before .before .before .piece .ensures) _ (c .before .find-label .ensures) (s .args .next .prefix) (s .args .next .count) (c .if1 .taken))
     (λ c κs. search needs)
-    (λ c. let c5 = c .before .before .before .before .before in let c8 = c5 .before .before .before in let c9 = c8 .before in let c10 = c9 .before in let c13 = c10 .before .before .before in let s = c13 in L.push-known _ _ _ _ _ _ _ (s .pre .2) (startsOf (s .args .table .now)) (sizesOf (s .args .table .now)) (s .args .k) _ _ (R.column-is 0 (s .args .table .now) (s .args .k) _ (c10 .wide .ensures .0), c10 .wide .ensures .1) (c9 .base-at .ensures) _ (c8 .piece .ensures) _ (c5 .find-label .ensures) (s .args .prefix) (s .args .count) _ _ _ _ (c .before .add-name .ensures _ (s .pre .2 .bases)) (c .if2 .taken))
-    (λ c κs. let c2 = c .before .before in let c3 = c2 .before in let c6 = c3 .before .before .before in let c7 = c6 .before in let c10 = c7 .before .before .before in let c11 = c10 .before in let c12 = c11 .before in let c15 = c12 .before .before .before in let s = c15 in (L.push-room _ _ _ _ _ _ _ (s .pre .2) (startsOf (s .args .table .now)) (sizesOf (s .args .table .now)) (s .args .k) _ _ (R.column-is 0 (s .args .table .now) (s .args .k) _ (c12 .wide .ensures .0), c12 .wide .ensures .1) (c11 .base-at .ensures) _ (c10 .piece .ensures) _ (c7 .find-label .ensures) (s .args .prefix) (s .args .count) _ _ _ _ (c3 .add-name .ensures _ (s .pre .2 .bases)) (c2 .if2 .left) (c6 .if1 .left) (s .pre .3), s .pre .1))
-    (λ c. let c3 = c .before .before .before in let c4 = c3 .before in let c7 = c4 .before .before .before in let c8 = c7 .before in let c11 = c8 .before .before .before in let c12 = c11 .before in let c13 = c12 .before in let c16 = c13 .before .before .before in let s = c16 in L.push-new _ _ _ _ _ _ _ (s .pre .2) (startsOf (s .args .table .now)) (sizesOf (s .args .table .now)) (s .args .k) _ _ (R.column-is 0 (s .args .table .now) (s .args .k) _ (c13 .wide .ensures .0), c13 .wide .ensures .1) (c12 .base-at .ensures) _ (c11 .piece .ensures) _ (c8 .find-label .ensures) (s .args .prefix) (s .args .count) _ _ _ _ (c4 .add-name .ensures _ (s .pre .2 .bases)) (c3 .if2 .left) (c7 .if1 .left) (s .pre .3) _ _ (c .set-push .ensures)))
+    (λ c. let c5 = c .before .before .before .before .before in let c8 = c5 .before .before .before in let c9 = c8 .before in let c10 = c9 .before in let c13 = c10 .before .before .before in let s = c13 in L.push-known _ _ _ _ _ _ _ (s .pre .2) (startsOf (s .args .table .now)) (sizesOf (s .args .table .now)) (s .args .k) _ _ (R.column-is 0 (s .args .table .now) (s .args .k) _ (c10 .wide .ensures .0), c10 .wide .ensures .1) (c9 .base-at .ensures) _ (c8 .piece .ensures) _ (c5 .find-label .ensures) (s .args .next .prefix) (s .args .next .count) _ _ _ _ (c .before .add-name .ensures _ (s .pre .2 .bases)) (c .if2 .taken))
+    (λ c. search needs)
+    (λ c. search needs)
+    (λ c. search needs)
+    (λ c. let c1 = c .before .before .before in let c4 = c1 .before .before .before in let c5 = c4 .before in let c8 = c5 .before .before .before in let c9 = c8 .before in let c10 = c9 .before in let s = c10 .before .before .before in L.push-room _ _ _ _ _ _ _ (s .pre .2) (startsOf (s .args .table .now)) (sizesOf (s .args .table .now)) (s .args .k) _ _ (R.column-is 0 (s .args .table .now) (s .args .k) _ (c10 .wide .ensures .0), c10 .wide .ensures .1) (c9 .base-at .ensures) _ (c8 .piece .ensures) _ (c5 .find-label .ensures) (s .args .next .prefix) (s .args .next .count) _ _ _ _ (c1 .add-name .ensures _ (s .pre .2 .bases)) (c .before .before .if2 .left) (c4 .if1 .left) (s .pre .3))
+    (λ c. let c1 = c .before .before .before in let c4 = c1 .before .before .before in let c5 = c4 .before in let c8 = c5 .before .before .before in let c9 = c8 .before in let c10 = c9 .before in let s = c10 .before .before .before in L.push-new _ _ _ _ _ _ _ (s .pre .2) (startsOf (s .args .table .now)) (sizesOf (s .args .table .now)) (s .args .k) _ _ (R.column-is 0 (s .args .table .now) (s .args .k) _ (c10 .wide .ensures .0), c10 .wide .ensures .1) (c9 .base-at .ensures) _ (c8 .piece .ensures) _ (c5 .find-label .ensures) (s .args .next .prefix) (s .args .next .count) _ _ _ _ (c1 .add-name .ensures _ (s .pre .2 .bases)) (c .before .before .if2 .left) (c4 .if1 .left) (s .pre .3) (let small = c .struct-known2 .given in omega arith) _ _ (R.column-set 0 _ _ _, R.column-set 1 _ _ _)))
