@@ -3,10 +3,11 @@ use crate::below::amount;
 use crate::below::below_level;
 use crate::fields::Spot;
 use crate::place::Place;
+use crate::place::Taken;
 use crate::place::mark_below;
 use crate::place::take_line;
+use crate::wanted::Wanted;
 use names::Entry;
-use words::Row;
 ghost use mathlib.Core.Path.{_≡_};
 ghost use Prim.Native.Nat.{_≤_, _<_};
 ghost use mathlib.Core.List.{[], _∷_};
@@ -42,7 +43,13 @@ pub fn check_entry(
     ensures walks { λ r. ⌜ (r .fault ≡ 0 → sort ≤ 7 → Notes (now (s .entry)) (now (table .entry)) (now (spots .entry)) p (now (table .exit)) (now (spots .exit)) r (entryOf level sort (markAt mark))) ⌝ }
     ensures deep { λ r. ⌜ (r .fault ≡ 0 → opens (sortAt sort) ≡ true → level ≡ 0 → ⊥) ⌝ }
 {
-    let t = take_line(p, level, sort, width, mark, s, table, hints, spots);
+    let w = Wanted {
+        sort,
+        level,
+        width,
+        mark,
+    };
+    let t = take_line(p, w, s, table, hints, spots);
     let q = t.place;
     if q.fault != 0 {
         return q;
@@ -51,39 +58,38 @@ pub fn check_entry(
         return q;
     }
     let d = below_level(sort, level);
-    check_below(q, d, t.row, t.first, t.second, mark, s, table, hints, spots)
+    check_below(t, d, mark, s, table, hints, spots)
 }
 
-// The groups of lines that a line with that row asks for.
+// The groups of lines that a taken line asks for.
 fn check_below(
-    p: Place,
+    t: Taken,
     level: u8,
-    row: Row,
-    first: usize,
-    second: usize,
     mark: u8,
     s: &[u8],
     table: &mut [Entry; 1024],
     hints: &mut [u16; 4096],
     spots: &mut [Spot],
 ) -> Place
-    requires { ⌜ (sortsIn 11 3 (row .below) ≡ true) × (first < 4294967296) × (second < 4294967296) × Ready (now s) p ⌝ }
-    ensures { λ r. ⌜ Runs (now (s .entry)) (now (table .entry)) (now (hints .entry)) p (groups 3 (row .below) level first second) [] (now (table .exit)) (now (hints .exit)) r ⌝ }
-    ensures ready { λ r. ⌜ (r .fault ≡ 0 → (p .from ≤ r .from) × Ready (now (s .entry)) r) ⌝ }
-    ensures walks { λ r. ⌜ (r .fault ≡ 0 → sortsIn 6 3 (row .below) ≡ true → Notes (now (s .entry)) (now (table .entry)) (now (spots .entry)) p (now (table .exit)) (now (spots .exit)) r (beneath spotLine (tree spotLine level) (eqb (row .flag) 1) (markAt mark) (groupsIn 3 (row .below)) (first ∷ second ∷ []))) ⌝ }
+    requires { ⌜ (sortsIn 11 3 (t .row .below) ≡ true) × (t .first < 4294967296) × (t .second < 4294967296) × Ready (now s) (t .place) ⌝ }
+    ensures { λ r. ⌜ Runs (now (s .entry)) (now (table .entry)) (now (hints .entry)) (t .place) (groups 3 (t .row .below) level (t .first) (t .second)) [] (now (table .exit)) (now (hints .exit)) r ⌝ }
+    ensures ready { λ r. ⌜ (r .fault ≡ 0 → (t .place .from ≤ r .from) × Ready (now (s .entry)) r) ⌝ }
+    ensures walks { λ r. ⌜ (r .fault ≡ 0 → sortsIn 6 3 (t .row .below) ≡ true → Notes (now (s .entry)) (now (table .entry)) (now (spots .entry)) (t .place) (now (table .exit)) (now (spots .exit)) r (beneath spotLine (tree spotLine level) (eqb (t .row .flag) 1) (markAt mark) (groupsIn 3 (t .row .below)) (t .first ∷ t .second ∷ []))) ⌝ }
 {
-    let mut q = p;
-    let mut code = row.below;
+    let mut q = t.place;
+    let mut code = t.row.below;
     while code != 0 {
-        let times = amount(code, first, second);
+        let times = amount(code, t.first, t.second);
         q = check_lines(
             q,
-            level,
-            (code / 32 % 16) as u8,
-            first,
+            Wanted {
+                sort: (code / 32 % 16) as u8,
+                level,
+                width: t.first,
+                mark,
+            },
             times,
-            mark,
-            row.flag,
+            t.row.flag,
             s,
             table,
             hints,
@@ -97,31 +103,34 @@ fn check_below(
     q
 }
 
-// So many lines of a sort, each with all that it asks for.
+// So many lines that are wanted, each with all that it asks for.
 fn check_lines(
     p: Place,
-    level: u8,
-    sort: u8,
-    width: usize,
+    w: Wanted,
     times: u64,
-    mark: u8,
     flag: u8,
     s: &[u8],
     table: &mut [Entry; 1024],
     hints: &mut [u16; 4096],
     spots: &mut [Spot],
 ) -> Place
-    requires { ⌜ (sort ≤ 11) × Ready (now s) p ⌝ }
-    ensures { λ r. ⌜ Runs (now (s .entry)) (now (table .entry)) (now (hints .entry)) p (replicate times (want (sortAt sort) level width)) [] (now (table .exit)) (now (hints .exit)) r ⌝ }
+    requires { ⌜ (w .sort ≤ 11) × Ready (now s) p ⌝ }
+    ensures { λ r. ⌜ Runs (now (s .entry)) (now (table .entry)) (now (hints .entry)) p (replicate times (want (sortAt (w .sort)) (w .level) (w .width))) [] (now (table .exit)) (now (hints .exit)) r ⌝ }
     ensures ready { λ r. ⌜ (r .fault ≡ 0 → (p .from ≤ r .from) × Ready (now (s .entry)) r) ⌝ }
-    ensures walks { λ r. ⌜ (r .fault ≡ 0 → sort ≤ 6 → Notes (now (s .entry)) (now (table .entry)) (now (spots .entry)) p (now (table .exit)) (now (spots .exit)) r (many (child spotLine (tree spotLine level) (eqb flag 1) (markAt mark) (sortAt sort)) times)) ⌝ }
+    ensures walks { λ r. ⌜ (r .fault ≡ 0 → w .sort ≤ 6 → Notes (now (s .entry)) (now (table .entry)) (now (spots .entry)) p (now (table .exit)) (now (spots .exit)) r (many (child spotLine (tree spotLine (w .level)) (eqb flag 1) (markAt (w .mark)) (sortAt (w .sort))) times)) ⌝ }
 {
     let mut q = p;
     let mut left = times;
     while 0 < left {
         left -= 1;
-        let m = mark_below(sort, flag, left == 0, mark);
-        q = check_child(q, level, sort, width, m, s, table, hints, spots);
+        let mark = mark_below(w.sort, flag, left == 0, w.mark);
+        let v = Wanted {
+            sort: w.sort,
+            level: w.level,
+            width: w.width,
+            mark,
+        };
+        q = check_child(q, v, s, table, hints, spots);
         if q.fault != 0 {
             return q;
         }
@@ -171,26 +180,23 @@ fn check_expression(
 // A line below another, with all that it asks for: a pattern, an expression, or a line of another sort.
 fn check_child(
     p: Place,
-    level: u8,
-    sort: u8,
-    width: usize,
-    mark: u8,
+    w: Wanted,
     s: &[u8],
     table: &mut [Entry; 1024],
     hints: &mut [u16; 4096],
     spots: &mut [Spot],
 ) -> Place
-    requires { ⌜ ((sort ≤ 11) × (sort ≡ 3 → markAt mark ≡ silent)) × Ready (now s) p ⌝ }
-    ensures { λ r. ⌜ Runs (now (s .entry)) (now (table .entry)) (now (hints .entry)) p (want (sortAt sort) level width ∷ []) [] (now (table .exit)) (now (hints .exit)) r ⌝ }
+    requires { ⌜ ((w .sort ≤ 11) × (w .sort ≡ 3 → markAt (w .mark) ≡ silent)) × Ready (now s) p ⌝ }
+    ensures { λ r. ⌜ Runs (now (s .entry)) (now (table .entry)) (now (hints .entry)) p (want (sortAt (w .sort)) (w .level) (w .width) ∷ []) [] (now (table .exit)) (now (hints .exit)) r ⌝ }
     ensures ready { λ r. ⌜ (r .fault ≡ 0 → (p .from < r .from) × Ready (now (s .entry)) r) ⌝ }
-    ensures walks { λ r. ⌜ (r .fault ≡ 0 → sort ≤ 7 → Notes (now (s .entry)) (now (table .entry)) (now (spots .entry)) p (now (table .exit)) (now (spots .exit)) r (entryOf level sort (markAt mark))) ⌝ }
-    ensures deep { λ r. ⌜ (r .fault ≡ 0 → opens (sortAt sort) ≡ true → level ≡ 0 → ⊥) ⌝ }
+    ensures walks { λ r. ⌜ (r .fault ≡ 0 → w .sort ≤ 7 → Notes (now (s .entry)) (now (table .entry)) (now (spots .entry)) p (now (table .exit)) (now (spots .exit)) r (entryOf (w .level) (w .sort) (markAt (w .mark)))) ⌝ }
+    ensures deep { λ r. ⌜ (r .fault ≡ 0 → opens (sortAt (w .sort)) ≡ true → w .level ≡ 0 → ⊥) ⌝ }
 {
-    if sort == 2 {
-        return check_pattern(p, level, width, mark, s, table, hints, spots);
+    if w.sort == 2 {
+        return check_pattern(p, w.level, w.width, w.mark, s, table, hints, spots);
     }
-    if sort == 3 {
-        return check_expression(p, level, width, s, table, hints, spots);
+    if w.sort == 3 {
+        return check_expression(p, w.level, w.width, s, table, hints, spots);
     }
-    check_entry(p, level, sort, width, mark, s, table, hints, spots)
+    check_entry(p, w.level, w.sort, w.width, w.mark, s, table, hints, spots)
 }

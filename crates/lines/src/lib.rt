@@ -7,3 +7,4 @@ mod line;
 mod place;
 mod slots;
 mod variables;
+mod wanted;

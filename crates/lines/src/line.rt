@@ -2,6 +2,7 @@
 use crate::fields::Spot;
 use crate::slots::slots;
 use crate::slots::tail;
+use crate::wanted::Wanted;
 use cursor::Cursor;
 use names::Entry;
 use words::Found;
@@ -37,8 +38,7 @@ fn fields(
     s: &[u8],
     c: Cursor,
     row: Row,
-    width: usize,
-    mark: u8,
+    w: Wanted,
     table: &mut [Entry; 1024],
     hints: &mut [u16; 4096],
     n: usize,
@@ -46,11 +46,11 @@ fn fields(
     k: usize,
 ) -> Said
     requires { ⌜ InLine (now s) c × (c .at ≤ c .end + 1) × (fitsIn 3 (row .fields) ≡ true) ⌝ }
-    ensures says { λ r. ⌜ Says c (takeLine (rowOf row) width (leftAt (now (s .entry)) c)) (rowOf row .tail) (r .cursor) (r .first) (r .second) (r .columns) ⌝ }
-    ensures keeps { λ r. ⌜ (r .cursor .at ≡ c .end + 1 → (want : List (List ℕ)) → HoldsIn (now (s .entry)) (now (table .entry)) (now (hints .entry)) n want → HoldsIn (now (s .entry)) (now (table .exit)) (now (hints .exit)) (r .names) (notes (termsIn (takeLine (rowOf row) width (leftAt (now (s .entry)) c))) want)) ⌝ }
-    ensures adds { λ r. ⌜ (r .cursor .at ≡ c .end + 1 → row .behind ≤ 3 → Adds (now (s .entry)) (storeOf (now (table .entry)) n (now (spots .entry)) k) (c .at) (storeOf (now (table .exit)) (r .names) (now (spots .exit)) (r .spots)) (r .cursor .at) (found (markAt mark) (rowOf row .slots) (now (s .entry)) c) (found (markAt mark) [] (now (s .entry)) (r .cursor))) ⌝ }
+    ensures says { λ r. ⌜ Says c (takeLine (rowOf row) (w .width) (leftAt (now (s .entry)) c)) (rowOf row .tail) (r .cursor) (r .first) (r .second) (r .columns) ⌝ }
+    ensures keeps { λ r. ⌜ (r .cursor .at ≡ c .end + 1 → (want : List (List ℕ)) → HoldsIn (now (s .entry)) (now (table .entry)) (now (hints .entry)) n want → HoldsIn (now (s .entry)) (now (table .exit)) (now (hints .exit)) (r .names) (notes (termsIn (takeLine (rowOf row) (w .width) (leftAt (now (s .entry)) c))) want)) ⌝ }
+    ensures adds { λ r. ⌜ (r .cursor .at ≡ c .end + 1 → row .behind ≤ 3 → Adds (now (s .entry)) (storeOf (now (table .entry)) n (now (spots .entry)) k) (c .at) (storeOf (now (table .exit)) (r .names) (now (spots .exit)) (r .spots)) (r .cursor .at) (found (markAt (w .mark)) (rowOf row .slots) (now (s .entry)) c) (found (markAt (w .mark)) [] (now (s .entry)) (r .cursor))) ⌝ }
 {
-    let a = slots(s, c, row, mark, table, hints, n, spots, k);
+    let a = slots(s, c, row, w.mark, table, hints, n, spots, k);
     let ca = a.cursor;
     if ca.end + 1 < ca.at {
         return Said {
@@ -62,18 +62,7 @@ fn fields(
             columns: 0,
         };
     }
-    let t = tail(
-        s,
-        ca,
-        row.behind,
-        width,
-        mark,
-        table,
-        hints,
-        a.names,
-        spots,
-        a.spots,
-    );
+    let t = tail(s, ca, row.behind, w, table, hints, a.names, spots, a.spots);
     let ct = t.cursor;
     Said {
         cursor: ct,
@@ -121,42 +110,28 @@ pub enum Line {
     OverBound,
 }
 
-// A line of a sort, at a level, after so many others: its word, its fields, and then the bounds.
+// A line that is wanted, after so many others: its word, its fields, and then the bounds.
 pub fn read_line(
     s: &[u8],
     c: Cursor,
-    sort: u8,
-    level: u8,
-    width: usize,
+    w: Wanted,
     lines: usize,
-    mark: u8,
     table: &mut [Entry; 1024],
     hints: &mut [u16; 4096],
     n: usize,
     spots: &mut [Spot],
     k: usize,
 ) -> Line
-    requires { ⌜ InLine (now s) c × (c .at ≤ c .end) × (sort ≤ 11) ⌝ }
-    ensures { λ r. ⌜ ((m : Tally) → m .lines ≡ lines → m .wide ≤ 64 → HoldsIn (now (s .entry)) (now (table .entry)) (now (hints .entry)) n (m .names) → LineIs (now (s .entry)) (startsOf (now (table .exit))) (sizesOf (now (table .exit))) (now (hints .exit)) c sort level width m r) ⌝ }
-    ensures small { λ r. ⌜ Small sort level r ⌝ }
-    ensures notes { λ r. ⌜ (sort ≤ 7 → LineNotes (now (s .entry)) (startsOf (now (table .entry))) (sizesOf (now (table .entry))) n (now (spots .entry)) k (startsOf (now (table .exit))) (sizesOf (now (table .exit))) (now (spots .exit)) c sort mark r) ⌝ }
+    requires { ⌜ InLine (now s) c × (c .at ≤ c .end) × (w .sort ≤ 11) ⌝ }
+    ensures { λ r. ⌜ ((m : Tally) → m .lines ≡ lines → m .wide ≤ 64 → HoldsIn (now (s .entry)) (now (table .entry)) (now (hints .entry)) n (m .names) → LineIs (now (s .entry)) (startsOf (now (table .exit))) (sizesOf (now (table .exit))) (now (hints .exit)) c (w .sort) (w .level) (w .width) m r) ⌝ }
+    ensures small { λ r. ⌜ Small (w .sort) (w .level) r ⌝ }
+    ensures notes { λ r. ⌜ (w .sort ≤ 7 → LineNotes (now (s .entry)) (startsOf (now (table .entry))) (sizesOf (now (table .entry))) n (now (spots .entry)) k (startsOf (now (table .exit))) (sizesOf (now (table .exit))) (now (spots .exit)) c (w .sort) (w .mark) r) ⌝ }
 {
-    let w = word_at(s, c.at, c.end);
-    let found = row_at(sort, w.key);
+    let word = word_at(s, c.at, c.end);
+    let found = row_at(w.sort, word.key);
     match found {
         Found::Is(row) => {
-            let f = fields(
-                s,
-                c.behind(w.end),
-                row,
-                width,
-                mark,
-                table,
-                hints,
-                n,
-                spots,
-                k,
-            );
+            let f = fields(s, c.behind(word.end), row, w, table, hints, n, spots, k);
             let d = f.cursor;
             let j = spots_behind(row.flag, k, f.spots);
             if d.at != d.end + 1 {
@@ -171,8 +146,8 @@ pub fn read_line(
             if 1024 < f.names {
                 return Line::OverBound;
             }
-            if level == 0 {
-                if opens_level(sort) {
+            if w.level == 0 {
+                if opens_level(w.sort) {
                     return Line::OverBound;
                 }
             }

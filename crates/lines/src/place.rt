@@ -2,6 +2,7 @@
 use crate::fields::Spot;
 use crate::line::Line;
 use crate::line::read_line;
+use crate::wanted::Wanted;
 use cursor::Cursor;
 use names::Entry;
 use reader::next_end;
@@ -85,22 +86,19 @@ fn lost(fault: usize) -> Taken
     }
 }
 
-// The line of a sort that starts here.
+// The line that starts here, by what is wanted of it.
 pub fn take_line(
     p: Place,
-    level: u8,
-    sort: u8,
-    width: usize,
-    mark: u8,
+    w: Wanted,
     s: &[u8],
     table: &mut [Entry; 1024],
     hints: &mut [u16; 4096],
     spots: &mut [Spot],
 ) -> Taken
-    requires { ⌜ (sort ≤ 11) × Ready (now s) p ⌝ }
-    ensures { λ r. ⌜ Runs (now (s .entry)) (now (table .entry)) (now (hints .entry)) p (want (sortAt sort) level width ∷ []) (groups 3 (r .row .below) (below sort level) (r .first) (r .second)) (now (table .exit)) (now (hints .exit)) (r .place) ⌝ }
-    ensures sound { λ r. ⌜ (r .place .fault ≡ 0 → Sound (now (s .entry)) p sort level r) ⌝ }
-    ensures walks { λ r. ⌜ (r .place .fault ≡ 0 → sort ≤ 7 → LineWalks (now (s .entry)) (storeIn (now (table .entry)) (now (spots .entry)) p) p (storeIn (now (table .exit)) (now (spots .exit)) (r .place)) sort mark r) ⌝ }
+    requires { ⌜ (w .sort ≤ 11) × Ready (now s) p ⌝ }
+    ensures { λ r. ⌜ Runs (now (s .entry)) (now (table .entry)) (now (hints .entry)) p (want (sortAt (w .sort)) (w .level) (w .width) ∷ []) (groups 3 (r .row .below) (below (w .sort) (w .level)) (r .first) (r .second)) (now (table .exit)) (now (hints .exit)) (r .place) ⌝ }
+    ensures sound { λ r. ⌜ (r .place .fault ≡ 0 → Sound (now (s .entry)) p (w .sort) (w .level) r) ⌝ }
+    ensures walks { λ r. ⌜ (r .place .fault ≡ 0 → w .sort ≤ 7 → LineWalks (now (s .entry)) (storeIn (now (table .entry)) (now (spots .entry)) p) p (storeIn (now (table .exit)) (now (spots .exit)) (r .place)) (w .sort) (w .mark) r) ⌝ }
 {
     let from = p.from;
     if s.len() <= from {
@@ -115,20 +113,7 @@ pub fn take_line(
         end,
         awaited: 0,
     };
-    let l = read_line(
-        s,
-        c,
-        sort,
-        level,
-        width,
-        p.lines,
-        mark,
-        table,
-        hints,
-        p.n,
-        spots,
-        p.spots,
-    );
+    let l = read_line(s, c, w, p.lines, table, hints, p.n, spots, p.spots);
     match l {
         Line::Asks(a) => {
             let row = a.row;

@@ -8,11 +8,12 @@ use crate::fields::text_fields;
 use crate::fields::value_fields;
 use crate::variables::term_field;
 use crate::variables::variable_fields;
+use crate::wanted::Wanted;
 use cursor::Cursor;
 use names::Entry;
 use words::Row;
 ghost use mathlib.Core.Path.{_≡_};
-ghost use Prim.Native.Nat.{ℕ, _+_, _≤_, _<_};
+ghost use Prim.Native.Nat.{ℕ, _+_, _/_, _%_, _≤_, _<_};
 ghost use mathlib.Core.List.{List, [], _∷_};
 ghost use mathlib.Core.Bool.{cond, true};
 ghost use lib.Dec.{eqb};
@@ -34,12 +35,11 @@ pub struct Step {
     pub number: usize,
 }
 
-// One field by its role and kind, where there is one.
+// One field by the lowest digits of a number of slots, its role and its kind, where there is one.
 fn slot(
     s: &[u8],
     c: Cursor,
-    role: u8,
-    kind: u8,
+    code: u64,
     mark: u8,
     table: &mut [Entry; 1024],
     hints: &mut [u16; 4096],
@@ -48,10 +48,12 @@ fn slot(
     k: usize,
 ) -> Step
     requires { ⌜ InLine (now s) c ⌝ }
-    ensures follows { λ r. ⌜ Follows (now (s .entry)) c (restOf (takeField (oneSlot role (kindAt kind)) (leftAt (now (s .entry)) c))) (r .cursor) × (numberTaken (takeField (oneSlot role (kindAt kind)) (leftAt (now (s .entry)) c)) ≡ r .number) × (r .number < 4294967296) ⌝ }
-    ensures keeps { λ r. ⌜ ((want : List (List ℕ)) → HoldsIn (now (s .entry)) (now (table .entry)) (now (hints .entry)) n want → HoldsIn (now (s .entry)) (now (table .exit)) (now (hints .exit)) (r .names) (notes (termsOf (takeField (oneSlot role (kindAt kind)) (leftAt (now (s .entry)) c))) want)) ⌝ }
-    ensures adds { λ r. ⌜ (r .cursor .at ≤ c .end + 1 → (ss : List Slot) → Adds (now (s .entry)) (storeOf (now (table .entry)) n (now (spots .entry)) k) (c .at) (storeOf (now (table .exit)) (r .names) (now (spots .exit)) (r .spots)) (r .cursor .at) (found (markAt mark) (oneSlot role (kindAt kind) ∷ ss) (now (s .entry)) c) (found (markAt mark) ss (now (s .entry)) (r .cursor))) ⌝ }
+    ensures follows { λ r. ⌜ Follows (now (s .entry)) c (restOf (takeField (oneSlot (code % 16) (kindAt (code / 16 % 16))) (leftAt (now (s .entry)) c))) (r .cursor) × (numberTaken (takeField (oneSlot (code % 16) (kindAt (code / 16 % 16))) (leftAt (now (s .entry)) c)) ≡ r .number) × (r .number < 4294967296) ⌝ }
+    ensures keeps { λ r. ⌜ ((want : List (List ℕ)) → HoldsIn (now (s .entry)) (now (table .entry)) (now (hints .entry)) n want → HoldsIn (now (s .entry)) (now (table .exit)) (now (hints .exit)) (r .names) (notes (termsOf (takeField (oneSlot (code % 16) (kindAt (code / 16 % 16))) (leftAt (now (s .entry)) c))) want)) ⌝ }
+    ensures adds { λ r. ⌜ (r .cursor .at ≤ c .end + 1 → (ss : List Slot) → Adds (now (s .entry)) (storeOf (now (table .entry)) n (now (spots .entry)) k) (c .at) (storeOf (now (table .exit)) (r .names) (now (spots .exit)) (r .spots)) (r .cursor .at) (found (markAt mark) (oneSlot (code % 16) (kindAt (code / 16 % 16)) ∷ ss) (now (s .entry)) c) (found (markAt mark) ss (now (s .entry)) (r .cursor))) ⌝ }
 {
+    let role = (code % 16) as u8;
+    let kind = (code / 16 % 16) as u8;
     if role == 1 {
         let t = term_field(s, c, kind, mark, table, hints, n, spots, k);
         let d = t.cursor;
@@ -146,18 +148,7 @@ pub fn slots(
     let mut i = 0;
     let mut code = slots_of(row);
     while code != 0 {
-        let t = slot(
-            s,
-            d,
-            (code % 16) as u8,
-            (code / 16 % 16) as u8,
-            mark,
-            table,
-            hints,
-            m,
-            spots,
-            j,
-        );
+        let t = slot(s, d, code, mark, table, hints, m, spots, j);
         d = t.cursor;
         m = t.names;
         j = t.spots;
@@ -180,8 +171,7 @@ pub fn tail(
     s: &[u8],
     c: Cursor,
     kind: u8,
-    width: usize,
-    mark: u8,
+    w: Wanted,
     table: &mut [Entry; 1024],
     hints: &mut [u16; 4096],
     n: usize,
@@ -189,23 +179,23 @@ pub fn tail(
     k: usize,
 ) -> Step
     requires { ⌜ InLine (now s) c × (c .at ≤ c .end + 1) ⌝ }
-    ensures follows { λ r. ⌜ Follows (now (s .entry)) c (restIn (takeTail (tailOf kind) width (leftAt (now (s .entry)) c))) (r .cursor) × (r .cursor .at ≤ c .end + 1 → columnsOf (tailOf kind) (termsIn (takeTail (tailOf kind) width (leftAt (now (s .entry)) c))) ≡ r .number) ⌝ }
-    ensures keeps { λ r. ⌜ (r .cursor .at ≤ c .end + 1 → (want : List (List ℕ)) → HoldsIn (now (s .entry)) (now (table .entry)) (now (hints .entry)) n want → HoldsIn (now (s .entry)) (now (table .exit)) (now (hints .exit)) (r .names) (notes (termsIn (takeTail (tailOf kind) width (leftAt (now (s .entry)) c))) want)) ⌝ }
-    ensures adds { λ r. ⌜ (r .cursor .at ≤ c .end + 1 → kind ≤ 3 → Adds (now (s .entry)) (storeOf (now (table .entry)) n (now (spots .entry)) k) (c .at) (storeOf (now (table .exit)) (r .names) (now (spots .exit)) (r .spots)) (r .cursor .at) (found (markAt mark) [] (now (s .entry)) c) (found (markAt mark) [] (now (s .entry)) (r .cursor))) ⌝ }
+    ensures follows { λ r. ⌜ Follows (now (s .entry)) c (restIn (takeTail (tailOf kind) (w .width) (leftAt (now (s .entry)) c))) (r .cursor) × (r .cursor .at ≤ c .end + 1 → columnsOf (tailOf kind) (termsIn (takeTail (tailOf kind) (w .width) (leftAt (now (s .entry)) c))) ≡ r .number) ⌝ }
+    ensures keeps { λ r. ⌜ (r .cursor .at ≤ c .end + 1 → (want : List (List ℕ)) → HoldsIn (now (s .entry)) (now (table .entry)) (now (hints .entry)) n want → HoldsIn (now (s .entry)) (now (table .exit)) (now (hints .exit)) (r .names) (notes (termsIn (takeTail (tailOf kind) (w .width) (leftAt (now (s .entry)) c))) want)) ⌝ }
+    ensures adds { λ r. ⌜ (r .cursor .at ≤ c .end + 1 → kind ≤ 3 → Adds (now (s .entry)) (storeOf (now (table .entry)) n (now (spots .entry)) k) (c .at) (storeOf (now (table .exit)) (r .names) (now (spots .exit)) (r .spots)) (r .cursor .at) (found (markAt (w .mark)) [] (now (s .entry)) c) (found (markAt (w .mark)) [] (now (s .entry)) (r .cursor))) ⌝ }
 {
     if kind == 1 {
-        let w = fields_left(s, c);
-        let t = variable_fields(s, c, w, mark, table, hints, n, spots, k);
+        let columns = fields_left(s, c);
+        let t = variable_fields(s, c, columns, w.mark, table, hints, n, spots, k);
         let d = t.cursor;
         return Step {
             cursor: d,
             names: t.names,
             spots: t.spots,
-            number: w,
+            number: columns,
         };
     }
     if kind == 2 {
-        let t = variable_fields(s, c, width, mark, table, hints, n, spots, k);
+        let t = variable_fields(s, c, w.width, w.mark, table, hints, n, spots, k);
         let d = t.cursor;
         return Step {
             cursor: d,
@@ -214,7 +204,7 @@ pub fn tail(
             number: 0,
         };
     }
-    let d = plain_tail(s, c, kind, width);
+    let d = plain_tail(s, c, kind, w.width);
     Step {
         cursor: d,
         names: n,

@@ -46,7 +46,7 @@ use Rattle.lines.proofs.descent.+check_below+check_child+check_entry+ch
 use Rattle.names.specs.bridge.Names.{startsOf, sizesOf}
 
 abbrev μ-check-below : Measures 4 check-below-kinds.ps ℕ
-μ-check-below κs a = 8 * (16385 - a .0 .from) + 5
+μ-check-below κs a = 8 * (16385 - a .0 .place .from) + 5
 
 abbrev μ-check-child : Measures 4 check-child-kinds.ps ℕ
 μ-check-child κs a = 8 * (16385 - a .0 .from) + 2
@@ -112,20 +112,20 @@ check-pattern-below t =
     and 4 check-pattern-kinds.ps (falls 4 check-pattern-kinds.ps _<_ μ-check-pattern t) check-pattern.Pre
 
 abbrev check-below-Inv-loop : check-below-lts.InvT-loop
-check-below-Inv-loop level row first second mark s table₀ hints₀ spots₀ q₀ code₀ table hints spots q code =
-    Ready s q × (q₀ .from ≤ q .from) × (length spots ≡ length spots₀) × G.Left s level first second (row .flag) mark (row .below) (startsOf table₀) (sizesOf table₀) hints₀ spots₀ q₀ (startsOf table) (sizesOf table) hints spots q code
+check-below-Inv-loop t level mark s table₀ hints₀ spots₀ q₀ code₀ table hints spots q code =
+    Ready s q × (q₀ .from ≤ q .from) × (length spots ≡ length spots₀) × G.Left s level (t .first) (t .second) (t .row .flag) mark (t .row .below) (startsOf table₀) (sizesOf table₀) hints₀ spots₀ q₀ (startsOf table) (sizesOf table) hints spots q code
 
 abbrev check-below-μ-loop : check-below-lts.MeasureT-loop
-check-below-μ-loop level row first second mark s table₀ hints₀ spots₀ q₀ code₀ table hints spots q code = code
+check-below-μ-loop t level mark s table₀ hints₀ spots₀ q₀ code₀ table hints spots q code = code
 
 abbrev check-lines-Inv-loop : check-lines-lts.InvT-loop
-check-lines-Inv-loop level sort width times mark flag s table₀ hints₀ spots₀ q₀ left₀ table hints spots q left =
-    Ready s q × (q₀ .from ≤ q .from) × D.Lines s (startsOf table₀) (sizesOf table₀) hints₀ q₀ (startsOf table) (sizesOf table) hints (want (sortAt sort) level width) left₀ left q
+check-lines-Inv-loop w times flag s table₀ hints₀ spots₀ q₀ left₀ table hints spots q left =
+    Ready s q × (q₀ .from ≤ q .from) × D.Lines s (startsOf table₀) (sizesOf table₀) hints₀ q₀ (startsOf table) (sizesOf table) hints (want (sortAt (w .sort)) (w .level) (w .width)) left₀ left q
     × (length spots ≡ length spots₀)
-    × (sort ≤ 6 → W.Left s (storeAt (startsOf table₀) (sizesOf table₀) spots₀ q₀) q₀ (storeAt (startsOf table) (sizesOf table) spots q) q (child spotLine (tree spotLine level) (eqb flag 1) (markAt mark) (sortAt sort)) left₀ left)
+    × (w .sort ≤ 6 → W.Left s (storeAt (startsOf table₀) (sizesOf table₀) spots₀ q₀) q₀ (storeAt (startsOf table) (sizesOf table) spots q) q (child spotLine (tree spotLine (w .level)) (eqb flag 1) (markAt (w .mark)) (sortAt (w .sort))) left₀ left)
 
 abbrev check-lines-μ-loop : check-lines-lts.MeasureT-loop
-check-lines-μ-loop level sort width times mark flag s table₀ hints₀ spots₀ q₀ left₀ table hints spots q left = left
+check-lines-μ-loop w times flag s table₀ hints₀ spots₀ q₀ left₀ table hints spots q left = left
 
 pub +check-below+check-child+check-entry+check-expression+check-lines+check-pattern-spec : {M : Type 1} → statement M
 +check-below+check-child+check-entry+check-expression+check-lines+check-pattern-spec =
@@ -139,14 +139,14 @@ pub +check-below+check-child+check-entry+check-expression+check-lines+check-patt
     check-below.Post
     check-below-Inv-loop
     check-below-μ-loop
-    (λ c. let c1 = c .before in (c1 .pre .1 .3, omega arith, refl, G.left-begin _ (c1 .args .level) (c1 .args .first) (c1 .args .second) (c1 .args .row .flag) (c1 .args .mark) (c1 .args .row .below) _ _ _ _ _ (c1 .pre .1 .3 .going) (c1 .pre .1 .0)))
-    (λ c κs. let c3 = c .before .before .before in (c3 .pre .1 .1, c3 .pre .1 .2))
+    (λ c. let c2 = c .before .before in (c2 .pre .1 .3, omega arith, refl, G.left-begin _ (c2 .args .level) (c2 .args .t .first) (c2 .args .t .second) (c2 .args .t .row .flag) (c2 .args .mark) (c2 .args .t .row .below) _ _ _ _ _ (c2 .pre .1 .3 .going) (c2 .pre .1 .0)))
+    (λ c κs. let c4 = c .before .before .before .before in (c4 .pre .1 .1, c4 .pre .1 .2))
     (λ c. omega arith)
-    (λ c κs. let c5 = c .before .before .before .before in let c6 = c5 .before in let c8 = c6 .before .before in (let p = c8 .pre .0 in let x = c6 .loop .inv .1 in omega (arith, p, x), (G.left-sort _ _ _ _ _ _ _ _ _ _ _ _ _ _ _ _ _ _ (c6 .loop .inv .3) (c5 .loop-test .taken), c6 .loop .inv .0)))
-    (λ c. let c3 = c .before .before .before in let c10 = c3 .before .before .before .before .before .before in c3 .check-lines .kept .1 .1 .1 .1 .1 .1 .1 .1 .1 .1 .0 ∙ c10 .loop .inv .2)
-    (λ c. let c3 = c .before .before .before in let c8 = c3 .before .before .before .before in let c9 = c8 .before in let c10 = c9 .before in (G.left-stop _ _ _ _ _ _ _ _ _ _ _ _ _ _ _ _ _ _ (c10 .loop .inv .3) (c9 .loop-test .taken) (c10 .loop .inv .0 .going) _ (c8 .amount .ensures) _ _ _ _ (c3 .check-lines .ensures .0) (c .if1 .taken), (λ z. absurd (c .if1 .taken z), λ z. absurd (c .if1 .taken z))))
-    (λ c. let c9 = c .before .before .before .before .before .before .before .before in let z = c9 .loop-test .taken in omega (arith, z))
-    (λ c. let c3 = c .before .before .before in let c8 = c3 .before .before .before .before in let c9 = c8 .before in let c10 = c9 .before in let e = c3 .check-lines .ensures in let u = e .1 .0 (c .if1 .left) in (u .1, (let v = u .0 in let x = c10 .loop .inv .1 in omega (arith, v, x)), c3 .check-lines .kept .1 .1 .1 .1 .1 .1 .1 .1 .1 .1 .0 ∙ c10 .loop .inv .2, G.left-next _ _ _ _ _ _ _ _ _ _ _ _ _ _ _ _ _ _ (c10 .loop .inv .3) (c9 .loop-test .taken) (c10 .loop .inv .0 .going) _ (c8 .amount .ensures) _ _ _ _ (e .0) _ (e .1 .1 (c .if1 .left))))
+    (λ c κs. let c4 = c .before .before .before .before in let c5 = c4 .before in let c8 = c5 .before .before .before in (let p = c8 .pre .0 in let x = c5 .loop .inv .1 in omega (arith, p, x), (G.left-sort _ _ _ _ _ _ _ _ _ _ _ _ _ _ _ _ _ _ (c5 .loop .inv .3) (c4 .loop-test .taken), c5 .loop .inv .0)))
+    (λ c. let c3 = c .before .before .before in let c9 = c3 .before .before .before .before .before .before in c3 .check-lines .kept .1 .1 .1 .1 .1 .1 .1 .0 ∙ c9 .loop .inv .2)
+    (λ c. let c3 = c .before .before .before in let c7 = c3 .before .before .before .before in let c8 = c7 .before in let c9 = c8 .before in (G.left-stop _ _ _ _ _ _ _ _ _ _ _ _ _ _ _ _ _ _ (c9 .loop .inv .3) (c8 .loop-test .taken) (c9 .loop .inv .0 .going) _ (c7 .amount .ensures) _ _ _ _ (c3 .check-lines .ensures .0) (c .if1 .taken), (λ z. absurd (c .if1 .taken z), λ z. absurd (c .if1 .taken z))))
+    (λ c. let c8 = c .before .before .before .before .before .before .before .before in let z = c8 .loop-test .taken in omega (arith, z))
+    (λ c. let c3 = c .before .before .before in let c7 = c3 .before .before .before .before in let c8 = c7 .before in let c9 = c8 .before in let e = c3 .check-lines .ensures in let u = e .1 .0 (c .if1 .left) in (u .1, (let v = u .0 in let x = c9 .loop .inv .1 in omega (arith, v, x)), c3 .check-lines .kept .1 .1 .1 .1 .1 .1 .1 .0 ∙ c9 .loop .inv .2, G.left-next _ _ _ _ _ _ _ _ _ _ _ _ _ _ _ _ _ _ (c9 .loop .inv .3) (c8 .loop-test .taken) (c9 .loop .inv .0 .going) _ (c7 .amount .ensures) _ _ _ _ (e .0) _ (e .1 .1 (c .if1 .left))))
     (λ c. c .before .loop .inv .2)
     (λ c. let v = c .before .loop .inv in (G.left-went _ _ _ _ _ _ _ _ _ _ _ _ _ _ _ _ _ _ (v .3) (c .loop-test .left), (λ z. (v .1, v .0), λ z low. G.left-walked _ _ _ _ _ _ _ _ _ _ _ _ _ _ _ _ _ _ (v .3) (c .loop-test .left) low))))
     (λ t. check-child-lts.spec (
@@ -159,13 +159,13 @@ pub +check-below+check-child+check-entry+check-expression+check-lines+check-patt
     )
     (check-child-at t)
     check-child.Post
-    (λ c κs. let c6 = c .before .before .before .before .before in (let p = c6 .pre .0 in omega (arith, p), c6 .pre .1 .1))
+    (λ c κs. let c6 = c .before .before .before .before .before .before in (let p = c6 .pre .0 in omega (arith, p), c6 .pre .1 .1))
     (λ c. search needs)
-    (λ c. let c6 = c .before .before .before .before .before in let e = c .before .check-pattern .ensures in rw (c6 .if1 .taken) (e .0, (e .1 .0, (λ z low. e .1 .1 .0 z, e .1 .1 .1))))
-    (λ c κs. let c7 = c .before .before .before .before .before .before in (let p = c7 .pre .0 in omega (arith, p), c7 .pre .1 .1))
+    (λ c. let c5 = c .before .before .before .before .before in let e = c .before .check-pattern .ensures in rw (c5 .if1 .taken) (e .0, (e .1 .0, (λ z low. e .1 .1 .0 z, e .1 .1 .1))))
+    (λ c κs. let c8 = c .before .before .before .before .before .before .before .before in (let p = c8 .pre .0 in omega (arith, p), c8 .pre .1 .1))
     (λ c. search needs)
-    (λ c. let c6 = c .before .before .before .before .before in let c9 = c .before .before .before .before .before .before .before .before in let e = c .before .check-expression .ensures in rw (c6 .if2 .taken, c9 .pre .1 .0 .1 (c6 .if2 .taken)) (e .0, (e .1 .0, (λ z low. e .1 .1 .0 z, e .1 .1 .1))))
-    (λ c κs. let c7 = c .before .before .before .before .before .before in (let p = c7 .pre .0 in omega (arith, p), (c7 .pre .1 .0 .0, c7 .pre .1 .1)))
+    (λ c. let c5 = c .before .before .before .before .before in let c10 = c .before .before .before .before .before .before .before .before .before .before in let e = c .before .check-expression .ensures in rw (c5 .if2 .taken, c10 .pre .1 .0 .1 (c5 .if2 .taken)) (e .0, (e .1 .0, (λ z low. e .1 .1 .0 z, e .1 .1 .1))))
+    (λ c κs. let c8 = c .before .before .before .before .before .before .before .before in (let p = c8 .pre .0 in omega (arith, p), (c8 .pre .1 .0 .0, c8 .pre .1 .1)))
     (λ c. search needs)
     (λ c. c .before .check-entry .ensures))
     (λ t. check-entry-lts.spec (
@@ -178,31 +178,31 @@ pub +check-below+check-child+check-entry+check-expression+check-lines+check-patt
     )
     (check-entry-at t)
     check-entry.Post
-    (λ c κs. let c5 = c .before .before .before .before in c5 .pre .1)
+    (λ c κs. let c4 = c .before .before .before .before in c4 .pre .1)
     (λ c. search needs)
     (λ c. let c4 = c .before .before .before .before in (λ ρ ws m st. D.went-stop _ ρ _ _ _ _ ws _ _ (c4 .take-line .ensures .0 ρ ws m st) (c .if1 .taken), (λ z. absurd (c .if1 .taken z), (λ z. absurd (c .if1 .taken z), λ z. absurd (c .if1 .taken z)))))
     (λ c. search needs)
-    (λ c. let c6 = c .before .before .before .before .before .before in let c12 = c6 .before .before .before .before .before in (λ ρ ws m st. D.alone-went _ ρ ws _ (c6 .take-line .result .row .below) (below (c12 .args .sort) (c12 .args .level)) (c6 .take-line .result .first) (c6 .take-line .result .second) _ _ _ _ (c .if2 .taken) (c6 .take-line .ensures .0 ρ ws m st), (λ z. let k = c6 .take-line .ensures .1 .0 z in let b = k .behind in (omega (arith, b), k .ready), (λ z low. W.entry-alone _ _ _ _ (c12 .args .level) (c12 .args .sort) (c12 .args .mark) (c6 .take-line .result) (c6 .take-line .ensures .1 .1 z low) (c .if2 .taken), λ z. c6 .take-line .ensures .1 .0 z .deep))))
-    (λ c κs. let c12 = c .before .before .before .before .before .before .before .before .before .before .before in c12 .pre .1 .0)
-    (λ c κs. let c7 = c .before .before .before .before .before .before in let c11 = c7 .before .before .before .before in let c17 = c11 .before .before .before .before .before in let k = c11 .take-line .ensures .1 .0 (c7 .if1 .left) in (let p = c17 .pre .0 in let i = k .inside in let b = k .behind in omega (arith, p, i, b), (k .sorts, k .small .0, k .small .1, k .ready)))
+    (λ c. let c6 = c .before .before .before .before .before .before in let c11 = c6 .before .before .before .before .before in (λ ρ ws m st. D.alone-went _ ρ ws _ (c6 .take-line .result .row .below) (below (c11 .args .sort) (c11 .args .level)) (c6 .take-line .result .first) (c6 .take-line .result .second) _ _ _ _ (c .if2 .taken) (c6 .take-line .ensures .0 ρ ws m st), (λ z. let k = c6 .take-line .ensures .1 .0 z in let b = k .behind in (omega (arith, b), k .ready), (λ z low. W.entry-alone _ _ _ _ (c11 .args .level) (c11 .args .sort) (c11 .args .mark) (c6 .take-line .result) (c6 .take-line .ensures .1 .1 z low) (c .if2 .taken), λ z. c6 .take-line .ensures .1 .0 z .deep))))
+    (λ c κs. let c11 = c .before .before .before .before .before .before .before .before .before .before .before in c11 .pre .1 .0)
+    (λ c κs. let c6 = c .before .before .before .before .before .before in let c10 = c6 .before .before .before .before in let c15 = c10 .before .before .before .before .before in let k = c10 .take-line .ensures .1 .0 (c6 .if1 .left) in (let p = c15 .pre .0 in let i = k .inside in let b = k .behind in omega (arith, p, i, b), (k .sorts, k .small .0, k .small .1, k .ready)))
     (λ c. search needs)
-    (λ c. let c6 = c .before .before .before .before .before in
-    let c9 = c6 .before .before .before in
-    let c13 = c9 .before .before .before .before in
-    let c19 = c13 .before .before .before .before .before in (
-      λ ρ ws m st. D.below-went _ ρ ws _ (c13 .take-line .result .row .below) (below (c19 .args .sort) (c19 .args .level)) (c13 .take-line .result .first) (c13 .take-line .result .second) _ _ _ _ _ _ _ _ _ (c6 .below-level .ensures) (c13 .take-line .ensures .0 ρ ws m st) (c9 .if1 .left) (c .before .check-below .ensures .0),
+    (λ c. let c5 = c .before .before .before .before .before in
+    let c8 = c5 .before .before .before in
+    let c12 = c8 .before .before .before .before in
+    let c17 = c12 .before .before .before .before .before in (
+      λ ρ ws m st. D.below-went _ ρ ws _ (c12 .take-line .result .row .below) (below (c17 .args .sort) (c17 .args .level)) (c12 .take-line .result .first) (c12 .take-line .result .second) _ _ _ _ _ _ _ _ _ (c5 .below-level .ensures) (c12 .take-line .ensures .0 ρ ws m st) (c8 .if1 .left) (c .before .check-below .ensures .0),
       (
-        λ z. let b = c13 .take-line .ensures .1 .0 (c9 .if1 .left) .behind in
+        λ z. let b = c12 .take-line .ensures .1 .0 (c8 .if1 .left) .behind in
             let w = c .before .check-below .ensures .1 .0 z in
             let v = w .0 in (omega (arith, b, v), w .1),
-        (λ z low. W.entry-below _ _ _ _ (c19 .args .level) (c19 .args .sort) (c19 .args .mark) (c13 .take-line .result) (c13 .take-line .ensures .1 .1 (c9 .if1 .left) low) _ (c6 .below-level .ensures) _ _ (c .before .check-below .ensures .1 .1 z (c13 .take-line .ensures .1 .0 (c9 .if1 .left) .trees low)), λ z. c13 .take-line .ensures .1 .0 (c9 .if1 .left) .deep),
+        (λ z low. W.entry-below _ _ _ _ (c17 .args .level) (c17 .args .sort) (c17 .args .mark) (c12 .take-line .result) (c12 .take-line .ensures .1 .1 (c8 .if1 .left) low) _ (c5 .below-level .ensures) _ _ (c .before .check-below .ensures .1 .1 z (c12 .take-line .ensures .1 .0 (c8 .if1 .left) .trees low)), λ z. c12 .take-line .ensures .1 .0 (c8 .if1 .left) .deep),
       ),
     )))
     (λ t. check-expression-lts.spec
     (check-entry-below t, check-entry.Post)
     (check-expression-at t)
     check-expression.Post
-    (λ c κs. let c5 = c .before .before .before .before in (let p = c5 .pre .0 in omega (arith, p), (omega arith, c5 .pre .1)))
+    (λ c κs. let c4 = c .before .before .before .before in (let p = c4 .pre .0 in omega (arith, p), (omega arith, c4 .pre .1)))
     (λ c. search needs)
     (λ c. let e = c .before .check-entry .ensures in (e .0, (e .1 .0, (λ z. e .1 .1 .0 z (omega arith), e .1 .1 .1)))))
     (λ t. check-lines-lts.spec (
@@ -215,32 +215,32 @@ pub +check-below+check-child+check-entry+check-expression+check-lines+check-patt
     check-lines.Post
     check-lines-Inv-loop
     check-lines-μ-loop
-    (λ c. (c .before .pre .1 .1, omega arith, D.rest-begin _ _ _ _ _ (replicate (c .before .args .times) (want (sortAt (c .before .args .sort)) (c .before .args .level) (c .before .args .width))) (c .before .pre .1 .1 .going), refl, λ low. W.left-begin _ _ _ (child spotLine (tree spotLine (c .before .args .level)) (eqb (c .before .args .flag) 1) (markAt (c .before .args .mark)) (sortAt (c .before .args .sort))) (c .before .args .times)))
+    (λ c. (c .before .pre .1 .1, omega arith, D.rest-begin _ _ _ _ _ (replicate (c .before .args .times) (want (sortAt (c .before .args .w .sort)) (c .before .args .w .level) (c .before .args .w .width))) (c .before .pre .1 .1 .going), refl, λ low. W.left-begin _ _ _ (child spotLine (tree spotLine (c .before .args .w .level)) (eqb (c .before .args .flag) 1) (markAt (c .before .args .w .mark)) (sortAt (c .before .args .w .sort))) (c .before .args .times)))
     (λ c. search needs)
     (λ c κs. search needs)
-    (λ c κs. let c6 = c .before .before .before .before .before in let c8 = c6 .before .before in (let p = c8 .pre .0 in let x = c6 .loop .inv .1 in omega (arith, p, x), ((c8 .pre .1 .0, λ e. c .before .before .before .mark-below .ensures ∙ sym (W.mark-silent (c8 .args .sort) (c8 .args .flag) (c8 .args .mark) _ e)), c6 .loop .inv .0)))
-    (λ c. let c3 = c .before .before .before in let c10 = c3 .before .before .before .before .before .before in c3 .check-child .kept .1 .1 .1 .1 .1 .1 .1 .1 .0 ∙ c10 .loop .inv .3)
-    (λ c. let c3 = c .before .before .before in let c9 = c3 .before .before .before .before .before in let c10 = c9 .before in let c12 = c10 .before .before in (D.lines-stop _ _ _ _ _ _ _ _ (want (sortAt (c12 .args .sort)) (c12 .args .level) (c12 .args .width)) (c12 .args .times) _ _ (c10 .loop .inv .2) (c10 .loop .inv .0 .going) (c9 .loop-test .taken) _ _ _ _ (c3 .check-child .ensures .0) (c .if1 .taken), (λ z. absurd (c .if1 .taken z), λ z. absurd (c .if1 .taken z))))
+    (λ c κs. let c5 = c .before .before .before .before .before in let c7 = c5 .before .before in (let p = c7 .pre .0 in let x = c5 .loop .inv .1 in omega (arith, p, x), ((c7 .pre .1 .0, λ e. c .before .before .before .mark-below .ensures ∙ sym (W.mark-silent (c7 .args .w .sort) (c7 .args .flag) (c7 .args .w .mark) _ e)), c5 .loop .inv .0)))
+    (λ c. let c3 = c .before .before .before in let c9 = c3 .before .before .before .before .before .before in c3 .check-child .kept .1 .1 .1 .1 .1 .0 ∙ c9 .loop .inv .3)
+    (λ c. let c3 = c .before .before .before in let c8 = c3 .before .before .before .before .before in let c9 = c8 .before in let c11 = c9 .before .before in (D.lines-stop _ _ _ _ _ _ _ _ (want (sortAt (c11 .args .w .sort)) (c11 .args .w .level) (c11 .args .w .width)) (c11 .args .times) _ _ (c9 .loop .inv .2) (c9 .loop .inv .0 .going) (c8 .loop-test .taken) _ _ _ _ (c3 .check-child .ensures .0) (c .if1 .taken), (λ z. absurd (c .if1 .taken z), λ z. absurd (c .if1 .taken z))))
     (λ c. search needs)
     (λ c. let c3 = c .before .before .before in
-    let c8 = c3 .before .before .before .before in
+    let c7 = c3 .before .before .before .before in
+    let c8 = c7 .before in
     let c9 = c8 .before in
-    let c10 = c9 .before in
-    let c12 = c10 .before .before in
+    let c11 = c9 .before .before in
     let w = c3 .check-child .ensures .1 .0 (c .if1 .left) in (
       w .1,
       (let v = w .0 in
-          let x = c10 .loop .inv .1 in omega (arith, v, x)),
-      D.lines-one _ _ _ _ _ _ _ _ (want (sortAt (c12 .args .sort)) (c12 .args .level) (c12 .args .width)) (c12 .args .times) _ _ (c10 .loop .inv .2) (c10 .loop .inv .0 .going) (c9 .loop-test .taken) _ _ _ _ (c3 .check-child .ensures .0),
-      c3 .check-child .kept .1 .1 .1 .1 .1 .1 .1 .1 .0 ∙ c10 .loop .inv .3,
-      λ low. W.left-next _ _ _ _ _ _ _ (c12 .args .level) (c12 .args .flag) (c12 .args .mark) (c12 .args .sort) (c12 .args .times) (c10 .loop .left) (c8 .mark-below .result) (eqb (c10 .loop .left - 1) 0) (c10 .loop .inv .4 low) (c9 .loop-test .taken) refl (c8 .mark-below .ensures) low (c3 .check-child .ensures .1 .1 .1 (c .if1 .left)) (c3 .check-child .ensures .1 .1 .0 (c .if1 .left) (omega (arith, low))),
+          let x = c9 .loop .inv .1 in omega (arith, v, x)),
+      D.lines-one _ _ _ _ _ _ _ _ (want (sortAt (c11 .args .w .sort)) (c11 .args .w .level) (c11 .args .w .width)) (c11 .args .times) _ _ (c9 .loop .inv .2) (c9 .loop .inv .0 .going) (c8 .loop-test .taken) _ _ _ _ (c3 .check-child .ensures .0),
+      c3 .check-child .kept .1 .1 .1 .1 .1 .0 ∙ c9 .loop .inv .3,
+      λ low. W.left-next _ _ _ _ _ _ _ (c11 .args .w .level) (c11 .args .flag) (c11 .args .w .mark) (c11 .args .w .sort) (c11 .args .times) (c9 .loop .left) (c7 .mark-below .result) (eqb (c9 .loop .left - 1) 0) (c9 .loop .inv .4 low) (c8 .loop-test .taken) refl (c7 .mark-below .ensures) low (c3 .check-child .ensures .1 .1 .1 (c .if1 .left)) (c3 .check-child .ensures .1 .1 .0 (c .if1 .left) (omega (arith, low))),
     ))
     (λ c. c .before .loop .inv .3)
-    (λ c. let c3 = c .before .before .before in (D.lines-all _ _ _ _ _ _ _ _ (want (sortAt (c3 .args .sort)) (c3 .args .level) (c3 .args .width)) (c3 .args .times) _ _ (c .before .loop .inv .2) (c .loop-test .left), (λ z. (c .before .loop .inv .1, c .before .loop .inv .0), λ z low. W.left-done _ _ _ _ _ (child spotLine (tree spotLine (c3 .args .level)) (eqb (c3 .args .flag) 1) (markAt (c3 .args .mark)) (sortAt (c3 .args .sort))) (c3 .args .times) (c .before .loop .left) (c .before .loop .inv .4 low) (c .loop-test .left)))))
+    (λ c. let c3 = c .before .before .before in (D.lines-all _ _ _ _ _ _ _ _ (want (sortAt (c3 .args .w .sort)) (c3 .args .w .level) (c3 .args .w .width)) (c3 .args .times) _ _ (c .before .loop .inv .2) (c .loop-test .left), (λ z. (c .before .loop .inv .1, c .before .loop .inv .0), λ z low. W.left-done _ _ _ _ _ (child spotLine (tree spotLine (c3 .args .w .level)) (eqb (c3 .args .flag) 1) (markAt (c3 .args .w .mark)) (sortAt (c3 .args .w .sort))) (c3 .args .times) (c .before .loop .left) (c .before .loop .inv .4 low) (c .loop-test .left)))))
     λ t. check-pattern-lts.spec
     (check-entry-below t, check-entry.Post)
     (check-pattern-at t)
     check-pattern.Post
-    (λ c κs. let c5 = c .before .before .before .before in (let p = c5 .pre .0 in omega (arith, p), (omega arith, c5 .pre .1)))
+    (λ c κs. let c4 = c .before .before .before .before in (let p = c4 .pre .0 in omega (arith, p), (omega arith, c4 .pre .1)))
     (λ c. search needs)
     (λ c. let e = c .before .check-entry .ensures in (e .0, (e .1 .0, (λ z. e .1 .1 .0 z (omega arith), e .1 .1 .1))))

@@ -20,54 +20,54 @@ read-line-spec =
     (λ c κs. search needs)
     (λ c. search needs)
     (λ c κs. search needs)
-    (λ c κs. let c4 = c .before .before .before in let c6 = c4 .before .before in let c8 = c6 .before .before in let c9 = c8 .before in let c11 = c9 .before .before in let x = (C.next-at _ _ _ _ (c9 .word-at .ensures .0) (c4 .behind .ensures)) in let y = x .first .high in let u = x .at in let v = x .end in (S.in-line _ _ _ _ (c11 .pre .0) x, omega arith, subst (Tidy (c11 .args .sort)) (c6 .found .given .1) (c8 .row-at .ensures .1 .0) .0))
+    (λ c κs. let c3 = c .before .before .before in let c5 = c3 .before .before in let c7 = c5 .before .before in let c8 = c7 .before in let c10 = c8 .before .before in let x = (C.next-at _ _ _ _ (c8 .word-at .ensures .0) (c3 .behind .ensures)) in let y = x .first .high in let u = x .at in let v = x .end in (S.in-line _ _ _ _ (c10 .pre .0) x, omega arith, subst (Tidy (c10 .args .w .sort)) (c5 .found .given .1) (c7 .row-at .ensures .1 .0) .0))
     (λ c κs. search needs)
-    (λ c. let c4 = c .before .before .before .before in let c9 = c4 .before .before .before .before in let c16 = c9 .before .before .before .before .before .before .before in let e = c4 .fields .ensures .0 .along .0 in let x = c9 .behind .ensures .1 in let y = c16 .pre .0 .ends in let z = c16 .pre .0 .short in omega arith)
+    (λ c. let c4 = c .before .before .before .before in let c8 = c4 .before .before .before .before in let c15 = c8 .before .before .before .before .before .before .before in let e = c4 .fields .ensures .0 .along .0 in let x = c8 .behind .ensures .1 in let y = c15 .pre .0 .ends in let z = c15 .pre .0 .short in omega arith)
     (λ c. search needs)
-    (λ c. let c6 = c .before .before .before .before .before .before in let c11 = c6 .before .before .before .before in let c13 = c11 .before .before in let c15 = c13 .before .before in let c16 = c15 .before in let c18 = c16 .before .before in let x = (C.next-at _ _ _ _ (c16 .word-at .ensures .0) (c11 .behind .ensures)) in (λ m hl hw hh. K.is-wrong _ _ _ _ _ _ _ (c18 .pre .0) (c18 .pre .1) x _ _ _ m _ (c15 .row-at .ensures .0 _ (c16 .word-at .ensures .1)) (c13 .found .given .0 .0) (c13 .found .given .1) _ _ _ _ (c6 .fields .ensures .0) (λ z. c .if1 .taken (z ∙ ap (λ e. e + 1) (sym (c6 .fields .ensures .0 .along .0)))), (tt, λ h. N.none-wrong _ _ _ _ _ _ _ _ _ _ _ _)))
+    (λ c. let c6 = c .before .before .before .before .before .before in let c10 = c6 .before .before .before .before in let c12 = c10 .before .before in let c14 = c12 .before .before in let c15 = c14 .before in let c17 = c15 .before .before in let x = (C.next-at _ _ _ _ (c15 .word-at .ensures .0) (c10 .behind .ensures)) in (λ m hl hw hh. K.is-wrong _ _ _ _ _ _ _ (c17 .pre .0) (c17 .pre .1) x _ _ _ m _ (c14 .row-at .ensures .0 _ (c15 .word-at .ensures .1)) (c12 .found .given .0 .0) (c12 .found .given .1) _ _ _ _ (c6 .fields .ensures .0) (λ z. c .if1 .taken (z ∙ ap (λ e. e + 1) (sym (c6 .fields .ensures .0 .along .0)))), (tt, λ h. N.none-wrong _ _ _ _ _ _ _ _ _ _ _ _)))
     (λ c. search needs)
-    (λ c. let c7 = c .before .before .before .before .before .before .before in let c12 = c7 .before .before .before .before in let c14 = c12 .before .before in let c16 = c14 .before .before in let c17 = c16 .before in let c19 = c17 .before .before in let x = (C.next-at _ _ _ _ (c17 .word-at .ensures .0) (c12 .behind .ensures)) in let e = c .before .if1 .left ∙ ap (λ e. e + 1) (c7 .fields .ensures .0 .along .0) in (λ m hl hw hh. K.is-late _ _ _ _ _ _ _ (c19 .pre .0) (c19 .pre .1) x _ _ _ m _ (c16 .row-at .ensures .0 _ (c17 .word-at .ensures .1)) (c14 .found .given .0 .0) (c14 .found .given .1) _ _ _ _ (c7 .fields .ensures .0) e (rw hl (c .if2 .taken)), (tt, λ h. N.none-over _ _ _ _ _ _ _ _ _ _ _ _)))
+    (λ c. let c7 = c .before .before .before .before .before .before .before in let c11 = c7 .before .before .before .before in let c13 = c11 .before .before in let c15 = c13 .before .before in let c16 = c15 .before in let c18 = c16 .before .before in let x = (C.next-at _ _ _ _ (c16 .word-at .ensures .0) (c11 .behind .ensures)) in let e = c .before .if1 .left ∙ ap (λ e. e + 1) (c7 .fields .ensures .0 .along .0) in (λ m hl hw hh. K.is-late _ _ _ _ _ _ _ (c18 .pre .0) (c18 .pre .1) x _ _ _ m _ (c15 .row-at .ensures .0 _ (c16 .word-at .ensures .1)) (c13 .found .given .0 .0) (c13 .found .given .1) _ _ _ _ (c7 .fields .ensures .0) e (rw hl (c .if2 .taken)), (tt, λ h. N.none-over _ _ _ _ _ _ _ _ _ _ _ _)))
     (λ c. search needs)
-    (λ c. let c3 = c .before .before .before in let c9 = c3 .before .before .before .before .before .before in let c14 = c9 .before .before .before .before in let c16 = c14 .before .before in let c18 = c16 .before .before in let c19 = c18 .before in let c21 = c19 .before .before in let x = (C.next-at _ _ _ _ (c19 .word-at .ensures .0) (c14 .behind .ensures)) in let e = c3 .if1 .left ∙ ap (λ e. e + 1) (c9 .fields .ensures .0 .along .0) in (λ m hl hw hh. K.is-wide _ _ _ _ _ _ _ (c21 .pre .0) (c21 .pre .1) x _ _ _ m _ (c18 .row-at .ensures .0 _ (c19 .word-at .ensures .1)) (c16 .found .given .0 .0) (c16 .found .given .1) _ _ _ _ (c9 .fields .ensures .0) e (c .if3 .taken), (tt, λ h. N.none-over _ _ _ _ _ _ _ _ _ _ _ _)))
+    (λ c. let c3 = c .before .before .before in let c9 = c3 .before .before .before .before .before .before in let c13 = c9 .before .before .before .before in let c15 = c13 .before .before in let c17 = c15 .before .before in let c18 = c17 .before in let c20 = c18 .before .before in let x = (C.next-at _ _ _ _ (c18 .word-at .ensures .0) (c13 .behind .ensures)) in let e = c3 .if1 .left ∙ ap (λ e. e + 1) (c9 .fields .ensures .0 .along .0) in (λ m hl hw hh. K.is-wide _ _ _ _ _ _ _ (c20 .pre .0) (c20 .pre .1) x _ _ _ m _ (c17 .row-at .ensures .0 _ (c18 .word-at .ensures .1)) (c15 .found .given .0 .0) (c15 .found .given .1) _ _ _ _ (c9 .fields .ensures .0) e (c .if3 .taken), (tt, λ h. N.none-over _ _ _ _ _ _ _ _ _ _ _ _)))
     (λ c. search needs)
-    (λ c. let c5 = c .before .before .before .before .before in let c11 = c5 .before .before .before .before .before .before in let c16 = c11 .before .before .before .before in let c18 = c16 .before .before in let c20 = c18 .before .before in let c21 = c20 .before in let c23 = c21 .before .before in let x = (C.next-at _ _ _ _ (c21 .word-at .ensures .0) (c16 .behind .ensures)) in let e = c5 .if1 .left ∙ ap (λ e. e + 1) (c11 .fields .ensures .0 .along .0) in (λ m hl hw hh. K.is-full _ _ _ _ _ _ _ (c23 .pre .0) (c23 .pre .1) x _ _ _ m _ (c20 .row-at .ensures .0 _ (c21 .word-at .ensures .1)) (c18 .found .given .0 .0) (c18 .found .given .1) _ _ _ _ (c11 .fields .ensures .0) e _ (c11 .fields .ensures .1 .0 e _ hh) (c .if4 .taken), (tt, λ h. N.none-over _ _ _ _ _ _ _ _ _ _ _ _)))
-    (λ c κs. let c24 = c .before .before .before .before .before .before .before .before .before .before .before .before .before .before .before .before .before .before .before .before .before .before .before in c24 .pre .2)
+    (λ c. let c5 = c .before .before .before .before .before in let c11 = c5 .before .before .before .before .before .before in let c15 = c11 .before .before .before .before in let c17 = c15 .before .before in let c19 = c17 .before .before in let c20 = c19 .before in let c22 = c20 .before .before in let x = (C.next-at _ _ _ _ (c20 .word-at .ensures .0) (c15 .behind .ensures)) in let e = c5 .if1 .left ∙ ap (λ e. e + 1) (c11 .fields .ensures .0 .along .0) in (λ m hl hw hh. K.is-full _ _ _ _ _ _ _ (c22 .pre .0) (c22 .pre .1) x _ _ _ m _ (c19 .row-at .ensures .0 _ (c20 .word-at .ensures .1)) (c17 .found .given .0 .0) (c17 .found .given .1) _ _ _ _ (c11 .fields .ensures .0) e _ (c11 .fields .ensures .1 .0 e _ hh) (c .if4 .taken), (tt, λ h. N.none-over _ _ _ _ _ _ _ _ _ _ _ _)))
+    (λ c κs. let c24 = c .before .before .before .before .before .before .before .before .before .before .before .before .before .before .before .before .before .before .before .before .before .before .before .before in c24 .pre .2)
     (λ c. search needs)
-    (λ c. let c2 = c .before .before in let c8 = c2 .before .before .before .before .before .before in let c14 = c8 .before .before .before .before .before .before in let c19 = c14 .before .before .before .before in let c21 = c19 .before .before in let c23 = c21 .before .before in let c24 = c23 .before in let c26 = c24 .before .before in let x = (C.next-at _ _ _ _ (c24 .word-at .ensures .0) (c19 .behind .ensures)) in let e = c8 .if1 .left ∙ ap (λ e. e + 1) (c14 .fields .ensures .0 .along .0) in (λ m hl hw hh. K.is-deep _ _ _ _ _ _ _ (c26 .pre .0) (c26 .pre .1) x _ _ _ m _ (c23 .row-at .ensures .0 _ (c24 .word-at .ensures .1)) (c21 .found .given .0 .0) (c21 .found .given .1) _ _ _ _ (c14 .fields .ensures .0) e _ (c .before .opens-level .ensures) (c .if6 .taken) (c2 .if5 .taken), (tt, λ h. N.none-over _ _ _ _ _ _ _ _ _ _ _ _)))
+    (λ c. let c2 = c .before .before in let c9 = c2 .before .before .before .before .before .before .before in let c15 = c9 .before .before .before .before .before .before in let c19 = c15 .before .before .before .before in let c21 = c19 .before .before in let c23 = c21 .before .before in let c24 = c23 .before in let c26 = c24 .before .before in let x = (C.next-at _ _ _ _ (c24 .word-at .ensures .0) (c19 .behind .ensures)) in let e = c9 .if1 .left ∙ ap (λ e. e + 1) (c15 .fields .ensures .0 .along .0) in (λ m hl hw hh. K.is-deep _ _ _ _ _ _ _ (c26 .pre .0) (c26 .pre .1) x _ _ _ m _ (c23 .row-at .ensures .0 _ (c24 .word-at .ensures .1)) (c21 .found .given .0 .0) (c21 .found .given .1) _ _ _ _ (c15 .fields .ensures .0) e _ (c .before .opens-level .ensures) (c .if6 .taken) (c2 .if5 .taken), (tt, λ h. N.none-over _ _ _ _ _ _ _ _ _ _ _ _)))
     (λ c. search needs)
-    (λ c. let c3 = c .before .before .before in
-    let c5 = c3 .before .before in
-    let c7 = c5 .before .before in
-    let c8 = c7 .before in
-    let c11 = c8 .before .before .before in
-    let c14 = c11 .before .before .before in
-    let c19 = c14 .before .before .before .before in
+    (λ c. let c4 = c .before .before .before .before in
+    let c6 = c4 .before .before in
+    let c8 = c6 .before .before in
+    let c9 = c8 .before in
+    let c12 = c9 .before .before .before in
+    let c15 = c12 .before .before .before in
+    let c19 = c15 .before .before .before .before in
     let c21 = c19 .before .before in
     let c23 = c21 .before .before in
     let c24 = c23 .before in
     let c26 = c24 .before .before in
     let x = (C.next-at _ _ _ _ (c24 .word-at .ensures .0) (c19 .behind .ensures)) in
-    let e = c8 .if1 .left ∙ ap (λ e. e + 1) (c14 .fields .ensures .0 .along .0) in
+    let e = c9 .if1 .left ∙ ap (λ e. e + 1) (c15 .fields .ensures .0 .along .0) in
     let r = c23 .row-at .ensures in (
-      λ m hl hw hh. K.is-asked _ _ _ _ _ _ _ (c26 .pre .0) (c26 .pre .1) x _ _ _ m _ (r .0 _ (c24 .word-at .ensures .1)) (c21 .found .given .0 .0) (c21 .found .given .1) _ _ _ _ (c14 .fields .ensures .0) e _ (c14 .fields .ensures .1 .0 e _ hh) (c11 .spots-behind .result) hw (rw hl (c7 .if2 .left)) (c5 .if3 .left) (c3 .if4 .left) (K.not-opening (c26 .args .sort) _ _ (c .before .opens-level .ensures) (c .if6 .left)) (r .1 .0),
+      λ m hl hw hh. K.is-asked _ _ _ _ _ _ _ (c26 .pre .0) (c26 .pre .1) x _ _ _ m _ (r .0 _ (c24 .word-at .ensures .1)) (c21 .found .given .0 .0) (c21 .found .given .1) _ _ _ _ (c15 .fields .ensures .0) e _ (c15 .fields .ensures .1 .0 e _ hh) (c12 .spots-behind .result) hw (rw hl (c8 .if2 .left)) (c6 .if3 .left) (c4 .if4 .left) (K.not-opening (c26 .args .w .sort) _ _ (c .before .opens-level .ensures) (c .if6 .left)) (r .1 .0),
       (
-        (c14 .fields .ensures .0 .small .0, c14 .fields .ensures .0 .small .1, subst (Tidy (c26 .args .sort)) (c21 .found .given .1) (r .1 .0), K.not-opening (c26 .args .sort) _ _ (c .before .opens-level .ensures) (c .if6 .left)),
-        λ h. N.line-notes _ _ _ _ (c26 .pre .0) (c26 .pre .1) x (c26 .args .sort) (c26 .args .mark) _ (r .0 _ (c24 .word-at .ensures .1)) (r .1 .1 _ (c24 .word-at .ensures .1)) (r .1 .0) (c21 .found .given .0 .0) (c21 .found .given .1) _ _ _ _ _ (c14 .fields .ensures .0) e _ _ _ _ _ _ _ _ _ _ _ (c14 .fields .ensures .1 .1) (c11 .spots-behind .ensures) (c3 .if4 .left) h,
+        (c15 .fields .ensures .0 .small .0, c15 .fields .ensures .0 .small .1, subst (Tidy (c26 .args .w .sort)) (c21 .found .given .1) (r .1 .0), K.not-opening (c26 .args .w .sort) _ _ (c .before .opens-level .ensures) (c .if6 .left)),
+        λ h. N.line-notes _ _ _ _ (c26 .pre .0) (c26 .pre .1) x (c26 .args .w .sort) (c26 .args .w .mark) _ (r .0 _ (c24 .word-at .ensures .1)) (r .1 .1 _ (c24 .word-at .ensures .1)) (r .1 .0) (c21 .found .given .0 .0) (c21 .found .given .1) _ _ _ _ _ (c15 .fields .ensures .0) e _ _ _ _ _ _ _ _ _ _ _ (c15 .fields .ensures .1 .1) (c12 .spots-behind .ensures) (c4 .if4 .left) h,
       ),
     ))
     (λ c. search needs)
-    (λ c. let c3 = c .before .before .before in
-    let c5 = c3 .before .before in
-    let c6 = c5 .before in
-    let c9 = c6 .before .before .before in
-    let c12 = c9 .before .before .before in
-    let c17 = c12 .before .before .before .before in
+    (λ c. let c4 = c .before .before .before .before in
+    let c6 = c4 .before .before in
+    let c7 = c6 .before in
+    let c10 = c7 .before .before .before in
+    let c13 = c10 .before .before .before in
+    let c17 = c13 .before .before .before .before in
     let c19 = c17 .before .before in
     let c21 = c19 .before .before in
     let c22 = c21 .before in
     let c24 = c22 .before .before in
     let x = (C.next-at _ _ _ _ (c22 .word-at .ensures .0) (c17 .behind .ensures)) in
-    let e = c6 .if1 .left ∙ ap (λ e. e + 1) (c12 .fields .ensures .0 .along .0) in
-    let r = c21 .row-at .ensures in (λ m hl hw hh. K.is-asked _ _ _ _ _ _ _ (c24 .pre .0) (c24 .pre .1) x _ _ _ m _ (r .0 _ (c22 .word-at .ensures .1)) (c19 .found .given .0 .0) (c19 .found .given .1) _ _ _ _ (c12 .fields .ensures .0) e _ (c12 .fields .ensures .1 .0 e _ hh) (c9 .spots-behind .result) hw (rw hl (c5 .if2 .left)) (c3 .if3 .left) (c .before .if4 .left) (λ p n. c .if5 .left n) (r .1 .0), ((c12 .fields .ensures .0 .small .0, c12 .fields .ensures .0 .small .1, subst (Tidy (c24 .args .sort)) (c19 .found .given .1) (r .1 .0), λ p n. c .if5 .left n), λ h. N.line-notes _ _ _ _ (c24 .pre .0) (c24 .pre .1) x (c24 .args .sort) (c24 .args .mark) _ (r .0 _ (c22 .word-at .ensures .1)) (r .1 .1 _ (c22 .word-at .ensures .1)) (r .1 .0) (c19 .found .given .0 .0) (c19 .found .given .1) _ _ _ _ _ (c12 .fields .ensures .0) e _ _ _ _ _ _ _ _ _ _ _ (c12 .fields .ensures .1 .1) (c9 .spots-behind .ensures) (c .before .if4 .left) h)))
+    let e = c7 .if1 .left ∙ ap (λ e. e + 1) (c13 .fields .ensures .0 .along .0) in
+    let r = c21 .row-at .ensures in (λ m hl hw hh. K.is-asked _ _ _ _ _ _ _ (c24 .pre .0) (c24 .pre .1) x _ _ _ m _ (r .0 _ (c22 .word-at .ensures .1)) (c19 .found .given .0 .0) (c19 .found .given .1) _ _ _ _ (c13 .fields .ensures .0) e _ (c13 .fields .ensures .1 .0 e _ hh) (c10 .spots-behind .result) hw (rw hl (c6 .if2 .left)) (c4 .if3 .left) (c .before .before .if4 .left) (λ p n. c .if5 .left n) (r .1 .0), ((c13 .fields .ensures .0 .small .0, c13 .fields .ensures .0 .small .1, subst (Tidy (c24 .args .w .sort)) (c19 .found .given .1) (r .1 .0), λ p n. c .if5 .left n), λ h. N.line-notes _ _ _ _ (c24 .pre .0) (c24 .pre .1) x (c24 .args .w .sort) (c24 .args .w .mark) _ (r .0 _ (c22 .word-at .ensures .1)) (r .1 .1 _ (c22 .word-at .ensures .1)) (r .1 .0) (c19 .found .given .0 .0) (c19 .found .given .1) _ _ _ _ _ (c13 .fields .ensures .0) e _ _ _ _ _ _ _ _ _ _ _ (c13 .fields .ensures .1 .1) (c10 .spots-behind .ensures) (c .before .before .if4 .left) h)))
     (λ c. search needs)
     (λ c. let c2 = c .before .before in let c3 = c2 .before in let c5 = c3 .before .before in let x = C.next-at _ _ _ (record { at = _; end = _; awaited = _ }) (c3 .word-at .ensures .0) (refl, refl, refl) in (λ m hl hw hh. K.is-unknown _ _ _ _ _ _ _ (c5 .pre .0) (c5 .pre .1) x _ _ _ m _ (c2 .row-at .ensures .0 _ (c3 .word-at .ensures .1)) (c .enum-told .given .1), (tt, λ h. N.none-wrong _ _ _ _ _ _ _ _ _ _ _ _))))
