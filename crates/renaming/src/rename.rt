@@ -173,6 +173,10 @@ pub fn rename(tree: &[u8], mapping: &[u8], out: &mut [u8]) -> Answer
 {
     let mut table = [[0u16; 2]; 1024];
     let mut hints = [0u16; 4096];
+    if tree.len() <= 768 {
+        let mut spots = [[0u16; 3]; 256];
+        return rename_with(tree, &mut table, &mut hints, &mut spots, mapping, out);
+    }
     if tree.len() <= 1536 {
         let mut spots = [[0u16; 3]; 512];
         return rename_with(tree, &mut table, &mut hints, &mut spots, mapping, out);
