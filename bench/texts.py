@@ -29,7 +29,7 @@ def place(name):
     h = 0
     for b in name.encode():
         h = (h + b) * 16777619 % 4294967296
-    return h // 1048576
+    return h // 2097152
 
 
 def few():

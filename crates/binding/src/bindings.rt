@@ -6,6 +6,7 @@ use answers::Answer;
 use emit::put_all;
 use heads::copy;
 use names::Entry;
+use names::clear;
 use negating::Outermost;
 use negating::outermost_projection;
 use placing::columns::read_columns;
@@ -13,6 +14,8 @@ use placing::ends::inner_end;
 use placing::steps::put_repeated;
 use reading::check_sets;
 use reading::check_tree;
+use words::table::WordRow;
+use words::table::all_words;
 ghost use mathlib.Core.Path.{_≡_};
 ghost use Prim.Native.Nat.{_+_, _*_, _≤_};
 ghost use mathlib.Core.List.{List};
@@ -23,6 +26,7 @@ ghost use Rattle.algebra.specs.Tree.{Pattern};
 ghost use Rattle.algebra.specs.Query.{BindingSet};
 ghost use Rattle.algebra.specs.Reader.{reads};
 ghost use Rattle.algebra.specs.Texts.{readTree, readSets};
+ghost use Rattle.words.specs.bridge.Words.{Worded};
 ghost use Rattle.names.specs.bridge.Names.{namesIn};
 ghost use Rattle.emit.specs.bridge.Emit.{em, puts};
 ghost use Rattle.answers.specs.Outcome.{Answered};
@@ -75,8 +79,8 @@ fn has_room(
 }
 
 // For texts that were checked.
-fn bindings_of(tree: &[u8], sets: &[u8], out: &mut [u8]) -> Answer
-    requires { ⌜ ((p : Pattern) × (readTree (now tree) ≡ reads p)) × ((xs : List BindingSet) × (readSets (now sets) ≡ reads xs)) ⌝ }
+fn bindings_of(tree: &[u8], sets: &[u8], words: &[WordRow; 56], out: &mut [u8]) -> Answer
+    requires { ⌜ ((p : Pattern) × (readTree (now tree) ≡ reads p)) × ((xs : List BindingSet) × (readSets (now sets) ≡ reads xs)) × Worded (now words) ⌝ }
     ensures { λ r. ⌜ Answered (bindingsOutcome (now (tree .entry)) (now (sets .entry))) (now (out .entry)) (now (out .exit)) r ⌝ }
 {
     let Outermost::At(line, inner) = outermost_projection(tree, 0) else {
@@ -91,7 +95,7 @@ fn bindings_of(tree: &[u8], sets: &[u8], out: &mut [u8]) -> Answer
     if !judged.usable {
         return Answer::NotUsable;
     }
-    let end = inner_end(tree, inner);
+    let end = inner_end(tree, words, inner);
     if !has_room(tree, inner, end, &columns, n, sets, judged.sets, out.len()) {
         return Answer::TooShort;
     }
@@ -99,19 +103,21 @@ fn bindings_of(tree: &[u8], sets: &[u8], out: &mut [u8]) -> Answer
     Answer::Written(put)
 }
 
-// For a tree that was checked; its table of names is used again, as sets have none.
+// For a tree that was checked; its table of names is cleared and used again.
 fn bindings_by(
     tree: &[u8],
     sets: &[u8],
+    words: &[WordRow; 56],
     table: &mut [Entry; 1024],
-    hints: &mut [u16; 4096],
+    hints: &mut [u16; 2048],
     out: &mut [u8],
 ) -> Answer
-    requires { ⌜ ((p : Pattern) × (readTree (now tree) ≡ reads p)) ⌝ }
+    requires { ⌜ ((p : Pattern) × (readTree (now tree) ≡ reads p)) × Worded (now words) ⌝ }
     ensures { λ r. ⌜ Answered (bindingsOutcome (now (tree .entry)) (now (sets .entry))) (now (out .entry)) (now (out .exit)) r ⌝ }
 {
-    match check_sets(sets, table, hints) {
-        Check::Good(_) => bindings_of(tree, sets, out),
+    clear(table);
+    match check_sets(sets, words, table, hints) {
+        Check::Good(_) => bindings_of(tree, sets, words, out),
         Check::Malformed => Answer::Malformed,
         Check::OverBound => Answer::OverBound,
     }
@@ -121,10 +127,11 @@ fn bindings_by(
 pub fn bindings(tree: &[u8], sets: &[u8], out: &mut [u8]) -> Answer
     ensures { λ r. ⌜ Answered (bindingsOutcome (now (tree .entry)) (now (sets .entry))) (now (out .entry)) (now (out .exit)) r ⌝ }
 {
+    let words = all_words();
     let mut table = [[0u16; 2]; 1024];
-    let mut hints = [0u16; 4096];
-    match check_tree(tree, &mut table, &mut hints) {
-        Check::Good(_) => bindings_by(tree, sets, &mut table, &mut hints, out),
+    let mut hints = [0u16; 2048];
+    match check_tree(tree, &words, &mut table, &mut hints) {
+        Check::Good(_) => bindings_by(tree, sets, &words, &mut table, &mut hints, out),
         Check::Malformed => Answer::Malformed,
         Check::OverBound => Answer::OverBound,
     }

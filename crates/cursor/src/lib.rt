@@ -2,10 +2,10 @@
 use reader::next_end;
 use text::find;
 ghost use mathlib.Core.Path.{_≡_};
-ghost use Prim.Native.Nat.{_+_, _-_, _≤_, _<_};
+ghost use Prim.Native.Nat.{_+_, _≤_, _<_};
 ghost use lib.ListN.{length};
 ghost use Rattle.text.specs.Text.{First};
-ghost use Rattle.cursor.specs.bridge.Cursor.{Reads};
+ghost use Rattle.cursor.specs.bridge.Cursor.{Reads, movedTo, lineAt, lineDone, awaitingMany, childDone};
 
 // `at` is the next byte to read and `end` the end of the line. Behind the last field of a line `at` is one past `end`, where the
 // next line starts; two past `end` says that a field was missing or not what it should be.
@@ -40,10 +40,21 @@ impl Cursor {
         }
     }
 
+    // At another place.
+    pub fn moved_to(self, at: usize) -> Self
+        ensures { λ r. ⌜ r ≡ movedTo self at ⌝ }
+    {
+        Cursor {
+            at,
+            end: self.end,
+            awaited: self.awaited,
+        }
+    }
+
     // The line that starts here, up to its end or that of the text.
     pub fn next_line(self, s: &[u8]) -> Self
         requires { ⌜ self .at ≤ length (now s) ⌝ }
-        ensures { λ r. ⌜ (r .at ≡ self .at) × (r .awaited ≡ self .awaited) × First 10 (now (s .entry)) (self .at) (length (now (s .entry))) (r .end) ⌝ }
+        ensures { λ r. ⌜ (r ≡ lineAt self (r .end)) × First 10 (now (s .entry)) (self .at) (length (now (s .entry))) (r .end) ⌝ }
     {
         let at = self.at;
         let end = next_end(s, at);
@@ -99,15 +110,38 @@ impl Cursor {
         }
     }
 
-    // A line is done that has so many lines directly below it: they are awaited in its place.
-    pub fn child_done(self, below: u64) -> Self
-        requires { ⌜ (0 < self .awaited) × (self .awaited + below < 18446744073709551616) × (self .end ≤ 16384) ⌝ }
-        ensures { λ r. ⌜ (r .at ≡ self .end + 1) × (r .end ≡ self .end) × (r .awaited ≡ self .awaited - 1 + below) ⌝ }
+    // Behind its line, where the next one starts.
+    pub fn line_done(self) -> Self
+        requires { ⌜ self .end ≤ 16384 ⌝ }
+        ensures { λ r. ⌜ r ≡ lineDone self ⌝ }
     {
         Cursor {
             at: self.end + 1,
             end: self.end,
-            awaited: self.awaited - 1 + below,
+            awaited: self.awaited,
+        }
+    }
+
+    // So many lines are awaited from here on.
+    pub fn awaiting(self, awaited: u64) -> Self
+        ensures { λ r. ⌜ r ≡ awaitingMany self awaited ⌝ }
+    {
+        Cursor {
+            at: self.at,
+            end: self.end,
+            awaited,
+        }
+    }
+
+    // A line that was awaited is done, with all below it, where the cursor of that child stands: one fewer is awaited.
+    pub fn child_done(self, child: Cursor) -> Self
+        requires { ⌜ 0 < self .awaited ⌝ }
+        ensures { λ r. ⌜ r ≡ childDone self child ⌝ }
+    {
+        Cursor {
+            at: child.at,
+            end: child.end,
+            awaited: self.awaited - 1,
         }
     }
 }

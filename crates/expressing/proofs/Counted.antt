@@ -4,6 +4,7 @@ use mathlib.Core.Path.{_≡_, refl, sym, ap, ap₂, subst, _∙_}
 use mathlib.Core.Bool.{Bool, true, false, cond, not, _&&_}
 use mathlib.Core.List.{List, [], _∷_, _++_}
 use mathlib.Core.Logic.{⊎-elim}
+use native.Mathlib.Decide.{decLt}
 use native.Mathlib.Omega.{arith}
 use lib.ListN.{length}
 use lib.Dec.{ltb}
@@ -12,7 +13,7 @@ use borrow.Author.Tests.{not-true, not-false}
 use Rattle.text.proofs.Basics.{and-left, and-right}
 use Rattle.text.specs.Text.{Bytes, Line, same, textOf, split, part, linesFrom, First}
 use Rattle.text.specs.Word.{bytes}
-use Rattle.text.proofs.Places.{lines-next, lines-end}
+use Rattle.text.proofs.Places.{lines-next, lines-open, lines-end}
 use Rattle.words.specs.bridge.Key.{keyOf, Keyed}
 use Rattle.words.proofs.ByKey.{small, tells, same-key, other-key}
 use Rattle.cursor.specs.bridge.Cursor.{left}
@@ -32,6 +33,31 @@ use Rattle.expressing.specs.declared.place.Placed.{Placed as Said}
 use Rattle.expressing.specs.declared.place.Measured.{Measured}
 use Rattle.expressing.specs.bridge.Walks.{Walks, Places, allPlaced, Measures}
 use Rattle.expressing.specs.bridge.Filtered.{refBelow}
+
+-- ---- how many lines
+
+module _ (s : Bytes) (from : ℕ) where
+  pub count-end : (n : ℕ) → length s ≤ from → n + length (linesFrom s from) ≡ n
+  count-end n h = let e = ap (λ (ls : List Line). length ls) (lines-end s from h) in omega (arith, e)
+
+  pub count-next : (end n : ℕ) → from < length s → LineEnd s from end → n + 1 + length (linesFrom s (end + 1)) ≡ n + length (linesFrom s from)
+  count-next end n h l = go (decLt end (length s))
+    where
+      go : Dec (end < length s) → n + 1 + length (linesFrom s (end + 1)) ≡ n + length (linesFrom s from)
+      go (yes i) = let e = ap (λ (ls : List Line). length ls) (lines-next s from end (l .ends i) i) in omega (arith, e)
+      go (no i) =
+          let t = l .high in
+          let q : end ≡ length s = omega arith in
+          let e = ap (λ (ls : List Line). length ls) (lines-open s from end h (l .none q (let x : length s ≤ from → ⊥ = omega arith in x)) q) in
+          let d = ap (λ (ls : List Line). length ls) (lines-end s (end + 1) (omega arith)) in
+          omega (arith, e, d)
+
+  pub end-low : (end : ℕ) → from < length s → LineEnd s from end → from ≤ end
+  end-low end h l = go (decLt end (length s))
+    where
+      go : Dec (end < length s) → from ≤ end
+      go (yes i) = l .ends i .low
+      go (no i) = let t = l .high in omega arith
 
 -- ---- references
 
@@ -219,8 +245,8 @@ pub end-is : (b : Bool) (x : Bytes) (a k m : ℕ) → em k [] ≡ puts x (em a [
 end-is true x a k m e h = ap (λ (n : ℕ). em n []) h ∙ e
 end-is false x a k m e h = ap (λ (n : ℕ). em n []) h
 
-pub measured : (cs : List Bytes) (s : Bytes) (r : Measured) → Places (placedFilters cs (length s) (linesFrom s 0)) (em 0 []) (em (r .size) []) (record { many = r .many; at = r .size }) → (r .all ≡ true → allPlaced cs (length s) (linesFrom s 0) ≡ true) → r .many ≤ length s → Measures cs s r
-measured cs s r p a f = record { many = p .many; size = p .lines; all = a; few = f }
+pub measured : (cs : List Bytes) (s : Bytes) (n : ℕ) (r : Measured) → Places (placedFilters cs n (linesFrom s 0)) (em 0 []) (em (r .size) []) (record { many = r .many; at = r .size }) → (r .all ≡ true → allPlaced cs n (linesFrom s 0) ≡ true) → r .many ≤ n → Measures cs s n r
+measured cs s n r p a f = record { many = p .many; size = p .lines; all = a; few = f }
 
 -- ---- each is placed
 

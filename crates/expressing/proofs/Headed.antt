@@ -1,15 +1,22 @@
 -- One line of a filter: the lines that it becomes, and what stands below it. Assumes nothing.
 use Prim.Native.Nat.{ℕ, _+_, _≤_, _<_}
-use mathlib.Core.Path.{_≡_, refl, sym, ap, ap₂, _∙_}
-use mathlib.Core.Bool.{Bool, true, false, not, _&&_}
+use mathlib.Core.Path.{_≡_, refl, sym, ap, ap₂, subst, _∙_}
+use mathlib.Core.Bool.{Bool, true, false, not}
 use mathlib.Core.List.{List, [], _∷_, _++_}
-use mathlib.Core.Option.{some}
+use mathlib.Core.Option.{Option, some}
+use native.Mathlib.Omega.{arith}
 use lib.ListN.{length, getD}
 use lib.Seq.{getD-drop}
 use lib.Dec.{eqb}
 use borrow.Author.Tests.{eq-eqb, ne-eqb, not-true, not-false}
 use Rattle.text.specs.Text.{Bytes, same, ended, textOf, split, part, First}
 use Rattle.text.specs.Word.{bytes}
+use Rattle.text.proofs.Basics.{same-eq}
+use Rattle.algebra.specs.bridge.Table.{Row, parts, rowIn, rowFor}
+use Rattle.words.specs.declared.Row.{Row as Code}
+use Rattle.words.specs.declared.Found.{Found}
+use Rattle.words.specs.declared.Found.the-variants.{Is, None}
+use Rattle.words.specs.bridge.Code.{groupsIn, rowFound}
 use Rattle.words.specs.bridge.Key.{keyOf, Keyed}
 use Rattle.words.proofs.ByKey.{small, tells, same-key, is-word, other-key}
 use Rattle.cursor.specs.bridge.Cursor.{left}
@@ -20,6 +27,7 @@ use Rattle.walking.proofs.Laws.{line-split}
 use Rattle.merging.specs.Request.{position}
 use Rattle.filtering.specs.bridge.Terms.{formOf, isExpressed, termOf}
 use Rattle.filtering.specs.bridge.FilterLines.{isTrueLine, partsBelow, leafLines, unaryLines, binaryLines, expressionLines}
+use Rattle.filtering.specs.bridge.Copying.{amounts, below}
 use Rattle.placing.specs.declared.field.Field.{Field}
 use Rattle.placing.specs.bridge.Fields.{FieldIs}
 use Rattle.expressing.specs.bridge.Heads.{Heads}
@@ -144,28 +152,35 @@ module _ (f : Bytes) (k : ℕ) (keyed : Keyed f k) (s : Bytes) (first end : ℕ)
       rw (other-key f k keyed (bytes "leaf") refl a, other-key f k keyed (bytes "ref") refl b, other-key f k keyed (bytes "un") refl c, other-key f k keyed (bytes "bin") refl d)
       (record { is = refl; lines = sym (puts-nil e) })
 
-  -- ---- how many parts
+-- ---- how many parts, by the row of the word
 
-  pub parts-un : k ≡ keyOf 0 (bytes "un") → 1 ≡ partsBelow (f ∷ Fields)
-  unfolding partsBelow same small tells
-  parts-un t = rw (word (bytes "un") refl t)
+abbrev Numbers : List Bytes → List ℕ
+Numbers fs = numberIn (getD fs 0 []) ∷ numberIn (getD fs 1 []) ∷ []
 
-  pub parts-bin : k ≡ keyOf 0 (bytes "bin") → 2 ≡ partsBelow (f ∷ Fields)
-  unfolding partsBelow same small tells
-  parts-bin t = rw (word (bytes "bin") refl t)
+module _ (f : Bytes) (fs : List Bytes) where
+  abbrev Asked : Bytes → Type 0
+  Asked w = amounts (below (rowFor parts w)) (Numbers fs) ≡ partsBelow (w ∷ fs)
 
-  pub parts-tern : k ≡ keyOf 0 (bytes "tern") → 3 ≡ partsBelow (f ∷ Fields)
-  unfolding partsBelow same small tells
-  parts-tern t = rw (word (bytes "tern") refl t)
+  step : (w : Bytes) → Asked w → (same f w ≡ false → Asked f) → Asked f
+  step w here on = go (same f w) refl
+    where
+      go : (b : Bool) → same f w ≡ b → Asked f
+      go true e = subst Asked (sym (same-eq f w e)) here
+      go false e = on e
 
-  pub parts-nary : k ≡ keyOf 0 (bytes "nary") → (m : ℕ) → m ≡ numberIn (getD Fields 1 []) → m ≡ partsBelow (f ∷ Fields)
-  unfolding partsBelow same small tells
-  parts-nary t m p = rw (word (bytes "nary") refl t) p
+  parts-asked : Asked f
+  unfolding rowIn amounts partsBelow same
+  parts-asked =
+      step (bytes "leaf") refl λ l. step (bytes "ref") refl λ r. step (bytes "un") refl λ u. step (bytes "bin") refl λ b. step (bytes "tern") refl λ t. step (bytes "nary") (omega arith) λ n. rw (l, r, u, b, t, n)
 
-  pub parts-none : (k ≡ keyOf 0 (bytes "un") → ⊥) → (k ≡ keyOf 0 (bytes "bin") → ⊥) → (k ≡ keyOf 0 (bytes "tern") → ⊥) → (k ≡ keyOf 0 (bytes "nary") → ⊥) → 0 ≡ partsBelow (f ∷ Fields)
-  unfolding partsBelow small tells
-  parts-none a b c d =
-      rw (other-key f k keyed (bytes "un") refl a, other-key f k keyed (bytes "bin") refl b, other-key f k keyed (bytes "tern") refl c, other-key f k keyed (bytes "nary") refl d)
+  -- the row that was found, and what it asks for
+  module _ (t : Found) (e : rowFound t ≡ rowFor parts f) where
+    pub no-parts : t ≡ None → 0 ≡ partsBelow (f ∷ fs)
+    unfolding amounts
+    no-parts i = ap (λ (o : Option Row). amounts (below o) (Numbers fs)) (sym (ap rowFound i) ∙ e) ∙ parts-asked
+
+    pub parts-are : (c : Code) → t ≡ Is c → (r : ℕ) → r ≡ amounts (groupsIn 3 (c .below)) (Numbers fs) → r ≡ partsBelow (f ∷ fs)
+    parts-are c i r h = h ∙ ap (λ (o : Option Row). amounts (below o) (Numbers fs)) (sym (ap rowFound i) ∙ e) ∙ parts-asked
 
 -- ---- always true
 

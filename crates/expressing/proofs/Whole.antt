@@ -83,8 +83,16 @@ answer-length s inner end ands ls low high =
     let t = length-append (textOf ls) (drop end s) in
     omega arith
 
-pub text-short : (s : Bytes) (fs : List Filter) → readFilters s ≡ reads fs → length s ≤ 16384
+text-short : (s : Bytes) (fs : List Filter) → readFilters s ≡ reads fs → length s ≤ 16384
 text-short s fs e = let x = filters-exactly s fs .0 e in subst (λ (b : Bytes). length b ≤ 16384) (x .0) (x .2 .bytes)
+
+module _ (s : Bytes) (fs : List Filter) (e : readFilters s ≡ reads fs) (lines : ℕ) (l : lines ≡ length (linesFrom s 0)) where
+  -- as many lines are left as there are
+  lines-left : length (putFilters fs []) ≤ lines
+  lines-left = let h = ap (λ (ls : List Line). length ls) (filters-at s fs e) in omega (arith, h, l)
+
+  pub lines-few : lines ≤ 16384
+  lines-few = let h = ap (λ (ls : List Line). length ls) (filters-at s fs e) in let i = filters-long s fs e in let j = text-short s fs e in omega (arith, h, i, j, l)
 
 -- ---- the outcome
 
@@ -124,20 +132,20 @@ module _ (tree filters : Bytes) (p : Pattern) (fs : List Filter) (e : readTree t
       unfolding Reported
       outside out h = rw (by-tests, sym inside-is ∙ not-true b h) (refl, refl, refl)
 
-      module _ (yes : not b ≡ false) where
+      module _ (yes : not b ≡ false) (lines : ℕ) (l : lines ≡ length (linesFrom filters 0)) where
         written-is : filtersOutcome tree filters ≡ written (layout (patternWithFilters p fs .pattern))
         written-is = by-tests ∙ rw (sym inside-is ∙ not-false b yes)
 
         abbrev Put : Placed
-        Put = placedFilters cs (length filters) (linesFrom filters 0)
+        Put = placedFilters cs lines (linesFrom filters 0)
 
         placed-as : PlacedAs Put (expressions (At .columns) fs)
         placed-as =
             subst (λ (x : Placed). PlacedAs x (expressions (At .columns) fs))
-            (λ i. placedFilters (sym cs-are i) (length filters) (sym (filters-at filters fs f) i))
-            (filters-placed (At .columns) fs (length filters) (filters-valid filters fs f) (filters-long filters fs f))
+            (λ i. placedFilters (sym cs-are i) lines (sym (filters-at filters fs f) i))
+            (filters-placed (At .columns) fs lines (filters-valid filters fs f) (lines-left filters fs f lines l))
 
-        module _ (j : Measured) (k : Measures cs filters j) where
+        module _ (j : Measured) (k : Measures cs filters lines j) where
           many-is : j .many ≡ length (expressions (At .columns) fs)
           many-is = k .many ∙ placed-as .many
 

@@ -4,9 +4,11 @@ use crate::head::put_head;
 use names::Entry;
 use placing::steps::both;
 use reader::line_end;
+use words::table::WordRow;
 use words::word_at;
 ghost use Prim.Native.Nat.{_≤_};
 ghost use Rattle.text.specs.Text.{linesFrom};
+ghost use Rattle.words.specs.bridge.Words.{Worded};
 ghost use Rattle.emit.specs.bridge.Emit.{em};
 ghost use Rattle.names.specs.bridge.Names.{namesIn};
 ghost use Rattle.filtering.specs.bridge.FilterLines.{treeToExpression};
@@ -25,12 +27,13 @@ pub fn tree_to_expression(
     columns: &[Entry; 64],
     n: usize,
     filters: &[u8],
+    words: &[WordRow; 56],
     from: usize,
     left: usize,
     out: &mut [u8],
     at: usize,
 ) -> Walked
-    requires { ⌜ n ≤ 64 ⌝ }
+    requires { ⌜ (n ≤ 64) × Worded (now words) ⌝ }
     ensures { λ r. ⌜ Walks (now (filters .entry)) (treeToExpression (namesIn (now (tree .entry)) (now (columns .entry)) n) left (linesFrom (now (filters .entry)) from)) (em at (now (out .entry))) (em (r .at) (now (out .exit))) r ⌝ }
 {
     if left == 0 {
@@ -54,9 +57,9 @@ pub fn tree_to_expression(
     let mut expressed = head.expressed;
     let mut to = head.at;
     let mut next = end + 1;
-    let mut parts = parts_below(filters, w.key, first, end);
+    let mut parts = parts_below(filters, words, w.key, first, end);
     while 0 < parts {
-        let part = tree_to_expression(tree, columns, n, filters, next, left - 1, out, to);
+        let part = tree_to_expression(tree, columns, n, filters, words, next, left - 1, out, to);
         expressed = both(expressed, part.expressed);
         to = part.at;
         next = part.from;

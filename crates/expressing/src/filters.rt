@@ -1,4 +1,5 @@
 // The call filters: tree and filters to tree.
+use crate::place::lines_in;
 use crate::place::measure_filters;
 use crate::place::put_expressions;
 use algebra::Answer as Check;
@@ -6,6 +7,7 @@ use answers::Answer;
 use emit::put_all;
 use heads::copy;
 use names::Entry;
+use names::clear;
 use negating::Outermost;
 use negating::outermost_projection;
 use placing::columns::read_columns;
@@ -17,6 +19,8 @@ use reader::line_end;
 use reading::check_filters;
 use reading::check_tree;
 use words::keys;
+use words::table::WordRow;
+use words::table::all_words;
 use words::word_at;
 ghost use mathlib.Core.Path.{_≡_};
 ghost use mathlib.Core.Bool.{true};
@@ -28,6 +32,7 @@ ghost use Rattle.algebra.specs.Tree.{Pattern};
 ghost use Rattle.algebra.specs.Query.{Filter};
 ghost use Rattle.algebra.specs.Reader.{reads};
 ghost use Rattle.algebra.specs.Texts.{readTree, readFilters};
+ghost use Rattle.words.specs.bridge.Words.{Worded};
 ghost use Rattle.names.specs.bridge.Names.{namesIn};
 ghost use Rattle.emit.specs.bridge.Emit.{em, last, puts};
 ghost use Rattle.answers.specs.Outcome.{Answered};
@@ -82,18 +87,20 @@ fn put_filtered(
     columns: &[Entry; 64],
     n: usize,
     filters: &[u8],
+    words: &[WordRow; 56],
+    lines: usize,
     ands: usize,
     all: bool,
     out: &mut [u8],
 ) -> usize
-    requires { ⌜ (inner ≤ end) × (end ≤ length (now tree)) × (n ≤ 64) × (all ≡ true → allPlaced (namesIn (now tree) (now columns) n) (length (now filters)) (linesFrom (now filters) 0) ≡ true) ⌝ }
-    ensures { λ r. ⌜ em r (now (out .exit)) ≡ puts (filteredAt (now (tree .entry)) inner end ands (placedFilters (namesIn (now (tree .entry)) (now (columns .entry)) n) (length (now (filters .entry))) (linesFrom (now (filters .entry)) 0) .lines)) (em 0 (now (out .entry))) ⌝ }
+    requires { ⌜ (inner ≤ end) × (end ≤ length (now tree)) × (n ≤ 64) × (all ≡ true → allPlaced (namesIn (now tree) (now columns) n) lines (linesFrom (now filters) 0) ≡ true) × Worded (now words) ⌝ }
+    ensures { λ r. ⌜ em r (now (out .exit)) ≡ puts (filteredAt (now (tree .entry)) inner end ands (placedFilters (namesIn (now (tree .entry)) (now (columns .entry)) n) lines (linesFrom (now (filters .entry)) 0) .lines)) (em 0 (now (out .entry))) ⌝ }
 {
     let a = put_all(out, 0, &tree[..inner]);
     let b = put_all(out, a, &FILTER);
     let c = put_all(out, b, &tree[inner..end]);
     let d = put_repeated(&AND, ands, out, c);
-    let e = put_expressions(all, tree, columns, n, filters, out, d);
+    let e = put_expressions(all, tree, columns, n, filters, words, lines, out, d);
     put_all(out, e, &tree[end..])
 }
 
@@ -110,8 +117,8 @@ fn filtered_size(tree: &[u8], ands: usize, size: usize) -> usize
 }
 
 // For texts that were checked.
-fn filters_of(tree: &[u8], filters: &[u8], out: &mut [u8]) -> Answer
-    requires { ⌜ ((p : Pattern) × (readTree (now tree) ≡ reads p)) × ((fs : List Filter) × (readFilters (now filters) ≡ reads fs)) ⌝ }
+fn filters_of(tree: &[u8], filters: &[u8], words: &[WordRow; 56], out: &mut [u8]) -> Answer
+    requires { ⌜ ((p : Pattern) × (readTree (now tree) ≡ reads p)) × ((fs : List Filter) × (readFilters (now filters) ≡ reads fs)) × Worded (now words) ⌝ }
     ensures { λ r. ⌜ Answered (filtersOutcome (now (tree .entry)) (now (filters .entry))) (now (out .entry)) (now (out .exit)) r ⌝ }
 {
     let Outermost::At(line, inner) = outermost_projection(tree, 0) else {
@@ -122,12 +129,13 @@ fn filters_of(tree: &[u8], filters: &[u8], out: &mut [u8]) -> Answer
     if !are_inside(filters, n) {
         return Answer::Outside;
     }
-    let placed = measure_filters(tree, &columns, n, filters);
+    let lines = lines_in(filters);
+    let placed = measure_filters(tree, &columns, n, filters, words, lines);
     if placed.many == 0 {
         return copy(tree, out);
     }
     let ands = placed.many - 1;
-    let end = inner_end(tree, inner);
+    let end = inner_end(tree, words, inner);
     let size = filtered_size(tree, ands, placed.size);
     if out.len() < size {
         return Answer::TooShort;
@@ -139,6 +147,8 @@ fn filters_of(tree: &[u8], filters: &[u8], out: &mut [u8]) -> Answer
         &columns,
         n,
         filters,
+        words,
+        lines,
         ands,
         placed.all,
         out,
@@ -146,19 +156,21 @@ fn filters_of(tree: &[u8], filters: &[u8], out: &mut [u8]) -> Answer
     Answer::Written(put)
 }
 
-// For a tree that was checked; its table of names is used again, as filters have none.
+// For a tree that was checked; its table of names is cleared and used again.
 fn filters_by(
     tree: &[u8],
     filters: &[u8],
+    words: &[WordRow; 56],
     table: &mut [Entry; 1024],
-    hints: &mut [u16; 4096],
+    hints: &mut [u16; 2048],
     out: &mut [u8],
 ) -> Answer
-    requires { ⌜ ((p : Pattern) × (readTree (now tree) ≡ reads p)) ⌝ }
+    requires { ⌜ ((p : Pattern) × (readTree (now tree) ≡ reads p)) × Worded (now words) ⌝ }
     ensures { λ r. ⌜ Answered (filtersOutcome (now (tree .entry)) (now (filters .entry))) (now (out .entry)) (now (out .exit)) r ⌝ }
 {
-    match check_filters(filters, table, hints) {
-        Check::Good(_) => filters_of(tree, filters, out),
+    clear(table);
+    match check_filters(filters, words, table, hints) {
+        Check::Good(_) => filters_of(tree, filters, words, out),
         Check::Malformed => Answer::Malformed,
         Check::OverBound => Answer::OverBound,
     }
@@ -168,10 +180,11 @@ fn filters_by(
 pub fn filters(tree: &[u8], filters: &[u8], out: &mut [u8]) -> Answer
     ensures { λ r. ⌜ Answered (filtersOutcome (now (tree .entry)) (now (filters .entry))) (now (out .entry)) (now (out .exit)) r ⌝ }
 {
+    let words = all_words();
     let mut table = [[0u16; 2]; 1024];
-    let mut hints = [0u16; 4096];
-    match check_tree(tree, &mut table, &mut hints) {
-        Check::Good(_) => filters_by(tree, filters, &mut table, &mut hints, out),
+    let mut hints = [0u16; 2048];
+    match check_tree(tree, &words, &mut table, &mut hints) {
+        Check::Good(_) => filters_by(tree, filters, &words, &mut table, &mut hints, out),
         Check::Malformed => Answer::Malformed,
         Check::OverBound => Answer::OverBound,
     }

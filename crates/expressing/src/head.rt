@@ -3,23 +3,28 @@ use emit::put;
 use emit::put_all;
 use names::Entry;
 use placing::columns::column_at;
+use placing::ends::lines_asked;
 use placing::field::field_at;
 use placing::field::position_of;
 use placing::term::form_of;
 use placing::term::put_term;
 use text::equal;
-use walking::line::count_at;
+use words::Found;
 use words::keys;
+use words::table::WordRow;
+use words::table::row_at;
+use words::table::word_by;
 use words::word_at;
 ghost use mathlib.Core.Path.{_≡_};
 ghost use Prim.Native.Nat.{_+_, _≤_, _<_};
 ghost use mathlib.Core.List.{[], _∷_};
 ghost use mathlib.Core.Option.{some};
-ghost use lib.ListN.{length, getD, drop};
+ghost use lib.ListN.{length, getD};
 ghost use Rattle.text.specs.Text.{Bytes, part, split};
 ghost use Rattle.text.specs.Word.{bytes};
 ghost use Rattle.cursor.specs.bridge.Cursor.{left};
 ghost use Rattle.words.specs.bridge.Key.{Keyed};
+ghost use Rattle.words.specs.bridge.Words.{Worded};
 ghost use Rattle.emit.specs.bridge.Emit.{em};
 ghost use Rattle.names.specs.bridge.Names.{namesIn};
 ghost use Rattle.merging.specs.Request.{position};
@@ -209,22 +214,21 @@ pub fn put_head(
     }
 }
 
-// How many parts stand below such a line.
-pub fn parts_below(filters: &[u8], key: u64, first: usize, end: usize) -> usize
-    requires { ⌜ end < length (now filters) ⌝ }
+// How many parts stand below such a line, by the row of its word.
+pub fn parts_below(
+    filters: &[u8],
+    words: &[WordRow; 56],
+    key: u64,
+    first: usize,
+    end: usize,
+) -> usize
+    requires { ⌜ (end < length (now filters)) × Worded (now words) ⌝ }
     ensures { λ r. ⌜ ((f : Bytes) → Keyed f key → r ≡ partsBelow (f ∷ left (now (filters .entry)) first end)) ⌝ }
 {
-    match key {
-        keys::UN => 1,
-        keys::BIN => 2,
-        keys::TERN => 3,
-        keys::NARY => {
-            let name = count_at(filters, first, end);
-            let count = count_at(filters, name.next, end);
-            count.number
-        }
-        _ => 0,
-    }
+    let Found::Is(row) = row_at(words, word_by(words, 11, key)) else {
+        return 0;
+    };
+    lines_asked(filters, row.below, first, end) as usize
 }
 
 // is_constant_true, of the filter whose first line goes from here to its end.

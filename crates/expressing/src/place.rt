@@ -5,16 +5,31 @@ use crate::head::is_constant_true;
 use names::Entry;
 use placing::steps::both;
 use reader::line_end;
+use words::table::WordRow;
 ghost use mathlib.Core.Path.{_≡_};
 ghost use Prim.Native.Nat.{_+_, _≤_, _<_};
 ghost use mathlib.Core.Bool.{cond, true};
 ghost use mathlib.Core.List.{[]};
 ghost use lib.ListN.{length};
 ghost use Rattle.text.specs.Text.{textOf, linesFrom};
+ghost use Rattle.words.specs.bridge.Words.{Worded};
 ghost use Rattle.emit.specs.bridge.Emit.{em, puts};
 ghost use Rattle.names.specs.bridge.Names.{namesIn};
 ghost use Rattle.filtering.specs.bridge.FilterLines.{treeToExpression, placedFilters};
 ghost use Rattle.expressing.specs.bridge.Walks.{Walks, Places, allPlaced, Measures};
+
+// How many lines a text has.
+pub fn lines_in(text: &[u8]) -> usize
+    ensures { λ r. ⌜ r ≡ length (linesFrom (now (text .entry)) 0) ⌝ }
+{
+    let mut lines = 0;
+    let mut from = 0;
+    while from < text.len() {
+        from = line_end(text, from) + 1;
+        lines += 1;
+    }
+    lines
+}
 
 // A filter, and nothing written.
 fn try_filter(
@@ -22,15 +37,16 @@ fn try_filter(
     columns: &[Entry; 64],
     n: usize,
     filters: &[u8],
+    words: &[WordRow; 56],
     from: usize,
     left: usize,
     at: usize,
 ) -> Walked
-    requires { ⌜ n ≤ 64 ⌝ }
+    requires { ⌜ (n ≤ 64) × Worded (now words) ⌝ }
     ensures { λ r. ⌜ Walks (now (filters .entry)) (treeToExpression (namesIn (now (tree .entry)) (now (columns .entry)) n) left (linesFrom (now (filters .entry)) from)) (em at []) (em (r .at) []) r ⌝ }
 {
     let mut none = [0u8; 0];
-    tree_to_expression(tree, columns, n, filters, from, left, &mut none, at)
+    tree_to_expression(tree, columns, n, filters, words, from, left, &mut none, at)
 }
 
 // The expression of a filter that is placed.
@@ -40,18 +56,19 @@ fn put_placed(
     columns: &[Entry; 64],
     n: usize,
     filters: &[u8],
+    words: &[WordRow; 56],
     from: usize,
     left: usize,
     out: &mut [u8],
     at: usize,
 ) -> usize
-    requires { ⌜ n ≤ 64 ⌝ }
+    requires { ⌜ (n ≤ 64) × Worded (now words) ⌝ }
     ensures { λ r. ⌜ em r (now (out .exit)) ≡ cond placed (puts (textOf (treeToExpression (namesIn (now (tree .entry)) (now (columns .entry)) n) left (linesFrom (now (filters .entry)) from) .lines)) (em at (now (out .entry)))) (em at (now (out .entry))) ⌝ }
 {
     if !placed {
         return at;
     }
-    let w = tree_to_expression(tree, columns, n, filters, from, left, out, at);
+    let w = tree_to_expression(tree, columns, n, filters, words, from, left, out, at);
     w.at
 }
 
@@ -70,30 +87,43 @@ pub struct Placed {
     pub at: usize,
 }
 
-// All filters, one after the other.
+// All filters, one after the other; so many lines are left.
 fn put_filters(
     tree: &[u8],
     columns: &[Entry; 64],
     n: usize,
     filters: &[u8],
+    words: &[WordRow; 56],
+    lines: usize,
     out: &mut [u8],
     at: usize,
 ) -> Placed
-    requires { ⌜ n ≤ 64 ⌝ }
-    ensures { λ r. ⌜ Places (placedFilters (namesIn (now (tree .entry)) (now (columns .entry)) n) (length (now (filters .entry))) (linesFrom (now (filters .entry)) 0)) (em at (now (out .entry))) (em (r .at) (now (out .exit))) r ⌝ }
+    requires { ⌜ (n ≤ 64) × Worded (now words) ⌝ }
+    ensures { λ r. ⌜ Places (placedFilters (namesIn (now (tree .entry)) (now (columns .entry)) n) lines (linesFrom (now (filters .entry)) 0)) (em at (now (out .entry))) (em (r .at) (now (out .exit))) r ⌝ }
 {
     let mut many = 0;
     let mut to = at;
     let mut from = 0;
-    let mut left = filters.len();
+    let mut left = lines;
     while 0 < left {
         let end = line_end(filters, from);
         if end == filters.len() {
             return Placed { many, at: to };
         }
-        let tried = try_filter(tree, columns, n, filters, from, left, 0);
+        let tried = try_filter(tree, columns, n, filters, words, from, left, 0);
         let placed = both(!is_constant_true(filters, from, end), tried.expressed);
-        to = put_placed(placed, tree, columns, n, filters, from, left, out, to);
+        to = put_placed(
+            placed,
+            tree,
+            columns,
+            n,
+            filters,
+            words,
+            from,
+            left,
+            out,
+            to,
+        );
         many = one_more(many, placed);
         from = tried.from;
         left -= 1;
@@ -117,16 +147,23 @@ fn placed_end(placed: bool, end: usize, at: usize) -> usize
     at
 }
 
-// All filters, and nothing written.
-pub fn measure_filters(tree: &[u8], columns: &[Entry; 64], n: usize, filters: &[u8]) -> Measured
-    requires { ⌜ n ≤ 64 ⌝ }
-    ensures { λ r. ⌜ Measures (namesIn (now (tree .entry)) (now (columns .entry)) n) (now (filters .entry)) r ⌝ }
+// All filters, and nothing written; so many lines are left.
+pub fn measure_filters(
+    tree: &[u8],
+    columns: &[Entry; 64],
+    n: usize,
+    filters: &[u8],
+    words: &[WordRow; 56],
+    lines: usize,
+) -> Measured
+    requires { ⌜ (n ≤ 64) × Worded (now words) ⌝ }
+    ensures { λ r. ⌜ Measures (namesIn (now (tree .entry)) (now (columns .entry)) n) (now (filters .entry)) lines r ⌝ }
 {
     let mut many = 0;
     let mut size = 0;
     let mut all = true;
     let mut from = 0;
-    let mut left = filters.len();
+    let mut left = lines;
     while 0 < left {
         if filters.len() <= from {
             return Measured { many, size, all };
@@ -139,7 +176,7 @@ pub fn measure_filters(tree: &[u8], columns: &[Entry; 64], n: usize, filters: &[
                 all: false,
             };
         }
-        let tried = try_filter(tree, columns, n, filters, from, left, size);
+        let tried = try_filter(tree, columns, n, filters, words, from, left, size);
         let placed = both(!is_constant_true(filters, from, end), tried.expressed);
         size = placed_end(placed, tried.at, size);
         many = one_more(many, placed);
@@ -150,26 +187,28 @@ pub fn measure_filters(tree: &[u8], columns: &[Entry; 64], n: usize, filters: &[
     Measured { many, size, all }
 }
 
-// The expressions of all filters, each of which is placed.
+// The expressions of all filters, each of which is placed; so many lines are left.
 fn put_every(
     tree: &[u8],
     columns: &[Entry; 64],
     n: usize,
     filters: &[u8],
+    words: &[WordRow; 56],
+    lines: usize,
     out: &mut [u8],
     at: usize,
 ) -> usize
-    requires { ⌜ (n ≤ 64) × (allPlaced (namesIn (now tree) (now columns) n) (length (now filters)) (linesFrom (now filters) 0) ≡ true) ⌝ }
-    ensures { λ r. ⌜ em r (now (out .exit)) ≡ puts (textOf (placedFilters (namesIn (now (tree .entry)) (now (columns .entry)) n) (length (now (filters .entry))) (linesFrom (now (filters .entry)) 0) .lines)) (em at (now (out .entry))) ⌝ }
+    requires { ⌜ (n ≤ 64) × (allPlaced (namesIn (now tree) (now columns) n) lines (linesFrom (now filters) 0) ≡ true) × Worded (now words) ⌝ }
+    ensures { λ r. ⌜ em r (now (out .exit)) ≡ puts (textOf (placedFilters (namesIn (now (tree .entry)) (now (columns .entry)) n) lines (linesFrom (now (filters .entry)) 0) .lines)) (em at (now (out .entry))) ⌝ }
 {
     let mut to = at;
     let mut from = 0;
-    let mut left = filters.len();
+    let mut left = lines;
     while 0 < left {
         if filters.len() <= from {
             return to;
         }
-        let walked = tree_to_expression(tree, columns, n, filters, from, left, out, to);
+        let walked = tree_to_expression(tree, columns, n, filters, words, from, left, out, to);
         to = walked.at;
         from = walked.from;
         left -= 1;
@@ -184,15 +223,17 @@ pub fn put_expressions(
     columns: &[Entry; 64],
     n: usize,
     filters: &[u8],
+    words: &[WordRow; 56],
+    lines: usize,
     out: &mut [u8],
     at: usize,
 ) -> usize
-    requires { ⌜ (n ≤ 64) × (all ≡ true → allPlaced (namesIn (now tree) (now columns) n) (length (now filters)) (linesFrom (now filters) 0) ≡ true) ⌝ }
-    ensures { λ r. ⌜ em r (now (out .exit)) ≡ puts (textOf (placedFilters (namesIn (now (tree .entry)) (now (columns .entry)) n) (length (now (filters .entry))) (linesFrom (now (filters .entry)) 0) .lines)) (em at (now (out .entry))) ⌝ }
+    requires { ⌜ (n ≤ 64) × (all ≡ true → allPlaced (namesIn (now tree) (now columns) n) lines (linesFrom (now filters) 0) ≡ true) × Worded (now words) ⌝ }
+    ensures { λ r. ⌜ em r (now (out .exit)) ≡ puts (textOf (placedFilters (namesIn (now (tree .entry)) (now (columns .entry)) n) lines (linesFrom (now (filters .entry)) 0) .lines)) (em at (now (out .entry))) ⌝ }
 {
     if all {
-        return put_every(tree, columns, n, filters, out, at);
+        return put_every(tree, columns, n, filters, words, lines, out, at);
     }
-    let placed = put_filters(tree, columns, n, filters, out, at);
+    let placed = put_filters(tree, columns, n, filters, words, lines, out, at);
     placed.at
 }

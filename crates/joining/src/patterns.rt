@@ -5,43 +5,55 @@ use crate::merge::merge_trees;
 use algebra::Answer as Check;
 use answers::Answer;
 use lines::check::Noting;
+use lines::fields::Node;
 use lines::fields::Spot;
 use names::Entry;
 use reading::note_tree;
+use words::table::WordRow;
+use words::table::all_words;
 ghost use Rattle.answers.specs.Outcome.{Answered};
 ghost use Rattle.merging.specs.Merge.{mergePatternsOutcome};
-ghost use Rattle.projects.specs.bridge.Joining.{HasRoom, KnownTree};
+ghost use Rattle.projects.specs.bridge.Joining.{HasRoom, HasNodes, KnownTree};
+ghost use lib.ListN.{length};
 ghost use Rattle.names.specs.bridge.Names.{startsOf, sizesOf};
+ghost use Rattle.words.specs.bridge.Words.{Worded};
+ghost use Rattle.walking.specs.bridge.Renamed.{Shaped};
 
 // merge patterns for two trees that were checked and any lists.
 fn merge_listed(
+    words: &[WordRow; 56],
     left: &[u8],
     left_table: &[Entry; 1024],
     left_n: usize,
-    left_spots: &[Spot],
+    left_nodes: &[Node],
+    left_spots: &mut [Spot],
     right: &[u8],
     right_table: &[Entry; 1024],
     right_n: usize,
-    right_spots: &[Spot],
+    right_nodes: &[Node],
+    right_spots: &mut [Spot],
     pairs: &[u8],
     left_constants: &[u8],
     right_constants: &[u8],
     out: &mut [u8],
 ) -> Answer
-    requires { ⌜ KnownTree (now left) (startsOf (now «left_table»)) (sizesOf (now «left_table»)) «left_n» (now «left_spots») × KnownTree (now right) (startsOf (now «right_table»)) (sizesOf (now «right_table»)) «right_n» (now «right_spots») ⌝ }
+    requires { ⌜ KnownTree (now left) (startsOf (now «left_table»)) (sizesOf (now «left_table»)) «left_n» (now «left_spots») × KnownTree (now right) (startsOf (now «right_table»)) (sizesOf (now «right_table»)) «right_n» (now «right_spots») × Worded (now words) × Shaped (now words) (now «left_nodes») (length (now «left_nodes»)) (length (now «left_spots»)) × Shaped (now words) (now «right_nodes») (length (now «right_nodes»)) (length (now «right_spots»)) ⌝ }
     ensures { λ r. ⌜ Answered (mergePatternsOutcome (now (left .entry)) (now (right .entry)) (now (pairs .entry)) (now («left_constants» .entry)) (now («right_constants» .entry))) (now (out .entry)) (now (out .exit)) r ⌝ }
 {
     match check_lists(pairs, left_constants, right_constants) {
         Check::Good(_) => merge_trees(
+            words,
             left,
             0,
             left_table,
             left_n,
+            left_nodes,
             left_spots,
             right,
             0,
             right_table,
             right_n,
+            right_nodes,
             right_spots,
             pairs,
             left_constants,
@@ -55,32 +67,45 @@ fn merge_listed(
 
 // The same for a left text that was checked and any right one.
 fn merge_right(
+    words: &[WordRow; 56],
     left: &[u8],
     left_table: &[Entry; 1024],
     left_n: usize,
-    left_spots: &[Spot],
+    left_nodes: &[Node],
+    left_spots: &mut [Spot],
     right: &[u8],
+    right_nodes: &mut [Node],
     right_spots: &mut [Spot],
     pairs: &[u8],
     left_constants: &[u8],
     right_constants: &[u8],
     out: &mut [u8],
 ) -> Answer
-    requires { ⌜ KnownTree (now left) (startsOf (now «left_table»)) (sizesOf (now «left_table»)) «left_n» (now «left_spots») × HasRoom (now right) (now «right_spots») ⌝ }
+    requires { ⌜ KnownTree (now left) (startsOf (now «left_table»)) (sizesOf (now «left_table»)) «left_n» (now «left_spots») × HasRoom (now right) (now «right_spots») × Worded (now words) × Shaped (now words) (now «left_nodes») (length (now «left_nodes»)) (length (now «left_spots»)) × HasNodes (now right) (now «right_nodes») ⌝ }
     ensures { λ r. ⌜ Answered (mergePatternsOutcome (now (left .entry)) (now (right .entry)) (now (pairs .entry)) (now («left_constants» .entry)) (now («right_constants» .entry))) (now (out .entry)) (now (out .exit)) r ⌝ }
 {
     let mut right_table = [[0u16; 2]; 1024];
-    let mut hints = [0u16; 4096];
-    match note_tree(right, &mut right_table, &mut hints, right_spots) {
-        Noting::Good(right_n, k) => merge_listed(
+    let mut hints = [0u16; 2048];
+    match note_tree(
+        right,
+        words,
+        &mut right_table,
+        &mut hints,
+        right_spots,
+        right_nodes,
+    ) {
+        Noting::Good(right_n, k, m) => merge_listed(
+            words,
             left,
             left_table,
             left_n,
+            left_nodes,
             left_spots,
             right,
             &right_table,
             right_n,
-            &right_spots[..k],
+            &right_nodes[..m],
+            &mut right_spots[..k],
             pairs,
             left_constants,
             right_constants,
@@ -93,27 +118,40 @@ fn merge_right(
 
 // The same for any two texts, with room for their variables.
 fn merge_left(
+    words: &[WordRow; 56],
     left: &[u8],
+    left_nodes: &mut [Node],
     left_spots: &mut [Spot],
     right: &[u8],
+    right_nodes: &mut [Node],
     right_spots: &mut [Spot],
     pairs: &[u8],
     left_constants: &[u8],
     right_constants: &[u8],
     out: &mut [u8],
 ) -> Answer
-    requires { ⌜ HasRoom (now left) (now «left_spots») × HasRoom (now right) (now «right_spots») ⌝ }
+    requires { ⌜ HasRoom (now left) (now «left_spots») × HasRoom (now right) (now «right_spots») × Worded (now words) × HasNodes (now left) (now «left_nodes») × HasNodes (now right) (now «right_nodes») ⌝ }
     ensures { λ r. ⌜ Answered (mergePatternsOutcome (now (left .entry)) (now (right .entry)) (now (pairs .entry)) (now («left_constants» .entry)) (now («right_constants» .entry))) (now (out .entry)) (now (out .exit)) r ⌝ }
 {
     let mut left_table = [[0u16; 2]; 1024];
-    let mut hints = [0u16; 4096];
-    match note_tree(left, &mut left_table, &mut hints, left_spots) {
-        Noting::Good(left_n, k) => merge_right(
+    let mut hints = [0u16; 2048];
+    match note_tree(
+        left,
+        words,
+        &mut left_table,
+        &mut hints,
+        left_spots,
+        left_nodes,
+    ) {
+        Noting::Good(left_n, k, m) => merge_right(
+            words,
             left,
             &left_table,
             left_n,
-            &left_spots[..k],
+            &left_nodes[..m],
+            &mut left_spots[..k],
             right,
+            right_nodes,
             right_spots,
             pairs,
             left_constants,
@@ -136,14 +174,20 @@ pub fn merge_patterns(
 ) -> Answer
     ensures { λ r. ⌜ Answered (mergePatternsOutcome (now (left .entry)) (now (right .entry)) (now (pairs .entry)) (now («left_constants» .entry)) (now («right_constants» .entry))) (now (out .entry)) (now (out .exit)) r ⌝ }
 {
+    let words = all_words();
     let most = longer(left.len(), right.len());
     if most <= 1536 {
+        let mut left_nodes = [[0u32; 3]; 512];
         let mut left_spots = [[0u16; 3]; 512];
+        let mut right_nodes = [[0u32; 3]; 512];
         let mut right_spots = [[0u16; 3]; 512];
         return merge_left(
+            &words,
             left,
+            &mut left_nodes,
             &mut left_spots,
             right,
+            &mut right_nodes,
             &mut right_spots,
             pairs,
             left_constants,
@@ -152,12 +196,17 @@ pub fn merge_patterns(
         );
     }
     if most <= 6144 {
+        let mut left_nodes = [[0u32; 3]; 2048];
         let mut left_spots = [[0u16; 3]; 2048];
+        let mut right_nodes = [[0u32; 3]; 2048];
         let mut right_spots = [[0u16; 3]; 2048];
         return merge_left(
+            &words,
             left,
+            &mut left_nodes,
             &mut left_spots,
             right,
+            &mut right_nodes,
             &mut right_spots,
             pairs,
             left_constants,
@@ -165,12 +214,17 @@ pub fn merge_patterns(
             out,
         );
     }
+    let mut left_nodes = [[0u32; 3]; 2048];
     let mut left_spots = [[0u16; 3]; 5462];
+    let mut right_nodes = [[0u32; 3]; 2048];
     let mut right_spots = [[0u16; 3]; 5462];
     merge_left(
+        &words,
         left,
+        &mut left_nodes,
         &mut left_spots,
         right,
+        &mut right_nodes,
         &mut right_spots,
         pairs,
         left_constants,

@@ -1,12 +1,13 @@
 -- The check of a whole text: each way out. Assumes nothing.
 use Prim.Native.Nat.{ℕ, zero, suc, _-_, _≤_, _<_, pred}
 use mathlib.Core.Path.{_≡_, refl, sym, _∙_, ap, subst}
-use mathlib.Core.List.{List, [], _∷_, append-nil}
+use mathlib.Core.List.{List, [], _∷_}
 use mathlib.Core.Bool.{Bool, true, false, cond}
 use mathlib.Core.Logic.{_⊎_, inl, inr, ⊎-elim}
 use native.Mathlib.Omega.{arith}
 use lib.ListN.{length, replicate, length-take, length-drop}
-use lib.Dec.{eqb}
+use lib.Dec.{eqb, ltb}
+use borrow.Author.Tests.{ltb-true, ltb-false}
 use Rattle.text.specs.Text.{Bytes, Line, onto, split, linesIn, linesFrom, part}
 use Rattle.text.proofs.Places.{lines-end}
 use Rattle.algebra.specs.Tally.{Tally, bounds, start}
@@ -17,7 +18,7 @@ use Rattle.algebra.specs.declared.Answer.{Answer}
 use Rattle.algebra.specs.declared.Answer.the-variants as A
 use Rattle.names.specs.bridge.Names.{Holds}
 use Rattle.lines.specs.declared.place.Place.{Place}
-use Rattle.lines.specs.bridge.Run.{Stood, Went, Told, levelFor, Tells}
+use Rattle.lines.specs.bridge.Run.{Ready, Started, Stood, Went, Told, levelFor, Tells}
 use Rattle.lines.proofs.RunLaw.{run-none, run-done, check-long, check-start}
 use Rattle.lines.proofs.DescentLaw.{went-here, Goes}
 
@@ -88,6 +89,21 @@ leb-or zero j = inl (omega arith)
 leb-or (suc i) zero = inr (omega arith)
 leb-or (suc i) (suc j) = ⊎-elim (λ (q : i ≤ j). inl (omega (arith, q))) (λ (q : j < i). inr (omega (arith, q))) (leb-or i j)
 
+-- ---- what a check that ended says
+
+module _ (p : Place) (left : Bool) (s : Bytes) (over : left ≡ ltb (p .cursor .at) (length s)) where
+  pub tells-left : p .fault ≡ 0 → left ≡ true → Told s p A.Malformed
+  tells-left z e = let h = ltb-true (p .cursor .at) (length s) (sym over ∙ e) in record { whole = λ y l. absurd (omega (arith, h, l)); left = λ y l. refl; wrong = λ y. refl; over = λ nz. absurd (nz z) }
+
+  pub tells-whole : p .fault ≡ 0 → left ≡ false → Told s p (A.Good (p .n))
+  tells-whole z e = let h = ltb-false (p .cursor .at) (length s) (sym over ∙ e) in record { whole = λ y l. refl; left = λ y l. absurd (omega (arith, h, l)); wrong = λ y. absurd (omega (arith, z, y)); over = λ nz. absurd (nz z) }
+
+  pub tells-wrong : (p .fault ≡ 0 → ⊥) → p .fault ≡ 1 → Told s p A.Malformed
+  tells-wrong nz e = record { whole = λ y. absurd (nz y); left = λ y. absurd (nz y); wrong = λ y. refl; over = λ y no. absurd (no e) }
+
+  pub tells-bound : (p .fault ≡ 0 → ⊥) → (p .fault ≡ 1 → ⊥) → Told s p A.OverBound
+  tells-bound nz na = record { whole = λ y. absurd (nz y); left = λ y. absurd (nz y); wrong = λ y. absurd (na y); over = λ x y. refl }
+
 -- ---- the end
 
 module _ (s a b h : List ℕ) (x : Check) (p : Place) (r : Answer) (told : Told s p r) where
@@ -99,30 +115,34 @@ module _ (s a b h : List ℕ) (x : Check) (p : Place) (r : Answer) (told : Told 
       go (suc zero) e = tells-malformed s a b h x r (told .wrong e) (w .wrong e)
       go (suc (suc n)) e = let no : p .fault ≡ 1 → ⊥ = λ z. absurd (omega (arith, e, z)) in tells-over s a b h x r (told .over nz no) (w .over nz no)
 
-  pub told-whole : (ρ : More) → Went s a b h ρ [] x p → p .fault ≡ 0 → length s ≤ p .from → Tells s a b h x r
-  told-whole ρ w z e = let o = w .on z in tells-good s a b h x r (o .0) (p .n) (told .whole z e) (o .1 ∙ ap (λ (ls : List Line). run bounds ls ρ [] (o .0)) (lines-end s (p .from) e) ∙ run-done ρ (o .0)) (o .2 .names)
+  pub told-whole : (ρ : More) → Went s a b h ρ [] x p → p .fault ≡ 0 → length s ≤ p .cursor .at → Tells s a b h x r
+  told-whole ρ w z e = let o = w .on z in tells-good s a b h x r (o .0) (p .n) (told .whole z e) (o .1 ∙ ap (λ (ls : List Line). run bounds ls ρ [] (o .0)) (lines-end s (p .cursor .at) e) ∙ run-done ρ (o .0)) (o .2 .names)
 
-  pub told-left : Went s a b h done [] x p → p .fault ≡ 0 → p .from < length s → Tells s a b h x r
-  told-left w z e = let o = w .on z in tells-malformed s a b h x r (told .left z e) (o .1 ∙ left-bad (o .0) (linesFrom s (p .from)) (lines-left s (p .from) e))
+  pub told-left : Went s a b h done [] x p → p .fault ≡ 0 → p .cursor .at < length s → Tells s a b h x r
+  told-left w z e = let o = w .on z in tells-malformed s a b h x r (told .left z e) (o .1 ∙ left-bad (o .0) (linesFrom s (p .cursor .at)) (lines-left s (p .cursor .at) e))
 
   -- one line with what it asks for
   pub told-one : Went s a b h done [] x p → Tells s a b h x r
-  told-one w = go (p .fault) refl (leb-or (length s) (p .from))
+  told-one w = go (p .fault) refl (leb-or (length s) (p .cursor .at))
     where
-      go : (n : ℕ) → p .fault ≡ n → (length s ≤ p .from) ⊎ (p .from < length s) → Tells s a b h x r
+      go : (n : ℕ) → p .fault ≡ n → (length s ≤ p .cursor .at) ⊎ (p .cursor .at < length s) → Tells s a b h x r
       go zero e (inl q) = told-whole done w e q
       go zero e (inr q) = told-left w e q
       go (suc n) e q = told-fault done [] w (λ z. absurd (omega (arith, e, z)))
 
-module _ (s a0 b0 h0 : List ℕ) (sort : Sort) (level : ℕ) (short : length s ≤ 16384) (none : Holds s a0 b0 h0 0 []) where
-  begun : Stood s a0 b0 h0 (record { from = 0; lines = 0; n = 0; spots = 0; fault = 0 }) start
-  begun = record { lines = refl; wide = omega arith; names = none }
+pub started-ready : (s : Bytes) (p : Place) → Started p → length s ≤ 16384 → Ready s p
+started-ready s p st short = record { short = short; few = (let l = st .lines in omega (arith, l)); going = st .going }
 
-  pub one-is : (a b h : List ℕ) (p : Place) (r : Answer) → Told s p r → Goes s a0 b0 h0 (record { from = 0; lines = 0; n = 0; spots = 0; fault = 0 }) a b h (replicate 1 (want sort level 0)) p → Tells s a b h (checkText bounds done (want sort level 0 ∷ []) s) r
-  one-is a b h p r told f = told-one s a b h _ p r told (subst (λ x. Went s a b h done [] x p) (sym (check-start done (want sort level 0 ∷ []) s short)) (f done [] start begun))
+module _ (s a0 b0 h0 : List ℕ) (short : length s ≤ 16384) (none : Holds s a0 b0 h0 0 []) (p0 : Place) (start-is : Started p0) where
+  begun : Stood s a0 b0 h0 p0 start
+  begun = record { lines = sym (start-is .lines); wide = omega arith; names = subst (λ (n : ℕ). Holds s a0 b0 h0 n []) (sym (start-is .names)) none }
 
-  pub list-begin : Went s a0 b0 h0 (entries 64 sort level) [] (checkText bounds (entries 64 sort level) [] s) (record { from = 0; lines = 0; n = 0; spots = 0; fault = 0 })
-  list-begin = subst (λ x. Went s a0 b0 h0 (entries 64 sort level) [] x (record { from = 0; lines = 0; n = 0; spots = 0; fault = 0 })) (sym (check-start (entries 64 sort level) [] s short)) (went-here s (entries 64 sort level) a0 b0 h0 [] (record { from = 0; lines = 0; n = 0; spots = 0; fault = 0 }) start begun refl)
+  check-from : (ρ : More) (ws : List Want) → checkText bounds ρ ws s ≡ run bounds (linesFrom s (p0 .cursor .at)) ρ ws start
+  check-from ρ ws = check-start ρ ws s short ∙ ap (λ (i : ℕ). run bounds (linesFrom s i) ρ ws start) (sym (start-is .at))
+
+  -- the run of the whole text stands before its first line
+  pub went-begun : (ρ : More) (ws : List Want) → Went s a0 b0 h0 ρ ws (checkText bounds ρ ws s) p0
+  went-begun ρ ws = subst (λ x. Went s a0 b0 h0 ρ ws x p0) (sym (check-from ρ ws)) (went-here s ρ a0 b0 h0 ws p0 start begun (start-is .going))
 
 -- ---- entries of a list
 
@@ -139,10 +159,10 @@ entry-run sort level left [] m f = absurd f
 entry-run sort level zero (l ∷ ls) m f = refl
 entry-run sort level (suc n) (l ∷ ls) m f = refl
 
-pub list-next : (s a b h a′ b′ h′ : List ℕ) (sort : Sort) (level left d fewer : ℕ) (x : Check) (p r : Place) → d ≡ levelFor left level → fewer ≡ pred left → Went s a b h (entries left sort level) [] x p → p .fault ≡ 0 → p .from < length s
+pub list-next : (s a b h a′ b′ h′ : List ℕ) (sort : Sort) (level left d fewer : ℕ) (x : Check) (p r : Place) → d ≡ levelFor left level → fewer ≡ pred left → Went s a b h (entries left sort level) [] x p → p .fault ≡ 0 → p .cursor .at < length s
     → Goes s a b h p a′ b′ h′ (replicate 1 (want sort d 0)) r → Went s a′ b′ h′ (entries fewer sort level) [] x r
 list-next s a b h a′ b′ h′ sort level left d fewer x p r e k w z low f =
     let o = w .on z in
     subst (λ y. Went s a′ b′ h′ (entries fewer sort level) [] y r)
-    (sym (o .1 ∙ entry-run sort level left (linesFrom s (p .from)) (o .0) (lines-left s (p .from) low) ∙ (λ i. run bounds (linesFrom s (p .from)) (entries (sym k i) sort level) (want sort (sym e i) 0 ∷ []) (o .0))))
+    (sym (o .1 ∙ entry-run sort level left (linesFrom s (p .cursor .at)) (o .0) (lines-left s (p .cursor .at) low) ∙ (λ i. run bounds (linesFrom s (p .cursor .at)) (entries (sym k i) sort level) (want sort (sym e i) 0 ∷ []) (o .0))))
     (f (entries fewer sort level) [] (o .0) (o .2))

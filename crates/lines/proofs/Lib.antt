@@ -20,3 +20,5 @@ pub mod WalkLaw
 pub mod NotesLaw
 pub mod WalksLaw
 pub mod GroupsLaw
+pub mod ReadLaw
+pub mod LentLaw

@@ -75,9 +75,9 @@ module _ (s a l h : List ℕ) (c : Cursor) (e : ℕ) (d : Cursor) (i : InLine s 
         pub is-full : 1024 < n → LineIs s a l h c sort level width m OverBound
         is-full g = over (within-no-names (said .terms) m (rowOf row .tail) (keeps-said .over g))
 
-        pub is-asked : (j : ℕ) → m .wide ≤ 64 → m .lines < 2048 → k ≤ 64 → n ≤ 1024 → (opens (sortAt sort) ≡ true → level ≡ 0 → ⊥) → Tidy sort f → LineIs s a l h c sort level width m (Asks (record { row = row; first = x; second = y; names = n; spots = j }))
+        pub is-asked : (number j : ℕ) → m .wide ≤ 64 → m .lines < 2048 → k ≤ 64 → n ≤ 1024 → (opens (sortAt sort) ≡ true → level ≡ 0 → ⊥) → Tidy sort f → LineIs s a l h c sort level width m (Asks (record { number = number; row = row; first = x; second = y; names = n; spots = j }))
         unfolding LineIs
-        is-asked j wide lines cols room shallow tidy =
+        is-asked number j wide lines cols room shallow tidy =
             let long : length (notes (said .terms) (m .names)) ≤ 1024 = let g = holds-long s a l h n _ keeps-said room in omega arith in
             let v = says .whole z in
             let w = within-yes (said .terms) m (rowOf row .tail) wide lines (rw (v .4) cols) long in (

@@ -10,34 +10,37 @@ use lib.Dec.{eqb, leb, ltb}
 use borrow.Author.Tests.{leb-true, eqb-false, not-true, ltb-true}
 use Rattle.text.specs.Text.{Bytes, Line, same, split, part}
 use Rattle.text.specs.Word.{bytes}
-use Rattle.text.specs.Field.{Kind, numberOf, fits}
+use Rattle.text.specs.Field.{Kind, opaque, form, numberOf, fits}
 use Rattle.text.specs.bridge.Code.{kindAt}
 use Rattle.text.proofs.Basics.{and-left, and-right, same-eq}
 use Rattle.cursor.specs.declared.Cursor.{Cursor}
 use Rattle.cursor.proofs.Laws.{left-all, Next}
 use Rattle.algebra.specs.Reader.{kept, zeroOne}
-use Rattle.algebra.specs.bridge.Table.{Slot, term, text, count, choice, Tail, Sort, Row, rowFor}
+use Rattle.algebra.specs.bridge.Table.{Slot, term, text, count, choice, Tail, Sort, triples, columns, patterns, expressions, rows, orders, aggregates, heads, sets, positions, valueRows, parts, Row, row as row-of, one, _of_, Entry, rowsOf, rowIn, rowFor, opens}
 use Rattle.scoping.specs.bridge.Places.{Mark}
 use Rattle.scoping.specs.bridge.Walk.{State, state, numberIn, hides, beneath, whole}
-use Rattle.scoping.specs.bridge.Spots.{Spot, spotsIn, fieldsSize, Trace, trace, spotLine}
+use Rattle.scoping.specs.bridge.Spots.{Spot, spotsIn, fieldsSize, Node, node, Group, groupsBelow, noted, Trace, trace, lineSpots, lineNodes, spotLine}
 use Rattle.words.specs.declared.Row.{Row as Code}
 use Rattle.words.specs.declared.Found.{Found}
 use Rattle.words.specs.declared.Found.the-variants.{Is, None}
 use Rattle.words.specs.bridge.Code.{oneSlot, slotsIn, mapped, sortAt, rowOf, rowFound, sortsIn, counting, countsIn, inTree, Tidy, flagOf, Flags}
+use Rattle.lines.specs.declared.line.Asked.{Asked}
 use Rattle.lines.specs.declared.line.Line.{Line as Read}
 use Rattle.lines.specs.declared.line.Line.the-variants.{Asks, Malformed, OverBound}
 use Rattle.lines.specs.bridge.Below.{amountIn}
 use Rattle.lines.specs.bridge.Line.{andThen, Took, took, takeField, Fields, fields, takeSlots, takeTail, takeLine}
 use Rattle.lines.specs.bridge.Line as W
 use Rattle.lines.specs.bridge.Steps.{InLine, leftAt, restOf}
-use Rattle.lines.specs.bridge.Says.{Says}
+use Rattle.words.specs.bridge.Code as codes
+use Rattle.words.specs.bridge.Words.{codeAt}
+use Rattle.lines.specs.bridge.Says.{Says, Heads, Sure}
 use Rattle.lines.specs.bridge.Spotted.{markAt}
-use Rattle.lines.specs.bridge.Stored.{store, Keeps, Adds, found, LineNotes}
+use Rattle.lines.specs.bridge.Stored.{store, Keeps, Adds, found, lineNode, LineNotes}
 use Rattle.lines.proofs.StepLaw.{field, left-is, in-line}
 use Rattle.lines.proofs.SlotLaw.{slots-more, under-others}
 use Rattle.lines.proofs.StoreLaw.{keeps-at, keeps-cut}
 use Rattle.lines.proofs.SpotsLaw.{choice-count, left-size, behind, found-end}
-use Rattle.lines.proofs.WalkLaw.{beneath-same, whole-line}
+use Rattle.lines.proofs.WalkLaw.{beneath-same, groups-same, whole-line}
 
 -- ---- what the word means for names
 
@@ -132,6 +135,19 @@ splits σ ss l u e = go (takeField σ l) refl e
     go none p q = let z : _≡_ {A = ℕ} 0 1 = cc in absurd (omega arith)
     go (some t) p q = inner t p (takeSlots ss (t .rest)) refl q
 
+-- that of a text is none
+text-none : (κ : Kind) (l : List Bytes) (t : Took) → takeField (text κ) l ≡ some t → t .number ≡ 0
+unfolding kept
+text-none κ [] t e = let z : _≡_ {A = ℕ} 0 1 = cc in absurd (omega arith)
+text-none κ (f ∷ fs) t e = go (fits κ f) e
+  where
+    go : (b : Bool) → kept b (took fs [] 0) ≡ some t → t .number ≡ 0
+    go true q = let i : took fs [] 0 ≡ t = cc in ap (λ (x : Took). x .number) (sym i)
+    go false q = let z : _≡_ {A = ℕ} 0 1 = cc in absurd (omega arith)
+
+text-number : (κ : Kind) (ss : List Slot) (l : List Bytes) (u : Fields) → takeSlots (text κ ∷ ss) l ≡ some u → getD (u .numbers) 0 0 ≡ 0
+text-number κ ss l u e = let p = splits (text κ) ss l u e in ap (λ (x : List ℕ). getD x 0 0) (p .numbers) ∙ text-none κ l (p .one) (p .took-one)
+
 first-number : (σ : Slot) (ss : List Slot) (l : List Bytes) (u : Fields) → Counts σ → takeSlots (σ ∷ ss) l ≡ some u → getD (u .numbers) 0 0 ≡ numberIn (getD l 0 [])
 first-number σ ss l u k e = let p = splits σ ss l u e in ap (λ (x : List ℕ). getD x 0 0) (p .numbers) ∙ k l (p .one) (p .took-one)
 
@@ -199,6 +215,37 @@ plain-row s c h e = go (ltb 7 s) refl e
           counts = and-right (leb (c .behind) 3) (countsIn c 3 (c .below)) a;
         }
 
+-- ---- the words of lines that are noted
+
+-- each has two bytes at least
+unfoldable longWords : List Entry → Bool
+longWords [] = true
+longWords (e ∷ es) = leb 2 (length (e .word)) && longWords es
+
+long-in : (es : List Entry) (w : Bytes) (r : Row) → longWords es ≡ true → rowIn es w ≡ some r → 2 ≤ length w
+unfolding longWords rowIn
+long-in [] w r h e = let z : _≡_ {A = ℕ} 0 1 = cc in absurd (omega arith)
+long-in (x ∷ es) w r h e = go (λ q. long-in es w r (and-right (leb 2 (length (x .word))) (longWords es) h) q) (same w (x .word)) refl e
+  where
+    go : (rowIn es w ≡ some r → 2 ≤ length w) → (b : Bool) → same w (x .word) ≡ b → cond b (some (x .row)) (rowIn es w) ≡ some r → 2 ≤ length w
+    go on true p q = subst (λ (v : Bytes). 2 ≤ length v) (sym (same-eq w (x .word) p)) (leb-true 2 (length (x .word)) (and-left (leb 2 (length (x .word))) (longWords es) h))
+    go on false p q = on q
+
+long-word : (s : Sort) (w : Bytes) (r : Row) → noted s ≡ true → rowFor s w ≡ some r → 2 ≤ length w
+unfolding longWords
+long-word triples w r n e = absurd (false≢true n)
+long-word columns w r n e = absurd (false≢true n)
+long-word patterns w r n e = long-in (rowsOf patterns) w r refl e
+long-word expressions w r n e = long-in (rowsOf expressions) w r refl e
+long-word rows w r n e = absurd (false≢true n)
+long-word orders w r n e = long-in (rowsOf orders) w r refl e
+long-word aggregates w r n e = long-in (rowsOf aggregates) w r refl e
+long-word heads w r n e = absurd (false≢true n)
+long-word sets w r n e = absurd (false≢true n)
+long-word positions w r n e = absurd (false≢true n)
+long-word valueRows w r n e = absurd (false≢true n)
+long-word parts w r n e = absurd (false≢true n)
+
 -- ---- the line
 
 module _ (s : Bytes) (c : Cursor) (e : ℕ) (d : Cursor) (i : InLine s c) (low : c .at ≤ c .end) (here : Next s c e d) (sort mark : ℕ) (f : Found) (is : rowFound f ≡ rowFor (sortAt sort) (field s c e d i here))
@@ -206,7 +253,7 @@ module _ (s : Bytes) (c : Cursor) (e : ℕ) (d : Cursor) (i : InLine s c) (low :
     (says : Says d (takeLine (rowOf row) width (leftAt s d)) (rowOf row .tail) b x y k) (z : b .at ≡ d .end + 1)
     (a l : List ℕ) (n : ℕ) (p : List (List ℕ)) (j : ℕ) (a′ l′ : List ℕ) (n′ : ℕ) (p′ : List (List ℕ)) (j′ r : ℕ)
     (adds : b .at ≡ d .end + 1 → row .behind ≤ 3 → Adds s (store a l n p j) (d .at) (store a′ l′ n′ p′ j′) (b .at) (found (markAt mark) (rowOf row .slots) s d) (found (markAt mark) [] s b))
-    (counted : r ≡ cond (eqb (row .flag) 2) j j′) (room : n′ ≤ 1024) where
+    (counted : r ≡ cond (eqb (row .flag) 2) j j′) (room : n′ ≤ 1024) (number : ℕ) where
   abbrev word : Bytes
   word = field s c e d i here
 
@@ -226,30 +273,85 @@ module _ (s : Bytes) (c : Cursor) (e : ℕ) (d : Cursor) (i : InLine s c) (low :
   unfolding fieldsSize
   end-at = let g = left-size s c i (omega arith) in let t : fieldsSize (leftAt s c) ≡ suc (length (field s c e d i here) + fieldsSize (leftAt s d)) = ap fieldsSize (left-is s c e d i here) in omega arith
 
-  -- the line's own step of the walk
-  put-is : (xs ys : List Spot) → ys ≡ xs ++ cond (eqb (row .flag) 2) [] (found (markAt mark) (rowOf row .slots) s d) → trace (c .end + 1) ys ≡ spotLine (markAt mark) (rowOf row) (field s c e d i here) (leftAt s d) (trace (c .at) xs)
-  unfolding spotLine
-  put-is xs ys g =
-      ap₂ trace (sym end-at)
-      (g ∙ ap₂ (λ (t : Bool) (v : ℕ). xs ++ cond t [] (spotsIn (markAt mark) (rowOf row .slots) 0 v (leftAt s d))) (ap (λ (w : ℕ). eqb w 2) row-flag ∙ flag-stays (field s c e d i here)) (sym next-at))
-
-  walk-is : sort ≤ 7 → (xs ys : List Spot) → trace (c .end + 1) ys ≡ spotLine (markAt mark) (rowOf row) (field s c e d i here) (leftAt s d) (trace (c .at) xs)
-      → (trees : Sort → Mark → State Trace → State Trace) (ls : List Line)
-      → beneath spotLine trees (eqb (row .flag) 1) (markAt mark) (rowOf row .below) (x ∷ y ∷ []) (state ls (trace (c .end + 1) ys)) ≡ whole spotLine trees (sortAt sort) (markAt mark) (split 9 (part (c .at) (c .end) s) ∷ ls) (trace (c .at) xs)
-  walk-is h xs ys g trees ls =
-      let w = field s c e d i here in
-      let fs = leftAt s d in
+  -- the numbers of the line count as its fields say
+  counted-so : (m v : ℕ) → counting row v ≡ true → amountIn m v x y ≡ amountIn m v (numberIn (getD (leftAt s d) 0 [])) (numberIn (getD (leftAt s d) 1 []))
+  counted-so m v u =
       let o = says .whole z in
-      let t = line-slots (rowOf row) width fs (o .0) (o .1) in
+      let t = line-slots (rowOf row) width (leftAt s d) (o .0) (o .1) in
       let same-first : getD (t .0 .numbers) 0 0 ≡ x = ap (λ (v : List ℕ). getD v 0 0) (t .2) ∙ o .2 in
       let same-second : getD (t .0 .numbers) 1 0 ≡ y = ap (λ (v : List ℕ). getD v 1 0) (t .2) ∙ o .3 in
-      let am : (m v : ℕ) → counting row v ≡ true → amountIn m v x y ≡ amountIn m v (numberIn (getD fs 0 [])) (numberIn (getD fs 1 [])) = λ m v u. ap₂ (λ (x1 y1 : ℕ). amountIn m v x1 y1) (sym same-first) (sym same-second) ∙ amounts row fs (t .0) (t .1) m v u in
-      beneath-same spotLine trees (eqb (row .flag) 1) (markAt mark) row x y (numberIn (getD fs 0 [])) (numberIn (getD fs 1 [])) am 3 (row .below) (plain h .counts) (state ls (trace (c .end + 1) ys))
-      ∙ ap₂ (λ (u : Bool) (v : Trace). beneath spotLine trees u (markAt mark) (rowOf row .below) (numberIn (getD fs 0 []) ∷ numberIn (getD fs 1 []) ∷ []) (state ls v)) (ap (λ (v : ℕ). eqb v 1) row-flag ∙ flag-hides w) g
-      ∙ whole-line spotLine trees (eqb (row .flag) 1) (markAt mark) w fs ls (trace (c .at) xs) (sortAt sort) (rowOf row) (sym is ∙ ap rowFound q)
-      ∙ ap (λ (v : List Bytes). whole spotLine trees (sortAt sort) (markAt mark) (v ∷ ls) (trace (c .at) xs)) (sym fields-are)
+      ap₂ (λ (x1 y1 : ℕ). amountIn m v x1 y1) (sym same-first) (sym same-second) ∙ amounts row (leftAt s d) (t .0) (t .1) m v u
 
-  pub line-notes : sort ≤ 7 → LineNotes s a l n p j a′ l′ p′ c sort mark (Asks (record { row = row; first = x; second = y; names = n′; spots = r }))
+  abbrev answer : Asked
+  answer = record { number = number; row = row; first = x; second = y; names = n′; spots = r }
+
+  -- the line's own step of the walk
+  node-is : sort ≤ 7 → (j : ℕ) → lineNode sort j answer ≡ lineNodes (sortAt sort) (rowOf row) (leftAt s d) j
+  unfolding lineNodes
+  node-is h j = ap (λ (gs : List Group). cond (noted (sortAt sort)) (node j gs ∷ []) []) (groups-same row x y (numberIn (getD (leftAt s d) 0 [])) (numberIn (getD (leftAt s d) 1 [])) counted-so 3 (row .below) (plain h .counts))
+
+  put-is : sort ≤ 7 → (xs ys : List Spot) → ys ≡ xs ++ cond (eqb (row .flag) 2) [] (found (markAt mark) (rowOf row .slots) s d) → (ns : List Node)
+      → trace (c .end + 1) ys (ns ++ lineNode sort (length xs) answer) ≡ spotLine (sortAt sort) (markAt mark) (rowOf row) (field s c e d i here) (leftAt s d) (trace (c .at) xs ns)
+  unfolding spotLine lineSpots
+  put-is h xs ys g ns =
+      let to : ys ≡ xs ++ cond (same (field s c e d i here) (bytes "service")) [] (spotsIn (markAt mark) (rowOf row .slots) 0 (c .at + length (field s c e d i here) + 1) (leftAt s d)) =
+      g ∙ ap₂ (λ (t : Bool) (v : ℕ). xs ++ cond t [] (spotsIn (markAt mark) (rowOf row .slots) 0 v (leftAt s d))) (ap (λ (w : ℕ). eqb w 2) row-flag ∙ flag-stays (field s c e d i here)) (sym next-at) in
+      λ i. trace (sym end-at i) (to i) (ns ++ node-is h (length xs) i)
+
+  walk-is : sort ≤ 7 → (xs ys : List Spot) (ns : List Node) → trace (c .end + 1) ys (ns ++ lineNode sort (length xs) answer) ≡ spotLine (sortAt sort) (markAt mark) (rowOf row) (field s c e d i here) (leftAt s d) (trace (c .at) xs ns)
+      → (trees : Sort → Mark → State Trace → State Trace) (ls : List Line)
+      → beneath spotLine trees (eqb (row .flag) 1) (markAt mark) (rowOf row .below) (x ∷ y ∷ []) (state ls (trace (c .end + 1) ys (ns ++ lineNode sort (length xs) answer))) ≡ whole spotLine trees (sortAt sort) (markAt mark) (split 9 (part (c .at) (c .end) s) ∷ ls) (trace (c .at) xs ns)
+  walk-is h xs ys ns g trees ls =
+      let w = field s c e d i here in
+      let fs = leftAt s d in
+      beneath-same spotLine trees (eqb (row .flag) 1) (markAt mark) row x y (numberIn (getD fs 0 [])) (numberIn (getD fs 1 [])) counted-so 3 (row .below) (plain h .counts) (state ls (trace (c .end + 1) ys (ns ++ lineNode sort (length xs) answer)))
+      ∙ ap₂ (λ (u : Bool) (v : Trace). beneath spotLine trees u (markAt mark) (rowOf row .below) (numberIn (getD fs 0 []) ∷ numberIn (getD fs 1 []) ∷ []) (state ls v)) (ap (λ (v : ℕ). eqb v 1) row-flag ∙ flag-hides w) g
+      ∙ whole-line spotLine trees (eqb (row .flag) 1) (markAt mark) w fs ls (trace (c .at) xs ns) (sortAt sort) (rowOf row) (sym is ∙ ap rowFound q)
+      ∙ ap (λ (v : List Bytes). whole spotLine trees (sortAt sort) (markAt mark) (v ∷ ls) (trace (c .at) xs ns)) (sym fields-are)
+
+  -- a word of a line that is noted has two bytes at least
+  word-long : noted (sortAt sort) ≡ true → c .at + 2 ≤ c .end
+  word-long h = let l = long-word (sortAt sort) (field s c e d i here) (rowOf row) h (sym is ∙ ap rowFound q) in let u = end-at in omega (arith, l, u)
+
+  -- a query's head
+  head-row : sort ≡ 7 → Heads row x
+  unfolding rowIn flagOf same
+  head-row h = go (same (field s c e d i here) (bytes "query")) refl (ap (λ (n : ℕ). rowFor (sortAt n) (field s c e d i here)) (sym h) ∙ sym is ∙ ap rowFound q)
+    where
+      head : Row
+      head = row-of (text form ∷ text opaque ∷ text opaque ∷ []) (one of patterns ∷ [])
+
+      zero-first : head ≡ rowOf row → x ≡ 0
+      zero-first g =
+          let o = says .whole z in
+          let t = line-slots (rowOf row) width (leftAt s d) (o .0) (o .1) in
+          let u : takeSlots (text form ∷ text opaque ∷ text opaque ∷ []) (leftAt s d) ≡ some (t .0) = ap (λ (r : Row). takeSlots (r .slots) (leftAt s d)) g ∙ t .1 in
+          sym (ap (λ (v : List ℕ). getD v 0 0) (t .2) ∙ o .2) ∙ text-number form (text opaque ∷ text opaque ∷ []) (leftAt s d) (t .0) u
+
+      go : (b : Bool) → same (field s c e d i here) (bytes "query") ≡ b → cond b (some head) none ≡ some (rowOf row) → Heads row x
+      go true w v =
+          let g : head ≡ rowOf row = cc in
+          record {
+            below = ap (λ (r : Row). r .below) (sym g);
+            flag = row-flag ∙ ap flagOf (same-eq (field s c e d i here) (bytes "query") w);
+            none = zero-first g;
+          }
+      go false w v = let y : _≡_ {A = ℕ} 0 1 = cc in absurd (omega arith)
+
+  pub line-sure : (words : List (List ℕ)) (level lines : ℕ) → number ≤ 56 → f ≡ codes.found (codeAt words number) → lines < 2048 → (opens (sortAt sort) ≡ true → level ≡ 0 → ⊥) → Sure words c sort level lines answer
+  line-sure words level lines few by late deep = record {
+    first = says .small .0;
+    second = says .small .1;
+    tidy = subst (Tidy sort) q tidy;
+    deep = deep;
+    number = few;
+    row = sym by ∙ q;
+    few = late;
+    long = word-long;
+    head = head-row;
+  }
+
+  pub line-notes : sort ≤ 7 → LineNotes s a l n p j a′ l′ p′ c sort mark (Asks answer)
   unfolding LineNotes
   line-notes h xs kp = go (eqb (row .flag) 2) refl
     where
@@ -270,9 +372,9 @@ module _ (s : Bytes) (c : Cursor) (e : ℕ) (d : Cursor) (i : InLine s c) (low :
 
       go : (t : Bool) → eqb (row .flag) 2 ≡ t
           → (ys : List Spot) × Keeps s (store a′ l′ n′ p′ r) (c .end + 1) ys
-          × ((trees : Sort → Mark → State Trace → State Trace) (ls : List Line) → beneath spotLine trees (eqb (row .flag) 1) (markAt mark) (rowOf row .below) (x ∷ y ∷ []) (state ls (trace (c .end + 1) ys)) ≡ whole spotLine trees (sortAt sort) (markAt mark) (split 9 (part (c .at) (c .end) s) ∷ ls) (trace (c .at) xs))
-      go true t = (xs, subst (λ (v : ℕ). Keeps s (store a′ l′ n′ p′ v) (c .end + 1) xs) (sym (counted ∙ rw t)) (keeps-cut s a l n p j a′ l′ n′ p′ j′ (c .at) (c .end + 1) xs (step .0) (omega arith) kp kb), walk-is h xs xs (put-is xs xs (sym (append-nil xs) ∙ rw t)))
-      go false t = (xs ++ step .0, subst (λ (v : ℕ). Keeps s (store a′ l′ n′ p′ v) (c .end + 1) (xs ++ step .0)) (sym (counted ∙ rw t)) kb, walk-is h xs (xs ++ step .0) (put-is xs (xs ++ step .0) (ap (λ (v : List Spot). xs ++ v) got ∙ rw t)))
+          × ((trees : Sort → Mark → State Trace → State Trace) (ls : List Line) (ns : List Node) → beneath spotLine trees (eqb (row .flag) 1) (markAt mark) (rowOf row .below) (x ∷ y ∷ []) (state ls (trace (c .end + 1) ys (ns ++ lineNode sort (length xs) answer))) ≡ whole spotLine trees (sortAt sort) (markAt mark) (split 9 (part (c .at) (c .end) s) ∷ ls) (trace (c .at) xs ns))
+      go true t = (xs, subst (λ (v : ℕ). Keeps s (store a′ l′ n′ p′ v) (c .end + 1) xs) (sym (counted ∙ rw t)) (keeps-cut s a l n p j a′ l′ n′ p′ j′ (c .at) (c .end + 1) xs (step .0) (omega arith) kp kb), λ trees ls ns. walk-is h xs xs ns (put-is h xs xs (sym (append-nil xs) ∙ rw t) ns) trees ls)
+      go false t = (xs ++ step .0, subst (λ (v : ℕ). Keeps s (store a′ l′ n′ p′ v) (c .end + 1) (xs ++ step .0)) (sym (counted ∙ rw t)) kb, λ trees ls ns. walk-is h xs (xs ++ step .0) ns (put-is h xs (xs ++ step .0) (ap (λ (v : List Spot). xs ++ v) got ∙ rw t) ns) trees ls)
 
 -- a line that is refused has no spots to tell
 pub none-wrong : (s : Bytes) (a l : List ℕ) (n : ℕ) (p : List (List ℕ)) (k : ℕ) (a′ l′ : List ℕ) (p′ : List (List ℕ)) (c : Cursor) (sort mark : ℕ) → LineNotes s a l n p k a′ l′ p′ c sort mark Malformed

@@ -28,7 +28,7 @@ use Rattle.lines.proofs.LineLaw.{columns-bare}
 flags : List ℕ
 flags = 0 ∷ 0 ∷ 1 ∷ 1 ∷ 0 ∷ 0 ∷ 0 ∷ 0 ∷ 1 ∷ 0 ∷ 0 ∷ 1 ∷ []
 
-any-default : {A : Type 0} (l : List A) (i : ℕ) (d d′ : A) → i < length l → getD l i d ≡ getD l i d′
+pub any-default : {A : Type 0} (l : List A) (i : ℕ) (d d′ : A) → i < length l → getD l i d ≡ getD l i d′
 any-default [] i d d′ h = absurd (omega arith)
 any-default (x ∷ l) zero d d′ h = refl
 any-default (x ∷ l) (suc i) d d′ h = any-default l i d d′ (omega arith)

@@ -30,7 +30,7 @@ spots-below ns more a b zero same low = refl
 spots-below ns more a b (suc k) same low =
     rw (spots-below ns more a b k (λ i h. same i (omega arith)) (λ i h. low i (omega arith)), same k (omega arith), getD-front ns more (getD (getD a k []) 1 0) (low k (omega arith)))
 
-spots-long : (ns : List Bytes) (a : List (List ℕ)) (k : ℕ) → length (spotsOf ns a k) ≡ k
+pub spots-long : (ns : List Bytes) (a : List (List ℕ)) (k : ℕ) → length (spotsOf ns a k) ≡ k
 unfolding spotsOf
 spots-long ns a zero = refl
 spots-long ns a (suc k) = simp length-append (let h = spots-long ns a k in omega arith)

@@ -14,12 +14,13 @@ use Rattle.algebra.specs.bridge.Table.{Sort, triples, columns, patterns, expres
 use Rattle.words.specs.declared.Row.{Row as Code}
 use Rattle.words.specs.bridge.Code.{sortAt, groupOf, groupsIn, counting, countsIn}
 use Rattle.scoping.specs.bridge.Places.{Mark, silent, under}
+use Rattle.scoping.specs.bridge.Spots.{Group, group, groupsBelow}
 use Rattle.scoping.specs.bridge.Walk.{State, state, rowOr, numberIn, hides, times, headAmount, part, child, beneath, whole, tree}
 use Rattle.lines.specs.bridge.Below.{amountIn}
 use Rattle.lines.specs.bridge.Says.{below}
 use Rattle.lines.specs.bridge.Walks.{markUnder}
 
-module _ {O : Type 0} (put : Mark → Row → Bytes → List Bytes → O → O) where
+module _ {O : Type 0} (put : Sort → Mark → Row → Bytes → List Bytes → O → O) where
   -- ---- groups of lines
 
   module _ (trees : Sort → Mark → State O → State O) (hide : Bool) (m : Mark) where
@@ -59,14 +60,14 @@ module _ {O : Type 0} (put : Mark → Row → Bytes → List Bytes → O → O) 
         ∙ ap (λ (i : ℕ). beneath put trees hide m (groupsIn k (n / 512)) (a′ ∷ b′ ∷ []) (times (child put trees hide m (sortAt (n / 32 % 16))) i st)) (am (n % 4) (n / 4 % 8) (and-left (counting c (n / 4 % 8)) (countsIn c k (n / 512)) h))
         ∙ sym (group-next a′ b′ k n st)
 
-    whole-row : (w : Bytes) (fs : List Bytes) (ls : List Line) (o : O) (s : Sort) → whole put trees s m ((w ∷ fs) ∷ ls) o ≡ beneath put trees (hides w) m (rowOr (rowFor s w) .below) (numberIn (getD fs 0 []) ∷ numberIn (getD fs 1 []) ∷ []) (state ls (put m (rowOr (rowFor s w)) w fs o))
+    whole-row : (w : Bytes) (fs : List Bytes) (ls : List Line) (o : O) (s : Sort) → whole put trees s m ((w ∷ fs) ∷ ls) o ≡ beneath put trees (hides w) m (rowOr (rowFor s w) .below) (numberIn (getD fs 0 []) ∷ numberIn (getD fs 1 []) ∷ []) (state ls (put s m (rowOr (rowFor s w)) w fs o))
     unfolding whole
     whole-row w fs ls o s = refl
 
     -- a line by its row
     pub whole-line : (w : Bytes) (fs : List Bytes) (ls : List Line) (o : O) (s : Sort) (r : Row) → rowFor s w ≡ some r
-        → beneath put trees (hides w) m (r .below) (numberIn (getD fs 0 []) ∷ numberIn (getD fs 1 []) ∷ []) (state ls (put m r w fs o)) ≡ whole put trees s m ((w ∷ fs) ∷ ls) o
-    whole-line w fs ls o s r e = sym (whole-row w fs ls o s ∙ ap (λ (q : Option Row). beneath put trees (hides w) m (rowOr q .below) (numberIn (getD fs 0 []) ∷ numberIn (getD fs 1 []) ∷ []) (state ls (put m (rowOr q) w fs o))) e)
+        → beneath put trees (hides w) m (r .below) (numberIn (getD fs 0 []) ∷ numberIn (getD fs 1 []) ∷ []) (state ls (put s m r w fs o)) ≡ whole put trees s m ((w ∷ fs) ∷ ls) o
+    whole-line w fs ls o s r e = sym (whole-row w fs ls o s ∙ ap (λ (q : Option Row). beneath put trees (hides w) m (rowOr q .below) (numberIn (getD fs 0 []) ∷ numberIn (getD fs 1 []) ∷ []) (state ls (put s m (rowOr q) w fs o))) e)
 
   -- ---- lines that are no trees
 
@@ -116,7 +117,7 @@ module _ {O : Type 0} (put : Mark → Row → Bytes → List Bytes → O → O) 
     unfolding part whole
     part-whole s lone [] o = refl
     part-whole s lone ([] ∷ ls) o = refl
-    part-whole s lone ((w ∷ fs) ∷ ls) o = lone-in (rowsOf s) w lone (hides w) (numberIn (getD fs 0 [])) (numberIn (getD fs 1 [])) (state ls (put m (rowOr (rowFor s w)) w fs o))
+    part-whole s lone ((w ∷ fs) ∷ ls) o = lone-in (rowsOf s) w lone (hides w) (numberIn (getD fs 0 [])) (numberIn (getD fs 1 [])) (state ls (put s m (rowOr (rowFor s w)) w fs o))
 
   -- a line below another: by its sort, with its mark, where a level is left if it opens one
   module _ (level : ℕ) (hide : Bool) (m : Mark) (last : Bool) (st : State O) where
@@ -151,3 +152,23 @@ module _ {O : Type 0} (put : Mark → Row → Bytes → List Bytes → O → O) 
     pub times-done : (n : ℕ) (st : State O) → n ≤ 0 → times f n st ≡ st
     unfolding times
     times-done n st h = let e : n ≡ 0 = omega arith in rw e
+
+-- ---- the groups of a line that is noted
+
+-- the same amounts
+group-same : (a b a′ b′ n k : ℕ) (s : Sort) (bs : List Below) → amountIn n k a b ≡ amountIn n k a′ b′ → groupsBelow bs (a ∷ b ∷ []) ≡ groupsBelow bs (a′ ∷ b′ ∷ []) → groupsBelow (groupOf n k s ++ bs) (a ∷ b ∷ []) ≡ groupsBelow (groupOf n k s ++ bs) (a′ ∷ b′ ∷ [])
+unfolding groupsBelow
+group-same a b a′ b′ zero zero s bs e h = h
+group-same a b a′ b′ (suc n) zero s bs e h = ap (λ (gs : List Group). group (suc n) s ∷ gs) h
+group-same a b a′ b′ n (suc zero) s bs e h = ap₂ (λ (i : ℕ) (gs : List Group). group i s ∷ gs) e h
+group-same a b a′ b′ n (suc (suc zero)) s bs e h = ap₂ (λ (i : ℕ) (gs : List Group). group i s ∷ gs) e h
+group-same a b a′ b′ n (suc (suc (suc zero))) s bs e h = ap₂ (λ (i : ℕ) (gs : List Group). group i s ∷ gs) e h
+group-same a b a′ b′ n (suc (suc (suc (suc zero)))) s bs e h = ap₂ (λ (i : ℕ) (gs : List Group). group i s ∷ gs) e h
+group-same a b a′ b′ n (suc (suc (suc (suc (suc k))))) s bs e h = h
+
+pub groups-same : (c : Code) (a b a′ b′ : ℕ) → ((n k : ℕ) → counting c k ≡ true → amountIn n k a b ≡ amountIn n k a′ b′) → (k n : ℕ) → countsIn c k n ≡ true → groupsBelow (groupsIn k n) (a ∷ b ∷ []) ≡ groupsBelow (groupsIn k n) (a′ ∷ b′ ∷ [])
+unfolding groupsIn countsIn groupsBelow
+groups-same c a b a′ b′ am zero n h = refl
+groups-same c a b a′ b′ am (suc k) n h =
+    group-same a b a′ b′ (n % 4) (n / 4 % 8) (sortAt (n / 32 % 16)) (groupsIn k (n / 512)) (am (n % 4) (n / 4 % 8) (and-left (counting c (n / 4 % 8)) (countsIn c k (n / 512)) h))
+    (groups-same c a b a′ b′ am k (n / 512) (and-right (counting c (n / 4 % 8)) (countsIn c k (n / 512)) h))

@@ -22,6 +22,9 @@ pub struct Taken {
 // Where a field of a variable starts, its name's entry in the table, and its mark.
 pub type Spot = [u16; 3];
 
+// A line that was noted: 65,536 times its word's number in the table of words and how many spots were noted before it; and its first two numbers.
+pub type Node = [u32; 3];
+
 // A field that counts nothing, of a kind.
 pub fn text_field(s: &[u8], c: Cursor, kind: u8) -> Cursor
     requires { ⌜ InLine (now s) c ⌝ }

@@ -7,7 +7,9 @@ use cursor::Cursor;
 use names::Entry;
 use words::Found;
 use words::Row;
-use words::row_at;
+use words::table::WordRow;
+use words::table::row_at;
+use words::table::word_by;
 use words::word_at;
 ghost use mathlib.Core.Path.{_≡_};
 ghost use Prim.Native.Nat.{ℕ, _+_, _≤_};
@@ -18,6 +20,7 @@ ghost use Rattle.algebra.specs.Tally.{notes, Tally};
 ghost use Rattle.algebra.specs.bridge.Table.{opens};
 ghost use Rattle.names.specs.bridge.Names.{startsOf, sizesOf, HoldsIn};
 ghost use Rattle.words.specs.bridge.Code.{rowOf, sortAt, fitsIn};
+ghost use Rattle.words.specs.bridge.Words.{Worded};
 ghost use Rattle.lines.specs.bridge.Line.{takeLine};
 ghost use Rattle.lines.specs.bridge.Says.{Says, LineIs, Small};
 ghost use Rattle.lines.specs.bridge.Steps.{InLine, leftAt, termsIn};
@@ -40,7 +43,7 @@ fn fields(
     row: Row,
     w: Wanted,
     table: &mut [Entry; 1024],
-    hints: &mut [u16; 4096],
+    hints: &mut [u16; 2048],
     n: usize,
     spots: &mut [Spot],
     k: usize,
@@ -95,8 +98,9 @@ fn spots_behind(flag: u8, before: usize, after: usize) -> usize
     after
 }
 
-// What a good line asks for: its row, its first two numbers, and the numbers of names and spots kept so far.
+// What a good line asks for: its word's number in the table, its row, its first two numbers, and the numbers of names and spots kept so far.
 pub struct Asked {
+    pub number: usize,
     pub row: Row,
     pub first: usize,
     pub second: usize,
@@ -116,19 +120,21 @@ pub fn read_line(
     c: Cursor,
     w: Wanted,
     lines: usize,
+    words: &[WordRow; 56],
     table: &mut [Entry; 1024],
-    hints: &mut [u16; 4096],
+    hints: &mut [u16; 2048],
     n: usize,
     spots: &mut [Spot],
     k: usize,
 ) -> Line
-    requires { ⌜ InLine (now s) c × (c .at ≤ c .end) × (w .sort ≤ 11) ⌝ }
+    requires { ⌜ InLine (now s) c × (c .at ≤ c .end) × (w .sort ≤ 11) × Worded (now words) ⌝ }
     ensures { λ r. ⌜ ((m : Tally) → m .lines ≡ lines → m .wide ≤ 64 → HoldsIn (now (s .entry)) (now (table .entry)) (now (hints .entry)) n (m .names) → LineIs (now (s .entry)) (startsOf (now (table .exit))) (sizesOf (now (table .exit))) (now (hints .exit)) c (w .sort) (w .level) (w .width) m r) ⌝ }
-    ensures small { λ r. ⌜ Small (w .sort) (w .level) r ⌝ }
+    ensures small { λ r. ⌜ Small (now (words .entry)) c (w .sort) (w .level) lines r ⌝ }
     ensures notes { λ r. ⌜ (w .sort ≤ 7 → LineNotes (now (s .entry)) (startsOf (now (table .entry))) (sizesOf (now (table .entry))) n (now (spots .entry)) k (startsOf (now (table .exit))) (sizesOf (now (table .exit))) (now (spots .exit)) c (w .sort) (w .mark) r) ⌝ }
 {
     let word = word_at(s, c.at, c.end);
-    let found = row_at(w.sort, word.key);
+    let number = word_by(words, w.sort, word.key);
+    let found = row_at(words, number);
     match found {
         Found::Is(row) => {
             let f = fields(s, c.behind(word.end), row, w, table, hints, n, spots, k);
@@ -152,6 +158,7 @@ pub fn read_line(
                 }
             }
             return Line::Asks(Asked {
+                number,
                 row,
                 first: f.first,
                 second: f.second,

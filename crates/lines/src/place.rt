@@ -1,41 +1,63 @@
 // Where a check stands in a text, and the line that it takes from there.
+use crate::fields::Node;
 use crate::fields::Spot;
+use crate::line::Asked;
 use crate::line::Line;
 use crate::line::read_line;
 use crate::wanted::Wanted;
 use cursor::Cursor;
 use names::Entry;
-use reader::next_end;
 use words::Row;
+use words::table::WordRow;
 ghost use mathlib.Core.Path.{_≡_};
-ghost use Prim.Native.Nat.{_≤_};
+ghost use Prim.Native.Nat.{_≤_, _<_};
 ghost use mathlib.Core.List.{[], _∷_};
 ghost use lib.Dec.{eqb};
 ghost use Rattle.algebra.specs.bridge.Machine.{want};
+ghost use Rattle.scoping.specs.bridge.Spots.{noted};
 ghost use Rattle.words.specs.bridge.Code.{sortAt};
+ghost use Rattle.words.specs.bridge.Words.{Worded};
 ghost use Rattle.lines.specs.bridge.Says.{below};
 ghost use Rattle.lines.specs.bridge.Below.{groups};
-ghost use Rattle.lines.specs.bridge.Run.{Ready, Runs, Sound};
+ghost use Rattle.lines.specs.bridge.Run.{Ready, Started, Runs, Sound};
 ghost use Rattle.lines.specs.bridge.Spotted.{markAt};
-ghost use Rattle.lines.specs.bridge.Walks.{LineWalks, markUnder, storeIn};
+ghost use Rattle.lines.specs.bridge.Walks.{LineWalks, NodePut, markUnder, bookIn};
 
-// Where the text goes on, how many lines, names and spots there were; and the fault that ended the check: 0 for none, 1 for malformed, else over a bound.
+// Where the text goes on, how many lines, names, spots and nodes there were; and the fault that ended the check: 0 for none, 1 for malformed, else over a bound.
 pub struct Place {
-    pub from: usize,
+    pub cursor: Cursor,
     pub lines: usize,
     pub n: usize,
     pub spots: usize,
+    pub nodes: usize,
     pub fault: usize,
+}
+
+// Before the first line.
+pub fn start() -> Place
+    ensures { λ r. ⌜ Started r ⌝ }
+{
+    let cursor = Cursor::new(0);
+    Place {
+        cursor,
+        lines: 0,
+        n: 0,
+        spots: 0,
+        nodes: 0,
+        fault: 0,
+    }
 }
 
 fn stopped(fault: usize) -> Place
     ensures { λ r. ⌜ r .fault ≡ fault ⌝ }
 {
+    let cursor = Cursor::new(0);
     Place {
-        from: 0,
+        cursor,
         lines: 0,
         n: 0,
         spots: 0,
+        nodes: 0,
         fault,
     }
 }
@@ -86,46 +108,76 @@ fn lost(fault: usize) -> Taken
     }
 }
 
+// Which sorts of lines are noted.
+const NOTED: [u8; 12] = [0, 0, 1, 1, 0, 1, 1, 0, 0, 0, 0, 0];
+
+fn is_noted(sort: u8) -> bool
+    requires { ⌜ sort ≤ 11 ⌝ }
+    ensures { λ r. ⌜ r ≡ noted (sortAt sort) ⌝ }
+{
+    let i = sort as usize;
+    NOTED[i] == 1
+}
+
+// Notes a line of a sort that is noted, where there is room, behind so many spots.
+fn put_node(nodes: &mut [Node], m: usize, sort: u8, before: usize, a: Asked) -> usize
+    requires { ⌜ (sort ≤ 11) × (a .number ≤ 56) × (a .first < 4294967296) × (a .second < 4294967296) ⌝ }
+    ensures { λ r. ⌜ NodePut (now (nodes .entry)) m sort before a (now (nodes .exit)) r ⌝ }
+{
+    if !is_noted(sort) {
+        return m;
+    }
+    if nodes.len() <= m {
+        return m;
+    }
+    nodes[m] = [
+        (a.number * 65536 + before % 65536) as u32,
+        a.first as u32,
+        a.second as u32,
+    ];
+    m + 1
+}
+
 // The line that starts here, by what is wanted of it.
 pub fn take_line(
     p: Place,
     w: Wanted,
     s: &[u8],
+    words: &[WordRow; 56],
     table: &mut [Entry; 1024],
-    hints: &mut [u16; 4096],
+    hints: &mut [u16; 2048],
     spots: &mut [Spot],
+    nodes: &mut [Node],
 ) -> Taken
-    requires { ⌜ (w .sort ≤ 11) × Ready (now s) p ⌝ }
+    requires { ⌜ (w .sort ≤ 11) × Ready (now s) p × Worded (now words) ⌝ }
     ensures { λ r. ⌜ Runs (now (s .entry)) (now (table .entry)) (now (hints .entry)) p (want (sortAt (w .sort)) (w .level) (w .width) ∷ []) (groups 3 (r .row .below) (below (w .sort) (w .level)) (r .first) (r .second)) (now (table .exit)) (now (hints .exit)) (r .place) ⌝ }
     ensures sound { λ r. ⌜ (r .place .fault ≡ 0 → Sound (now (s .entry)) p (w .sort) (w .level) r) ⌝ }
-    ensures walks { λ r. ⌜ (r .place .fault ≡ 0 → w .sort ≤ 7 → LineWalks (now (s .entry)) (storeIn (now (table .entry)) (now (spots .entry)) p) p (storeIn (now (table .exit)) (now (spots .exit)) (r .place)) (w .sort) (w .mark) r) ⌝ }
+    ensures walks { λ r. ⌜ (r .place .fault ≡ 0 → w .sort ≤ 7 → LineWalks (now (s .entry)) (bookIn (now (table .entry)) (now (spots .entry)) (now (words .entry)) (now (nodes .entry)) p) p (bookIn (now (table .exit)) (now (spots .exit)) (now (words .entry)) (now (nodes .exit)) (r .place)) (w .sort) (w .mark) r) ⌝ }
 {
-    let from = p.from;
-    if s.len() <= from {
+    let at = p.cursor.at;
+    if s.len() <= at {
         return lost(1);
     }
-    let end = next_end(s, from);
-    if end == s.len() {
+    let c = p.cursor.next_line(s);
+    if c.end == s.len() {
         return lost(1);
     }
-    let c = Cursor {
-        at: from,
-        end,
-        awaited: 0,
-    };
-    let l = read_line(s, c, w, p.lines, table, hints, p.n, spots, p.spots);
+    let l = read_line(s, c, w, p.lines, words, table, hints, p.n, spots, p.spots);
     match l {
         Line::Asks(a) => {
+            let m = put_node(nodes, p.nodes, w.sort, p.spots, a);
             let row = a.row;
+            let cursor = c.line_done();
             return Taken {
                 row,
                 first: a.first,
                 second: a.second,
                 place: Place {
-                    from: end + 1,
+                    cursor,
                     lines: p.lines + 1,
                     n: a.names,
                     spots: a.spots,
+                    nodes: m,
                     fault: 0,
                 },
             };

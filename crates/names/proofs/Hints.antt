@@ -63,17 +63,17 @@ leads-grows h g v p (suc k) gr nz q = λ d.
 pub hinted-grows : (h g : List ℕ) (i : ℕ) (ns : List Bytes) → Grows h g → (i ≡ 0 → ⊥) → HintedFrom i h ns → HintedFrom i g ns
 unfolding HintedFrom
 hinted-grows h g i [] gr nz q = tt
-hinted-grows h g i (n ∷ ns) gr nz q = (leads-grows h g i (placeOf n) 4096 gr nz (q .0), hinted-grows h g (suc i) ns gr (omega arith) (q .1))
+hinted-grows h g i (n ∷ ns) gr nz q = (leads-grows h g i (placeOf n) 2048 gr nz (q .0), hinted-grows h g (suc i) ns gr (omega arith) (q .1))
 
 -- ---- a name more
 
 module _ (h : List ℕ) (f : Bytes) where
-  pub hinted-more : (ns : List Bytes) (i v : ℕ) → v ≡ i + length ns → HintedFrom i h ns → Leads h v (placeOf f) 4096 → HintedFrom i h (ns ++ (f ∷ []))
+  pub hinted-more : (ns : List Bytes) (i v : ℕ) → v ≡ i + length ns → HintedFrom i h ns → Leads h v (placeOf f) 2048 → HintedFrom i h (ns ++ (f ∷ []))
   unfolding HintedFrom
   hinted-more [] i v e q z = let j : i ≡ v = omega arith in (rw j z, tt)
   hinted-more (n ∷ ns) i v e q z = (q .0, hinted-more ns (suc i) v (omega arith) (q .1) z)
 
-  pub hinted-last : (ns : List Bytes) (i v : ℕ) → v ≡ i + length ns → HintedFrom i h (ns ++ (f ∷ [])) → HintedFrom i h ns × Leads h v (placeOf f) 4096
+  pub hinted-last : (ns : List Bytes) (i v : ℕ) → v ≡ i + length ns → HintedFrom i h (ns ++ (f ∷ [])) → HintedFrom i h ns × Leads h v (placeOf f) 2048
   unfolding HintedFrom
   hinted-last [] i v e q = let j : v ≡ i = omega arith in (tt, rw j (q .0))
   hinted-last (n ∷ ns) i v e q = let w = hinted-last ns (suc i) v (omega arith) (q .1) in ((q .0, w .0), w .1)

@@ -27,9 +27,9 @@ pub hash-end : (f : Bytes) (i h : ℕ) → length f ≤ i → hashOf h (drop i f
 unfolding hashOf
 hash-end f i h k = rw (drop-of-length-le f k)
 
-pub place-is : (f : Bytes) (h : ℕ) → h ≡ hashOf 0 f → h / 1048576 ≡ placeOf f
+pub place-is : (f : Bytes) (h : ℕ) → h ≡ hashOf 0 f → h / 2097152 ≡ placeOf f
 unfolding placeOf
-place-is f h e = ap (λ x. x / 1048576) e
+place-is f h e = ap (λ x. x / 2097152) e
 
 -- ---- names
 
@@ -99,7 +99,7 @@ listing-long s a l (suc n) = simp length-append (let h = listing-long s a l n in
 -- ---- looking for a name by the hints
 
 -- no name of those hinted is this one
-none-same : (f s : Bytes) (a l h : List ℕ) (n : ℕ) → HintedFrom 1 h (listing s a l n) → ((i : ℕ) → i < n → Leads h (i + 1) (placeOf (nameAt s a l i)) 4096 → same f (nameAt s a l i) ≡ false) → mem f (listing s a l n) ≡ false
+none-same : (f s : Bytes) (a l h : List ℕ) (n : ℕ) → HintedFrom 1 h (listing s a l n) → ((i : ℕ) → i < n → Leads h (i + 1) (placeOf (nameAt s a l i)) 2048 → same f (nameAt s a l i) ≡ false) → mem f (listing s a l n) ≡ false
 unfolding listing mem
 none-same f s a l h zero q other = refl
 none-same f s a l h (suc n) q other =
@@ -111,9 +111,9 @@ none-same f s a l h (suc n) q other =
 module _ (f s : Bytes) (a l h : List ℕ) (n : ℕ) where
   -- if the name is listed, its hint is among the k places from p on
   unfoldable pub Seeks : ℕ → ℕ → Type 0
-  Seeks p k = (i : ℕ) → i < n → same f (nameAt s a l i) ≡ true → Leads h (i + 1) (placeOf f) 4096 → Leads h (i + 1) p k
+  Seeks p k = (i : ℕ) → i < n → same f (nameAt s a l i) ≡ true → Leads h (i + 1) (placeOf f) 2048 → Leads h (i + 1) p k
 
-  pub seek-start : (p : ℕ) → p ≡ placeOf f → Seeks p 4096
+  pub seek-start : (p : ℕ) → p ≡ placeOf f → Seeks p 2048
   unfolding Seeks
   seek-start p e i k y q = rw e q
 
@@ -135,7 +135,7 @@ module _ (f s : Bytes) (a l h : List ℕ) (n : ℕ) where
     unfolding Seeks Hinted
     seek-end z q = none-same f s a l h n q other
       where
-        other : (i : ℕ) → i < n → Leads h (i + 1) (placeOf (nameAt s a l i)) 4096 → same f (nameAt s a l i) ≡ false
+        other : (i : ℕ) → i < n → Leads h (i + 1) (placeOf (nameAt s a l i)) 2048 → same f (nameAt s a l i) ≡ false
         other i j w = go (same f (nameAt s a l i)) refl
           where
             go : (b : Bool) → same f (nameAt s a l i) ≡ b → b ≡ false
@@ -147,9 +147,9 @@ module _ (f s : Bytes) (a l h : List ℕ) (n : ℕ) where
 module _ (h : List ℕ) (from : ℕ) where
   -- whatever grows out of the hints leads on from the start if it does so from p on, in k steps
   unfoldable pub Taken : ℕ → ℕ → Type 0
-  Taken p k = (g : List ℕ) (v : ℕ) → Grows h g → Leads g v p k → Leads g v from 4096
+  Taken p k = (g : List ℕ) (v : ℕ) → Grows h g → Leads g v p k → Leads g v from 2048
 
-  pub taken-start : Taken from 4096
+  pub taken-start : Taken from 2048
   unfolding Taken
   taken-start g v gr q = q
 
@@ -159,7 +159,7 @@ module _ (h : List ℕ) (from : ℕ) where
     taken-on r some nz e g v gr q = taken g v gr (leads-back g v p k some (λ z. nz (sym (gr .stays p nz) ∙ z)) (rw (← e) q))
 
     -- an empty place
-    pub free-here : p < 4096 → getD h p 0 ≡ 0 → Free h from p
+    pub free-here : p < 2048 → getD h p 0 ≡ 0 → Free h from p
     unfolding Taken
     free-here i z = record {
       here = λ l v e. (grows-set h p v z, taken (set h p v) v (grows-set h p v z) (leads-here (set h p v) v p k (getD-set-same h p v 0 (omega arith))));
@@ -167,7 +167,7 @@ module _ (h : List ℕ) (from : ℕ) where
     }
 
     -- no place is left
-    pub free-none : k ≤ 0 → Free h from 4096
+    pub free-none : k ≤ 0 → Free h from 2048
     unfolding Taken
     free-none z = record { here = λ l. absurd (omega arith); none = λ l v. (grows-same h, taken h v (grows-same h) (leads-none h v p k z)) }
 
@@ -216,7 +216,7 @@ module _ (s f : Bytes) (a l h : List ℕ) (n : ℕ) (want : List Bytes) (holds :
             over = λ m. rw (new not-there low high) g;
           }
 
-      pub keep-new : (from size : ℕ) (g : List ℕ) → f ≡ piece from size s → (n ≡ 1024 → ⊥) → (length h ≡ 4096 → Grows h g × Leads g (n + 1) (placeOf f) 4096) → Holds s (set a n from) (set l n size) g (n + 1) (kept f want)
+      pub keep-new : (from size : ℕ) (g : List ℕ) → f ≡ piece from size s → (n ≡ 1024 → ⊥) → (length h ≡ 2048 → Grows h g × Leads g (n + 1) (placeOf f) 2048) → Holds s (set a n from) (set l n size) g (n + 1) (kept f want)
       unfolding listing Hinted
       keep-new from size g e ne puts =
           let put = puts (holds .entries .2) in
@@ -303,6 +303,6 @@ pub holds-long : (s a l h : List ℕ) (n : ℕ) (want : List Bytes) → Holds s 
 holds-long s a l h n want q k = ap length (sym (q .fits k)) ∙ listing-long s a l n
 
 -- an empty table
-pub holds-none : (s a l h : List ℕ) → length a ≡ 1024 → length l ≡ 1024 → length h ≡ 4096 → Holds s a l h 0 []
+pub holds-none : (s a l h : List ℕ) → length a ≡ 1024 → length l ≡ 1024 → length h ≡ 2048 → Holds s a l h 0 []
 unfolding listing Hinted
 holds-none s a l h x y z = record { entries = (x, y, z); high = omega arith; fits = λ k. refl; hinted = λ k. tt; over = λ k. absurd (omega arith) }

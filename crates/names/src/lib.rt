@@ -4,9 +4,9 @@ use text::equal;
 use text::piece;
 ghost use mathlib.Core.Path.{_≡_};
 ghost use Prim.Native.Nat.{ℕ, _+_, _≤_, _<_};
-ghost use mathlib.Core.List.{List, [], _∷_};
+ghost use mathlib.Core.List.{List};
 ghost use mathlib.Core.Bool.{false, true};
-ghost use lib.ListN.{length, getD, set};
+ghost use lib.ListN.{length, set, replicate};
 ghost use Rattle.text.specs.Text.{same, piece as pieceOf};
 ghost use Rattle.algebra.specs.Valid.{mem};
 ghost use Rattle.names.specs.bridge.Names.{hashOf, placeOf, startsOf, sizesOf, after as afterOf, Leads, Hinted, Free, Grows, Lists, kept, namesIn, HoldsIn, nameIn};
@@ -27,45 +27,28 @@ fn byte(x: u8) -> usize
     x as usize
 }
 
-// The table is cleared.
-fn clear(table: &mut [Entry; 1024], hints: &mut [u16; 4096])
-    ensures { λ r. ⌜ (length (now (table .exit)) ≡ 1024) × (length (now (hints .exit)) ≡ 4096) ⌝ }
+// The table is cleared. Hints that are left from earlier names change no answer: a hint is compared with the name itself.
+pub fn clear(table: &mut [Entry; 1024])
+    ensures { λ _. ⌜ now (table .exit) ≡ replicate 1024 (replicate 2 0) ⌝ }
 {
     *table = [[0; 2]; 1024];
-    *hints = [0; 4096];
 }
 
-fn has_places(a: &[u16], n: usize) -> bool
-    ensures { λ r. ⌜ (r ≡ true → length (now (a .entry)) ≡ n) ⌝ }
-{
-    a.len() == n
-}
+// An array has as many entries as its type says; nothing is done.
+fn all_entries(table: [Entry; 1024])
+    ensures { λ _. ⌜ length table ≡ 1024 ⌝ }
+{}
 
-fn has_entries(a: &[Entry], n: usize) -> bool
-    ensures { λ r. ⌜ (r ≡ true → length (now (a .entry)) ≡ n) ⌝ }
-{
-    a.len() == n
-}
+fn all_places(hints: [u16; 2048])
+    ensures { λ _. ⌜ length hints ≡ 2048 ⌝ }
+{}
 
-// Each part of the table has its places.
-fn have_places(table: &[Entry; 1024], hints: &[u16; 4096]) -> bool
-    ensures { λ r. ⌜ (r ≡ true → (length (now (table .entry)) ≡ 1024) × (length (now (hints .entry)) ≡ 4096)) ⌝ }
+// A table without names: whoever lends it has made it of zeros or cleared it. Nothing is done.
+pub fn no_names(table: &mut [Entry; 1024], hints: &mut [u16; 2048])
+    ensures { λ _. ⌜ (length (startsOf (now (table .exit))) ≡ 1024) × (length (sizesOf (now (table .exit))) ≡ 1024) × (length (now (hints .exit)) ≡ 2048) ⌝ }
 {
-    if !has_entries(table, 1024) {
-        return false;
-    }
-    has_places(hints, 4096)
-}
-
-// A table without names. Whoever made it has cleared it; what earlier names left would cost time and change no answer, as a hint is
-// compared with the name itself. The test is one of types, and the compiled code has none.
-pub fn no_names(table: &mut [Entry; 1024], hints: &mut [u16; 4096])
-    ensures { λ _. ⌜ (length (startsOf (now (table .exit))) ≡ 1024) × (length (sizesOf (now (table .exit))) ≡ 1024) × (length (now (hints .exit)) ≡ 4096) ⌝ }
-{
-    if have_places(table, hints) {
-        return;
-    }
-    clear(table, hints);
+    all_entries(*table);
+    all_places(*hints);
 }
 
 // A name's hash, of 32 bits. A byte is added before the product, so that it reaches the top bits.
@@ -81,19 +64,19 @@ fn hash(f: &[u8]) -> usize
     h
 }
 
-// Where the search for a name's hint starts: the top twelve bits of its hash.
+// Where the search for a name's hint starts: the top eleven bits of its hash.
 fn place(f: &[u8]) -> usize
-    ensures { λ r. ⌜ (r ≡ placeOf (now (f .entry))) × (r < 4096) ⌝ }
+    ensures { λ r. ⌜ (r ≡ placeOf (now (f .entry))) × (r < 2048) ⌝ }
 {
-    hash(f) / 1048576
+    hash(f) / 2097152
 }
 
 // The place after a place, around the end.
 fn after(p: usize) -> usize
-    requires { ⌜ p < 4096 ⌝ }
-    ensures { λ r. ⌜ (r ≡ afterOf p) × (r < 4096) ⌝ }
+    requires { ⌜ p < 2048 ⌝ }
+    ensures { λ r. ⌜ (r ≡ afterOf p) × (r < 2048) ⌝ }
 {
-    (p + 1) % 4096
+    (p + 1) % 2048
 }
 
 // The name at an entry is this one.
@@ -131,19 +114,19 @@ fn is_hinted(f: &[u8], s: &[u8], table: &[Entry; 1024], n: usize, hint: usize) -
     is_name(f, s, table, hint - 1)
 }
 
-// The entry of a name among the first n, or n; and where the hint of one that is new goes, 4,096 for nowhere.
+// The entry of a name among the first n, or n; and where the hint of one that is new goes, 2,048 for nowhere.
 struct Seen {
     entry: usize,
     at: usize,
 }
 
-fn probe(f: &[u8], s: &[u8], table: &[Entry; 1024], hints: &[u16; 4096], n: usize) -> Seen
+fn probe(f: &[u8], s: &[u8], table: &[Entry; 1024], hints: &[u16; 2048], n: usize) -> Seen
     requires { ⌜ n ≤ 1024 ⌝ }
     ensures { λ r. ⌜ (r .entry ≤ n) × (r .entry < n → same (now (f .entry)) (nameIn (now (s .entry)) (now (table .entry)) (r .entry)) ≡ true) × (r .entry ≡ n → Hinted (now (hints .entry)) (namesIn (now (s .entry)) (now (table .entry)) n) → mem (now (f .entry)) (namesIn (now (s .entry)) (now (table .entry)) n) ≡ false) ⌝ }
     ensures free { λ r. ⌜ (r .entry ≡ n → Free (now (hints .entry)) (placeOf (now (f .entry))) (r .at)) ⌝ }
 {
     let mut p = place(f);
-    let mut left: usize = 4096;
+    let mut left: usize = 2048;
     while 0 < left {
         let hint = wide(hints[p]);
         if hint == 0 {
@@ -152,18 +135,18 @@ fn probe(f: &[u8], s: &[u8], table: &[Entry; 1024], hints: &[u16; 4096], n: usiz
         if is_hinted(f, s, table, n, hint) {
             return Seen {
                 entry: hint - 1,
-                at: 4096,
+                at: 2048,
             };
         }
         p = after(p);
         left -= 1;
     }
     let e = scan(f, s, table, n);
-    Seen { entry: e, at: 4096 }
+    Seen { entry: e, at: 2048 }
 }
 
 // The entry of a name among the first n, or n.
-pub fn find_name(f: &[u8], s: &[u8], table: &[Entry; 1024], hints: &[u16; 4096], n: usize) -> usize
+pub fn find_name(f: &[u8], s: &[u8], table: &[Entry; 1024], hints: &[u16; 2048], n: usize) -> usize
     requires { ⌜ n ≤ 1024 ⌝ }
     ensures { λ r. ⌜ (r ≤ n) × (r < n → same (now (f .entry)) (nameIn (now (s .entry)) (now (table .entry)) r) ≡ true) × (r ≡ n → Hinted (now (hints .entry)) (namesIn (now (s .entry)) (now (table .entry)) n) → mem (now (f .entry)) (namesIn (now (s .entry)) (now (table .entry)) n) ≡ false) ⌝ }
 {
@@ -172,10 +155,10 @@ pub fn find_name(f: &[u8], s: &[u8], table: &[Entry; 1024], hints: &[u16; 4096],
 }
 
 // Puts a hint at a place, or nowhere if there is none.
-fn put_hint(hints: &mut [u16; 4096], at: usize, hint: u16)
-    ensures { λ r. ⌜ ((from : ℕ) → Free (now (hints .entry)) from at → length (now (hints .entry)) ≡ 4096 → Grows (now (hints .entry)) (now (hints .exit)) × Leads (now (hints .exit)) hint from 4096) ⌝ }
+fn put_hint(hints: &mut [u16; 2048], at: usize, hint: u16)
+    ensures { λ r. ⌜ ((from : ℕ) → Free (now (hints .entry)) from at → length (now (hints .entry)) ≡ 2048 → Grows (now (hints .entry)) (now (hints .exit)) × Leads (now (hints .exit)) hint from 2048) ⌝ }
 {
-    if at < 4096 {
+    if at < 2048 {
         hints[at] = hint;
     }
 }
@@ -200,7 +183,7 @@ pub fn keep_name(
     from: usize,
     size: usize,
     table: &mut [Entry; 1024],
-    hints: &mut [u16; 4096],
+    hints: &mut [u16; 2048],
     n: usize,
 ) -> Listed
     requires { ⌜ (from < 65536) × (size < 65536) ⌝ }
@@ -237,7 +220,7 @@ pub fn add_name(
     from: usize,
     size: usize,
     table: &mut [Entry; 1024],
-    hints: &mut [u16; 4096],
+    hints: &mut [u16; 2048],
     n: usize,
 ) -> usize
     requires { ⌜ (from < 65536) × (size < 65536) ⌝ }

@@ -27,7 +27,7 @@ book-long s f l g n zero = refl
 book-long s f l g n (suc m) = ap suc (book-long s f l g n m)
 
 -- no push
-pub stored-none : (s : Bytes) (f l h g n : List ℕ) → length f ≡ 1024 → length l ≡ 1024 → length h ≡ 4096 → length g ≡ 1024 → length n ≡ 1024 → Stored s f l h g n 0
+pub stored-none : (s : Bytes) (f l h g n : List ℕ) → length f ≡ 1024 → length l ≡ 1024 → length h ≡ 2048 → length g ≡ 1024 → length n ≡ 1024 → Stored s f l h g n 0
 unfolding listing
 stored-none s f l h g n a b c d e = record { few = omega arith; bases = holds-none s f l h a b c; prefixes = d; numbers = e; small = λ k q. absurd (omega arith) }
 

@@ -28,7 +28,7 @@ fn find_push(
     f: &[u8],
     text: &[u8],
     listed: &[Entry; 1024],
-    hints: &[u16; 4096],
+    hints: &[u16; 2048],
     marks: &[Entry; 1024],
     m: usize,
 ) -> Hit
@@ -79,7 +79,7 @@ fn set_new_names(
     table: &[Entry; 1024],
     n: usize,
     listed: &[Entry; 1024],
-    hints: &[u16; 4096],
+    hints: &[u16; 2048],
     marks: &[Entry; 1024],
     m: usize,
     pool: &mut [u8],
@@ -116,7 +116,7 @@ pub fn standardize_variables(
     ensures { λ _. ⌜ Standard (allPushes prefix (numberedBy (now (flags .entry)) (namesIn (now (text .entry)) (now (table .entry)) n)) (namesAt (now (text .entry)) (startsOf (now (table .entry))) (sizesOf (now (table .entry))) (now (joins .entry)) m 0)) (namesIn (now (text .entry)) (now (table .entry)) n) n (now (pool .exit)) (startsOf (now (news .exit))) (sizesOf (now (news .exit))) (sizesOf (now (news .entry))) ⌝ }
 {
     let mut listed = [[0u16; 2]; 1024];
-    let mut hints = [0u16; 4096];
+    let mut hints = [0u16; 2048];
     let mut marks = [[0u16; 2]; 1024];
     let j = push_joins(text, table, joins, m, &mut listed, &mut hints, &mut marks);
     let k = push_all(

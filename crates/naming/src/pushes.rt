@@ -24,7 +24,7 @@ pub fn find_label(
     f: &[u8],
     text: &[u8],
     listed: &[Entry; 1024],
-    hints: &[u16; 4096],
+    hints: &[u16; 2048],
     m: usize,
 ) -> usize
     requires { ⌜ (m ≤ 1024) × Hinted (now hints) (namesIn (now text) (now listed) m) ⌝ }
@@ -62,7 +62,7 @@ fn push(
     k: usize,
     next: Pass,
     listed: &mut [Entry; 1024],
-    hints: &mut [u16; 4096],
+    hints: &mut [u16; 2048],
     marks: &mut [Entry; 1024],
 ) -> usize
     requires { ⌜ (k < 1024) × (next .count < 65536) × StoredIn (now text) (now listed) (now hints) (now marks) (next .m) × (contains (baseOf (nameIn (now text) (now table) k)) (bookOf (now text) (now listed) (now marks) (next .m)) ≡ false → next .m < 1024) ⌝ }
@@ -89,7 +89,7 @@ pub fn push_joins(
     joins: &[u16; 64],
     m: usize,
     listed: &mut [Entry; 1024],
-    hints: &mut [u16; 4096],
+    hints: &mut [u16; 2048],
     marks: &mut [Entry; 1024],
 ) -> usize
     requires { ⌜ StoredIn (now text) (now listed) (now hints) (now marks) 0 × (m ≤ 64) × ((i : ℕ) → i < m → getD (now joins) i 0 < 1024) ⌝ }
@@ -118,7 +118,7 @@ fn push_one(
     flag: u8,
     next: Pass,
     listed: &mut [Entry; 1024],
-    hints: &mut [u16; 4096],
+    hints: &mut [u16; 2048],
     marks: &mut [Entry; 1024],
 ) -> Pass
     requires { ⌜ (k < 1024) × (next .count < 65536) × StoredIn (now text) (now listed) (now hints) (now marks) (next .m) × (contains (baseOf (nameIn (now text) (now table) k)) (bookOf (now text) (now listed) (now marks) (next .m)) ≡ false → next .m < 1024) ⌝ }
@@ -146,7 +146,7 @@ fn push_flagged(
     base: usize,
     first: Pass,
     listed: &mut [Entry; 1024],
-    hints: &mut [u16; 4096],
+    hints: &mut [u16; 2048],
     marks: &mut [Entry; 1024],
 ) -> Pass
     requires { ⌜ (n ≤ 1024) × (base ≤ 1024) × (first .count ≤ 1024) × StoredIn (now text) (now listed) (now hints) (now marks) (first .m) × Room (bookOf (now text) (now listed) (now marks) (first .m)) (namesIn (now text) (now table) n) ⌝ }
@@ -169,7 +169,7 @@ pub fn push_all(
     flags: &[u8; 2048],
     prefix: u8,
     listed: &mut [Entry; 1024],
-    hints: &mut [u16; 4096],
+    hints: &mut [u16; 2048],
     marks: &mut [Entry; 1024],
     m: usize,
 ) -> usize

@@ -8,6 +8,7 @@ use heads::tree_start;
 use reader::line_end;
 use reading::check_query;
 use words::keys;
+use words::table::all_words;
 use words::word_at;
 ghost use mathlib.Core.Path.{_≡_};
 ghost use Prim.Native.Nat.{_≤_};
@@ -101,9 +102,10 @@ fn negate_of(query: &[u8], out: &mut [u8]) -> Answer
 pub fn negate(query: &[u8], out: &mut [u8]) -> Answer
     ensures { λ r. ⌜ Answered (negateOutcome (now (query .entry))) (now (out .entry)) (now (out .exit)) r ⌝ }
 {
+    let words = all_words();
     let mut table = [[0u16; 2]; 1024];
-    let mut hints = [0u16; 4096];
-    match check_query(query, &mut table, &mut hints) {
+    let mut hints = [0u16; 2048];
+    match check_query(query, &words, &mut table, &mut hints) {
         Check::Good(_) => negate_of(query, out),
         Check::Malformed => Answer::Malformed,
         Check::OverBound => Answer::OverBound,

@@ -6,6 +6,7 @@ use libc::STDOUT_FILENO;
 use lists::check_constants;
 use lists::check_joins;
 use lists::check_mapping;
+use names::clear;
 use reading::check_filters;
 use reading::check_query;
 use reading::check_sets;
@@ -14,7 +15,10 @@ use records::LIMIT;
 use records::NONE;
 use records::read_record;
 use text::piece;
+use words::table::WordRow;
+use words::table::all_words;
 ghost use Prim.Native.Nat.{_<_};
+ghost use Rattle.words.specs.bridge.Words.{Worded};
 
 // Where the next record starts, and where the output goes on.
 struct Step {
@@ -22,15 +26,24 @@ struct Step {
     to: usize,
 }
 
-fn check(kind: u32, text: &[u8], table: &mut [[u16; 2]; 1024], hints: &mut [u16; 4096]) -> Answer {
+fn check(
+    kind: u32,
+    text: &[u8],
+    words: &[WordRow; 56],
+    table: &mut [[u16; 2]; 1024],
+    hints: &mut [u16; 2048],
+) -> Answer
+    requires { ⌜ Worded (now words) ⌝ }
+{
+    clear(table);
     match kind {
-        0 => check_tree(text, table, hints),
-        1 => check_query(text, table, hints),
+        0 => check_tree(text, words, table, hints),
+        1 => check_query(text, words, table, hints),
         2 => check_joins(text, &mut [[0u16; 4]; 64]),
         3 => check_constants(text, &mut [[0u16; 4]; 64]),
         4 => check_mapping(text, &mut [[0u16; 4]; 64]),
-        5 => check_sets(text, table, hints),
-        _ => check_filters(text, table, hints),
+        5 => check_sets(text, words, table, hints),
+        _ => check_filters(text, words, table, hints),
     }
 }
 
@@ -79,12 +92,13 @@ fn turn(
     fd: i32,
     at: u64,
     window: &mut [u8],
+    words: &[WordRow; 56],
     table: &mut [[u16; 2]; 1024],
-    hints: &mut [u16; 4096],
+    hints: &mut [u16; 2048],
     out: &mut [u8; 65536],
     to: usize,
 ) -> Step
-    requires { ⌜ at < 1099511627776 ⌝ }
+    requires { ⌜ (at < 1099511627776) × Worded (now words) ⌝ }
     ensures { λ r. ⌜ at < r .at ⌝ }
 {
     let r = read_record(fd, at, window);
@@ -97,7 +111,7 @@ fn turn(
         return Step { at: next, to };
     }
     let text = piece(window, r.text, r.text_size);
-    let a = check(r.kind, text, table, hints);
+    let a = check(r.kind, text, words, table, hints);
     let label = piece(window, r.label, r.label_size);
     let to = put_line(out, to, label, number(a));
     Step { at: next, to }
@@ -106,14 +120,17 @@ fn turn(
 fn run(
     fd: i32,
     window: &mut [u8],
+    words: &[WordRow; 56],
     table: &mut [[u16; 2]; 1024],
-    hints: &mut [u16; 4096],
+    hints: &mut [u16; 2048],
     out: &mut [u8; 65536],
-) {
+)
+    requires { ⌜ Worded (now words) ⌝ }
+{
     let mut at: u64 = 0;
     let mut to: usize = 0;
     while at < LIMIT {
-        let s = turn(fd, at, window, table, hints, out, to);
+        let s = turn(fd, at, window, words, table, hints, out, to);
         at = s.at;
         to = s.to;
     }
@@ -127,10 +144,11 @@ fn main() {
         os::fail(path);
         return;
     }
+    let words = all_words();
     let mut window = [0u8; 20480];
     let mut table = [[0u16; 2]; 1024];
-    let mut hints = [0u16; 4096];
+    let mut hints = [0u16; 2048];
     let mut out = [0u8; 65536];
-    run(fd, &mut window, &mut table, &mut hints, &mut out);
+    run(fd, &mut window, &words, &mut table, &mut hints, &mut out);
     libc::close(fd);
 }

@@ -1,23 +1,20 @@
 -- Where a pattern ends: the row of a word whatever its sort, what is to come below a line, and the lines copied one by one. Assumes nothing.
-use Prim.Native.Nat.{ℕ, zero, suc, _+_, _-_, _*_, _/_, _%_, _≤_, _<_}
+use Prim.Native.Nat.{ℕ, zero, suc, _+_, _-_, _/_, _%_, _≤_, _<_}
 use mathlib.Core.Path.{_≡_, refl, sym, ap, ap₂, subst, _∙_}
-use mathlib.Core.Bool.{Bool, true, false, cond}
 use mathlib.Core.List.{List, [], _∷_, _++_, append-assoc}
 use mathlib.Core.Option.{Option, none, some}
-use native.Mathlib.Numerals.{add-one}
 use native.Mathlib.Decide.{decLt}
 use native.Mathlib.Omega.{arith}
-use lib.ListN.{length, getD, drop, drop-of-length-le}
-use lib.Seq.{drop-cons}
-use Rattle.text.specs.Text.{Bytes, Line, same, ended, textOf, split, part, linesFrom, First}
+use lib.ListN.{length, getD}
+use Rattle.text.specs.Text.{Bytes, Line, ended, textOf, split, part, linesFrom, First}
 use Rattle.text.proofs.Texts.{Ended, glue-split, ended-glue}
 use Rattle.text.proofs.Places.{lines-next, lines-open, lines-end}
-use Rattle.algebra.specs.bridge.Table.{Sort, parts, Below, Row, Entry, sorts, rowsOf, entriesOf, table, rowIn, rowFor}
+use Rattle.algebra.specs.bridge.Table.{Sort, Below, Row, table, rowIn}
 use Rattle.words.specs.declared.Row.{Row as Code}
 use Rattle.words.specs.declared.Found.{Found}
 use Rattle.words.specs.declared.Found.the-variants.{Is, None}
 use Rattle.words.specs.bridge.Code.{sortAt, groupOf, slotsIn, groupsIn, rowOf, rowFound, noCode}
-use Rattle.cursor.specs.bridge.Cursor.{left}
+use Rattle.cursor.specs.bridge.Cursor.{left, awaitingMany}
 use Rattle.cursor.specs.declared.Cursor.{Cursor}
 use Rattle.parted.proofs.Laws.{part-join, part-line}
 use Rattle.lines.specs.bridge.Below.{amountIn}
@@ -29,50 +26,13 @@ use Rattle.placing.specs.bridge.Ends.{EndsAt}
 
 -- ---- the row of a word
 
-module _ (f : Bytes) where
-  found-first : (a b : List Entry) (r : Row) → rowIn a f ≡ some r → rowIn (a ++ b) f ≡ some r
-  unfolding rowIn
-  found-first [] b r h = let z : _≡_ {A = ℕ} 0 1 = cc in absurd (omega arith)
-  found-first (e ∷ es) b r h = go (same f (e .word)) (found-first es b r) h
-    where
-      go : (c : Bool) → (rowIn es f ≡ some r → rowIn (es ++ b) f ≡ some r) → cond c (some (e .row)) (rowIn es f) ≡ some r → cond c (some (e .row)) (rowIn (es ++ b) f) ≡ some r
-      go true k h = h
-      go false k h = k h
+module _ (o : Option Row) (t : Found) (e : rowFound t ≡ o) where
+  pub row-is : (c : Code) → t ≡ Is c → rowOf c ≡ rowOr o
+  row-is c i = ap rowOr (sym (ap rowFound i) ∙ e)
 
-  found-later : (a b : List Entry) → rowIn a f ≡ none → rowIn (a ++ b) f ≡ rowIn b f
-  unfolding rowIn
-  found-later [] b h = refl
-  found-later (e ∷ es) b h = go (same f (e .word)) (found-later es b) h
-    where
-      go : (c : Bool) → (rowIn es f ≡ none → rowIn (es ++ b) f ≡ rowIn b f) → cond c (some (e .row)) (rowIn es f) ≡ none → cond c (some (e .row)) (rowIn (es ++ b) f) ≡ rowIn b f
-      go true k h = let z : _≡_ {A = ℕ} 0 1 = cc in absurd (omega arith)
-      go false k h = k h
-
-  -- the words of the sorts from a number on
-  abbrev pub rowFrom : ℕ → Option Row
-  rowFrom k = rowIn (entriesOf (drop k sorts)) f
-
-  sort-next : (k : ℕ) → k < 12 → entriesOf (drop k sorts) ≡ rowsOf (sortAt k) ++ entriesOf (drop (k + 1) sorts)
-  sort-next k h = rw (add-one, drop-cons sorts k parts h)
-
-  pub row-start : rowFrom 0 ≡ rowIn table f
-  unfolding table
-  row-start = refl
-
-  module _ (k : ℕ) (h : k < 12) (t : Found) (e : rowFound t ≡ rowFor (sortAt k) f) (so : rowFrom k ≡ rowIn table f) where
-    pub row-hit : (c : Code) → t ≡ Is c → rowOf c ≡ rowOr (rowIn table f)
-    row-hit c i =
-        let r : rowFor (sortAt k) f ≡ some (rowOf c) = sym e ∙ ap rowFound i in
-        ap rowOr (sym (found-first (rowsOf (sortAt k)) (entriesOf (drop (k + 1) sorts)) (rowOf c) r) ∙ ap (λ (l : List Entry). rowIn l f) (sym (sort-next k h)) ∙ so)
-
-    pub row-miss : t ≡ None → rowFrom (k + 1) ≡ rowIn table f
-    row-miss i =
-        let r : rowFor (sortAt k) f ≡ none = sym e ∙ ap rowFound i in
-        sym (found-later (rowsOf (sortAt k)) (entriesOf (drop (k + 1) sorts)) r) ∙ ap (λ (l : List Entry). rowIn l f) (sym (sort-next k h)) ∙ so
-
-  pub row-none : (k : ℕ) → 12 ≤ k → rowFrom k ≡ rowIn table f → rowOf noCode ≡ rowOr (rowIn table f)
-  unfolding rowIn slotsIn groupsIn
-  row-none k h so = ap rowOr (sym (ap (λ (l : List Sort). rowIn (entriesOf l) f) (drop-of-length-le sorts h)) ∙ so)
+  pub row-none : t ≡ None → rowOf noCode ≡ rowOr o
+  unfolding slotsIn groupsIn
+  row-none i = ap rowOr (sym (ap rowFound i) ∙ e)
 
 -- ---- what is to come below a line
 
@@ -112,24 +72,24 @@ below-row : (o : Option Row) → below o ≡ rowOr o .below
 below-row none = refl
 below-row (some r) = refl
 
-pub come-is : (s : Bytes) (from end w a b : ℕ) (c : Code) (x y z : ℕ) → split 9 (part from end s) ≡ part from w s ∷ left s (w + 1) end → rowOf c ≡ rowOr (rowIn table (part from w s))
-    → a ≡ numberIn (getD (left s (w + 1) end) 0 []) → b ≡ numberIn (getD (left s (w + 1) end) 1 [])
-    → x ≡ amountIn (c .below % 4) (c .below / 4 % 8) a b → y ≡ amountIn (c .below / 512 % 4) (c .below / 512 / 4 % 8) a b → z ≡ amountIn (c .below / 512 / 512 % 4) (c .below / 512 / 512 / 4 % 8) a b
-    → x + y + z ≡ toCome (split 9 (part from end s))
-unfolding toCome
-come-is s from end w a b c x y z l r p q i j k =
-    ap₂ _+_ (ap₂ _+_ i j) k
-    ∙ sym (row-amount (c .below) a b)
-    ∙ ap₂ (λ (g : List Below) (ns : List ℕ). amounts g ns) (ap (λ (o : Row). o .below) r ∙ sym (below-row (rowIn table (part from w s)))) (ap₂ (λ (m n : ℕ). m ∷ n ∷ []) p q)
-    ∙ ap (λ (m : Line). amounts (below (rowIn table (getD m 0 []))) (numberIn (getD m 1 []) ∷ numberIn (getD m 2 []) ∷ [])) (sym l)
+-- the lines that a row asks for, one group and then the next
+pub asked-is : (n a b x y z : ℕ) (s : Bytes) (first end : ℕ) → a ≡ numberIn (getD (left s first end) 0 []) → b ≡ numberIn (getD (left s first end) 1 [])
+    → x ≡ amountIn (n % 4) (n / 4 % 8) a b → y ≡ amountIn (n / 512 % 4) (n / 512 / 4 % 8) a b → z ≡ amountIn (n / 512 / 512 % 4) (n / 512 / 512 / 4 % 8) a b
+    → x + y + z ≡ amounts (groupsIn 3 n) (numberIn (getD (left s first end) 0 []) ∷ numberIn (getD (left s first end) 1 []) ∷ [])
+asked-is n a b x y z s first end p q i j k = ap₂ _+_ (ap₂ _+_ i j) k ∙ sym (row-amount n a b) ∙ ap₂ (λ (l m : ℕ). amounts (groupsIn 3 n) (l ∷ m ∷ [])) p q
 
--- a row that asks for no line
-pub come-none : (s : Bytes) (from end w : ℕ) (c : Code) → split 9 (part from end s) ≡ part from w s ∷ left s (w + 1) end → rowOf c ≡ rowOr (rowIn table (part from w s)) → c .below ≡ 0 → 0 ≡ toCome (split 9 (part from end s))
-come-none s from end w c l r n =
-    let a = numberIn (getD (left s (w + 1) end) 0 []) in
-    let b = numberIn (getD (left s (w + 1) end) 1 []) in
-    let none : (f : ℕ → ℕ) → f 0 ≡ 0 → 0 ≡ amountIn (f (c .below) % 4) (f (c .below) / 4 % 8) a b = λ f e. sym (ap (λ (i : ℕ). amountIn (i % 4) (i / 4 % 8) a b) (ap f n ∙ e)) in
-    come-is s from end w a b c 0 0 0 l r refl refl (none (λ i. i) refl) (none (λ i. i / 512) refl) (none (λ i. i / 512 / 512) refl)
+pub asked-none : (n : ℕ) (ns : List ℕ) → n ≡ 0 → 0 ≡ amounts (groupsIn 3 n) ns
+unfolding groupsIn amounts
+asked-none n ns h = rw h
+
+-- those that its line asks for
+pub come-is : (s : Bytes) (from end w : ℕ) (c : Code) → split 9 (part from end s) ≡ part from w s ∷ left s (w + 1) end → rowOf c ≡ rowOr (rowIn table (part from w s))
+    → (r : ℕ) → r ≡ amounts (groupsIn 3 (c .below)) (numberIn (getD (left s (w + 1) end) 0 []) ∷ numberIn (getD (left s (w + 1) end) 1 []) ∷ []) → r ≡ toCome (split 9 (part from end s))
+unfolding toCome
+come-is s from end w c l o r e =
+    e
+    ∙ ap (λ (g : List Below). amounts g (numberIn (getD (left s (w + 1) end) 0 []) ∷ numberIn (getD (left s (w + 1) end) 1 []) ∷ [])) (ap (λ (x : Row). x .below) o ∙ sym (below-row (rowIn table (part from w s))))
+    ∙ ap (λ (m : Line). amounts (below (rowIn table (getD m 0 []))) (numberIn (getD m 1 []) ∷ numberIn (getD m 2 []) ∷ [])) (sym l)
 
 -- a group is small if the row and the numbers are
 pub amount-fits : (n a b r : ℕ) → r ≡ amountIn (n % 4) (n / 4 % 8) a b → a < 4294967296 → b < 4294967296 → r ≤ 4294967298
@@ -224,8 +184,8 @@ module _ (s : Bytes) (from at end k : ℕ) (low : from ≤ at) (high : at ≤ le
     )
 
     -- the cursor behind the line
-    pub going-child : (line c : Cursor) → line .at ≡ at → line .awaited ≡ k → (b : ℕ) → b ≡ toCome (split 9 (part (line .at) end s)) → c .at ≡ end + 1 → c .awaited ≡ line .awaited - 1 + b → Going s from (c .at) (c .awaited)
-    going-child line c i j b h e n =
-        subst (λ (m : ℕ). Going s from m (c .awaited)) (sym e)
-        (subst (λ (m : ℕ). Going s from (end + 1) m) (sym (n ∙ ap (λ (m : ℕ). m - 1 + b) j))
-        (going-next b (h ∙ ap (λ (m : ℕ). toCome (split 9 (part m end s))) i)))
+    pub going-child : (b : ℕ) → b ≡ toCome (split 9 (part at end s)) → (done c : Cursor) → done .at ≡ end + 1 → c ≡ awaitingMany done (k - 1 + b) → Going s from (c .at) (c .awaited)
+    going-child b h done c e n =
+        subst (λ (d : Cursor). Going s from (d .at) (d .awaited)) (sym n)
+        (subst (λ (m : ℕ). Going s from m (k - 1 + b)) (sym e)
+        (going-next b h))

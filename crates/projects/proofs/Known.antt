@@ -1,10 +1,10 @@
 -- Texts that were checked: their trees stand in them, and their lists are those that the code reads. Assumes nothing.
-use Prim.Native.Nat.{ℕ, zero, suc, _+_, _-_, _≤_, _<_}
+use Prim.Native.Nat.{ℕ, zero, suc, _+_, _-_, _*_, _≤_, _<_}
 use mathlib.Core.Path.{_≡_, refl, sym, ap, ap₂, subst, _∙_}
 use mathlib.Core.List.{List, [], _∷_, _++_}
 use native.Mathlib.Nat.{le-refl}
 use native.Mathlib.Omega.{arith}
-use lib.ListN.{length, getD, take, drop, length-take, length-drop, length-append}
+use lib.ListN.{length, getD, take, drop, replicate, length-take, length-drop, length-append, length-replicate}
 use lib.Seq.{getD-take, take-all, drop-at}
 use Rattle.text.specs.Text.{Bytes, ended, part, split, linesIn, linesOf, linesFrom}
 use Rattle.text.proofs.Texts.{lines-back}
@@ -29,9 +29,14 @@ use Rattle.lists.specs.bridge.Pairs.{pairsIn, PairsChecked}
 use Rattle.lists.proofs.Said.{said-good}
 use Rattle.scoping.specs.Premises.{differentPositions}
 use Rattle.scoping.specs.Numbering.{byPlace}
-use Rattle.scoping.specs.bridge.Spots.{Spot}
+use Rattle.algebra.specs.bridge.Table.{patterns}
+use Rattle.scoping.specs.bridge.Spots.{Spot, Node}
+use Rattle.scoping.specs.bridge.Skip.{skip}
 use Rattle.scoping.proofs.FirstPlaces.{by-place-query}
+use Rattle.lines.specs.bridge.Noded.{nodeAt, nodesOf, Noded, Roomy}
 use Rattle.lines.specs.bridge.Spotted.{spotAt, spotsOf, Noted}
+use Rattle.walking.specs.bridge.Renamed.{Shaped}
+use Rattle.walking.proofs.Noted.{shaped-tree}
 use Rattle.lines.specs.declared.check.Noting.{Noting}
 use Rattle.lines.specs.declared.check.Noting.the-variants.{Good}
 use Rattle.merging.specs.Request.{Projection, tree, made, readJoins, readConstants, joinPositions, byPosition, constantsIn}
@@ -39,7 +44,7 @@ use Rattle.merging.proofs.Lists.{positions-different}
 use Rattle.heads.specs.bridge.TreeAt.{headLine, TreeAt}
 use Rattle.heads.proofs.Queries.{query-valid, query-depth, query-names, query-text}
 use Rattle.sides.specs.bridge.Listed.{Listed}
-use Rattle.projects.specs.bridge.Joining.{Stands, KnownTree, KnownText, HasRoom, Terms, KnownTerms}
+use Rattle.projects.specs.bridge.Joining.{Stands, KnownTree, KnownText, HasRoom, HasNodes, Terms, KnownTerms}
 use Rattle.projects.proofs.Picks.{positions-are}
 
 -- ---- trees
@@ -92,6 +97,7 @@ noted-taken s from ns a k x =
     let e : length (take k a) ≡ k = taken-long a k (x .kept .many) in
     subst (Noted s from ns (take k a)) (sym e) (record {
       spots = x .spots;
+      nodes = x .nodes;
       walked = x .walked;
       kept = record {
         many = omega arith;
@@ -110,42 +116,90 @@ tree-somewhere s q e =
     let n : length s ≡ length h + length (layout (q .tree)) = ap length (query-text s q e) ∙ length-append h (layout (q .tree)) in
     (length h, (omega arith, ap (λ (b : Bytes). linesIn (split 10 b)) p ∙ lines-back (put (q .tree) []) (neat (q .tree) [] (query-valid s q e) tt)))
 
--- a text that was checked, with room for its variables
-module _ (s : Bytes) (a l h : List ℕ) (before after : List (List ℕ)) (r : Noting) (n k : ℕ) (good : r ≡ Good n k) (room : HasRoom s before) where
-  module _ (said : Charted treeNames treeStart s a l h before after (readTree s) r) where
-    abbrev of-tree : Good-chart treeNames treeStart s a l h before after r (readTree s) n k
-    of-tree = chart-good treeNames treeStart s a l h before after r (readTree s) n k said good
+-- the lines that were noted, and no more of the array
+nodes-taken : (words b : List (List ℕ)) (m j : ℕ) → j ≤ m → nodesOf words (take m b) j ≡ nodesOf words b j
+unfolding nodesOf
+nodes-taken words b m zero h = refl
+nodes-taken words b m (suc j) h = ap₂ (λ (ns : List Node) (e : List ℕ). ns ++ (nodeAt words e ∷ [])) (nodes-taken words b m j (omega arith)) (getD-take m b j [] (omega arith))
 
-    tree-noted : (n ≤ 1024) × ((i : ℕ) → i ≡ 0 → Noted s i (treeNames (of-tree .value)) after k)
-    tree-noted =
-        let t = tree-exactly s (of-tree .value) .0 (of-tree .read) in
-        of-tree .noted (room (subst (λ (b : Bytes). length b ≤ 16384) (t .0) (t .2 .bytes)))
+shaped-taken : (words b a : List (List ℕ)) (m k : ℕ) → k ≤ length a → Shaped words b m k → Shaped words (take m b) (length (take m b)) (length (take k a))
+shaped-taken words b a m k h x =
+    let e : length (take m b) ≡ m = taken-long b m (x .few) in
+    let d : length (take k a) ≡ k = taken-long a k h in
+    record {
+      few = le-refl (length (take m b));
+      whole = ap (skip 64 patterns) (ap (nodesOf words (take m b)) e ∙ nodes-taken words b m m (le-refl m)) ∙ x .whole;
+      none = λ z. d ∙ x .none (sym e ∙ z);
+    }
+
+-- so many entries are room
+pub has-room : (s : Bytes) (n : ℕ) (x : List ℕ) → (length s ≤ 16384 → length s ≤ 3 * n) → HasRoom s (replicate n x)
+has-room s n x h = rw (length-replicate n x) h
+
+pub has-nodes : (s : Bytes) (n : ℕ) (x : List ℕ) → (length s ≤ 16384 → (m : ℕ) → 3 * m ≤ length s → m ≤ 2048 → m ≤ n) → HasNodes s (replicate n x)
+has-nodes s n x h = rw (length-replicate n x) h
+
+-- an array that keeps its length keeps its room
+pub nodes-kept : (s : Bytes) (b c : List (List ℕ)) → length c ≡ length b → HasNodes s b → HasNodes s c
+nodes-kept s b c e h short m g l = let r = h short m g l in omega (arith, e, r)
+
+-- a text that was checked, with room for its variables
+module _ (s : Bytes) (a l h : List ℕ) (before after words b : List (List ℕ)) (r : Noting) (n k m : ℕ) (good : r ≡ Good n k m) (room : HasRoom s before) where
+  module _ (said : Charted treeNames treeStart s a l h before after words b (readTree s) r) where
+    abbrev of-tree : Good-chart treeNames treeStart s a l h before after words b r (readTree s) n k m
+    of-tree = chart-good treeNames treeStart s a l h before after words b r (readTree s) n k m said good
+
+    tree-short : length s ≤ 16384
+    tree-short = let t = tree-exactly s (of-tree .value) .0 (of-tree .read) in subst (λ (x : Bytes). length x ≤ 16384) (t .0) (t .2 .bytes)
+
+    tree-noted : (n ≤ 1024) × ((i : ℕ) → i ≡ 0 → (w : Noted s i (treeNames (of-tree .value)) after k) × (Roomy s b → Noded words b m (w .nodes)))
+    tree-noted = of-tree .noted (room tree-short)
 
     pub tree-count : k ≤ length after
-    tree-count = tree-noted .1 0 refl .kept .many
+    tree-count = tree-noted .1 0 refl .0 .kept .many
+
+    names-are : listing s a l n ≡ treeNames (of-tree .value)
+    names-are = of-tree .table .fits (tree-noted .0)
 
     pub good-tree : KnownTree s a l n (take k after)
     unfolding byPlace
-    good-tree =
-        let e : listing s a l n ≡ treeNames (of-tree .value) = of-tree .table .fits (tree-noted .0) in
-        record {
-          pattern = of-tree .value;
-          read = of-tree .read;
-          names = e;
-          noted = noted-taken s 0 (listing s a l n) after k (subst (λ (ns : List Bytes). Noted s 0 ns after k) (sym e) (tree-noted .1 0 refl));
-        }
+    good-tree = record {
+      pattern = of-tree .value;
+      read = of-tree .read;
+      names = names-are;
+      noted = noted-taken s 0 (listing s a l n) after k (subst (λ (ns : List Bytes). Noted s 0 ns after k) (sym names-are) (tree-noted .1 0 refl .0));
+    }
 
-  module _ (said : Charted queryNames queryStart s a l h before after (readQuery s) r) where
-    abbrev of-query : Good-chart queryNames queryStart s a l h before after r (readQuery s) n k
-    of-query = chart-good queryNames queryStart s a l h before after r (readQuery s) n k said good
+    -- where there was room for its lines too
+    module _ (space : HasNodes s b) where
+      shaped : Shaped words b m k
+      unfolding good-tree
+      shaped =
+          let w = tree-noted .1 0 refl in
+          let t = tree-stands s a l n (take k after) good-tree .tree-in in
+          shaped-tree s 0 (treeNames (of-tree .value)) after k (w .0) (of-tree .value) (t .lines) (t .valid) (t .deep) words b m (w .1 (space tree-short))
 
-    query-noted : (n ≤ 1024) × ((i : ℕ) → queryStart s (of-query .value) i → Noted s i (queryNames (of-query .value)) after k)
-    query-noted =
-        let t = query-exactly s (of-query .value) .0 (of-query .read) in
-        of-query .noted (room (subst (λ (b : Bytes). length b ≤ 16384) (t .0) (t .2 .bytes)))
+      pub tree-nodes : m ≤ length b
+      tree-nodes = shaped .few
+
+      pub tree-shaped : Shaped words (take m b) (length (take m b)) (length (take k after))
+      tree-shaped = shaped-taken words b after m k tree-count shaped
+
+  module _ (said : Charted queryNames queryStart s a l h before after words b (readQuery s) r) where
+    abbrev of-query : Good-chart queryNames queryStart s a l h before after words b r (readQuery s) n k m
+    of-query = chart-good queryNames queryStart s a l h before after words b r (readQuery s) n k m said good
+
+    query-short : length s ≤ 16384
+    query-short = let t = query-exactly s (of-query .value) .0 (of-query .read) in subst (λ (x : Bytes). length x ≤ 16384) (t .0) (t .2 .bytes)
+
+    query-noted : (n ≤ 1024) × ((i : ℕ) → queryStart s (of-query .value) i → (w : Noted s i (queryNames (of-query .value)) after k) × (Roomy s b → Noded words b m (w .nodes)))
+    query-noted = of-query .noted (room query-short)
+
+    abbrev somewhere : (i : ℕ) × queryStart s (of-query .value) i
+    somewhere = tree-somewhere s (of-query .value) (of-query .read)
 
     pub query-count : k ≤ length after
-    query-count = let t = tree-somewhere s (of-query .value) (of-query .read) in query-noted .1 (t .0) (t .1) .kept .many
+    query-count = query-noted .1 (somewhere .0) (somewhere .1) .0 .kept .many
 
     pub good-query : KnownText s a l n (take k after)
     good-query =
@@ -154,8 +208,20 @@ module _ (s : Bytes) (a l h : List ℕ) (before after : List (List ℕ)) (r : No
           query = of-query .value;
           read = of-query .read;
           names = e ∙ by-place-query (of-query .value);
-          noted = λ from high t. noted-taken s from (listing s a l n) after k (subst (λ (ns : List Bytes). Noted s from ns after k) (sym e) (query-noted .1 from (high, t .lines)));
+          noted = λ from high t. noted-taken s from (listing s a l n) after k (subst (λ (ns : List Bytes). Noted s from ns after k) (sym e) (query-noted .1 from (high, t .lines) .0));
         }
+
+    module _ (space : HasNodes s b) where
+      shaped-query : Shaped words b m k
+      shaped-query =
+          let w = query-noted .1 (somewhere .0) (somewhere .1) in
+          shaped-tree s (somewhere .0) (queryNames (of-query .value)) after k (w .0) (of-query .value .tree) (somewhere .1 .1) (query-valid s (of-query .value) (of-query .read)) (query-depth s (of-query .value) (of-query .read)) words b m (w .1 (space query-short))
+
+      pub query-nodes : m ≤ length b
+      query-nodes = shaped-query .few
+
+      pub query-shaped : Shaped words (take m b) (length (take m b)) (length (take k after))
+      query-shaped = shaped-taken words b after m k query-count shaped-query
 
 -- ---- lists
 

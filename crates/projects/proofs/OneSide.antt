@@ -10,6 +10,7 @@ use Rattle.text.specs.Text.{Bytes}
 use Rattle.algebra.specs.Query.{Pair}
 use Rattle.scoping.specs.Premises.{inside}
 use Rattle.merging.specs.Request.{Projection, tree}
+use Rattle.walking.specs.bridge.Renamed.{Renamed}
 use Rattle.sides.specs.bridge.Columns.{columnsIn, picked}
 use Rattle.sides.specs.bridge.Listed.{Listed, positionsIn}
 use Rattle.sides.specs.bridge.Side.{TreeIn, Placed, Asked, SideIs, PreparedIs}
@@ -59,11 +60,11 @@ module _ (text : Bytes) (from : ℕ) (starts sizes : List ℕ) (n : ℕ) (spots 
       side-width text starts sizes n prefix second constants x js ks pool targets spans line at lines s (ready .2),
     )
 
-    -- what put_side does
-    pub side-needs : length at ≡ 64
-        → ((from : ℕ) × (x : Projection) × Placed text from starts sizes n spots (s .inner) (s .columns) x) × (s .constants ≤ 64) × (length at ≡ 64) × (s .end ≤ length line) × (ones (s .constant) ≡ length (picked 1 (s .constant) (columnsIn line (s .end))))
-    side-needs long = (
-      (from, x, placed),
+    -- what put_side does, once the side's tree is renamed
+    pub side-needs : length at ≡ 64 → (marked : List (List ℕ)) → Renamed spans spots 0 marked (length spots)
+        → ((from : ℕ) × (x : Projection) × (v : List (List ℕ)) × Placed text from starts sizes n v (s .inner) (s .columns) x × Renamed spans v 0 marked (length v)) × (s .constants ≤ 64) × (length at ≡ 64) × (s .end ≤ length line) × (ones (s .constant) ≡ length (picked 1 (s .constant) (columnsIn line (s .end))))
+    side-needs long marked renamed = (
+      (from, x, spots, placed, renamed),
       (let m = ready .2 .kept .many in let f = terms .listed .few in omega arith),
       long,
       ready .2 .end,

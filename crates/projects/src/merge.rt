@@ -1,6 +1,7 @@
 // merge_project_patterns for two projects.
 use answers::Answer;
 use emit::put_all;
+use lines::fields::Node;
 use lines::fields::Spot;
 use names::Entry;
 use sides::columns::joined_mask;
@@ -11,6 +12,7 @@ use sides::side::Side;
 use sides::side::prepare;
 use sides::writing::put_side;
 use text::piece;
+use words::table::WordRow;
 ghost use mathlib.Core.Path.{_≡_};
 ghost use Prim.Native.Nat.{_-_, _≤_};
 ghost use mathlib.Core.List.{List, [], _∷_, _++_};
@@ -25,6 +27,8 @@ ghost use Rattle.merging.specs.Request.{Projection, tree};
 ghost use Rattle.sides.specs.bridge.Columns.{columnsIn, picked};
 ghost use Rattle.projects.specs.bridge.Joining.{Stands, Lists, joinedBehind, ListsRead};
 ghost use Rattle.names.specs.bridge.Names.{startsOf, sizesOf};
+ghost use Rattle.words.specs.bridge.Words.{Worded};
+ghost use Rattle.walking.specs.bridge.Renamed.{Shaped};
 
 const PROJECT: [u8; 7] = *b"project";
 
@@ -62,22 +66,25 @@ fn put_head(
 // merge_project_patterns for two projects, behind the left text's head: names, masks, then measured on a buffer without room
 // and written.
 pub fn merge_projects(
+    words: &[WordRow; 56],
     left: &[u8],
     left_from: usize,
     left_table: &[Entry; 1024],
     left_n: usize,
-    left_spots: &[Spot],
+    left_nodes: &[Node],
+    left_spots: &mut [Spot],
     right: &[u8],
     right_from: usize,
     right_table: &[Entry; 1024],
     right_n: usize,
-    right_spots: &[Spot],
+    right_nodes: &[Node],
+    right_spots: &mut [Spot],
     pairs: &[u8],
     left_constants: &[u8],
     right_constants: &[u8],
     out: &mut [u8],
 ) -> Answer
-    requires { ⌜ ((x : Projection) × Stands (now left) «left_from» (startsOf (now «left_table»)) (sizesOf (now «left_table»)) «left_n» (now «left_spots») (tree x)) × ((y : Projection) × Stands (now right) «right_from» (startsOf (now «right_table»)) (sizesOf (now «right_table»)) «right_n» (now «right_spots») (tree y)) × ListsRead (now pairs) (now «left_constants») (now «right_constants») ⌝ }
+    requires { ⌜ ((x : Projection) × Stands (now left) «left_from» (startsOf (now «left_table»)) (sizesOf (now «left_table»)) «left_n» (now «left_spots») (tree x)) × ((y : Projection) × Stands (now right) «right_from» (startsOf (now «right_table»)) (sizesOf (now «right_table»)) «right_n» (now «right_spots») (tree y)) × ListsRead (now pairs) (now «left_constants») (now «right_constants») × Worded (now words) × Shaped (now words) (now «left_nodes») (length (now «left_nodes»)) (length (now «left_spots»)) × Shaped (now words) (now «right_nodes») (length (now «right_nodes»)) (length (now «right_spots»)) ⌝ }
     ensures { λ r. ⌜ ((x y : Projection) (js ks ls : List Pair) → Stands (now (left .entry)) «left_from» (startsOf (now («left_table» .entry))) (sizesOf (now («left_table» .entry))) «left_n» (now («left_spots» .entry)) (tree x) → Stands (now (right .entry)) «right_from» (startsOf (now («right_table» .entry))) (sizesOf (now («right_table» .entry))) «right_n» (now («right_spots» .entry)) (tree y) → Lists (now (pairs .entry)) (now («left_constants» .entry)) (now («right_constants» .entry)) js ks ls → Answered (joinedBehind (take «left_from» (now (left .entry))) x y js ks ls) (now (out .entry)) (now (out .exit)) r) ⌝ }
 {
     let mut left_pool = [0u8; 16384];
@@ -90,6 +97,8 @@ pub fn merge_projects(
         left_from,
         left_table,
         left_n,
+        words,
+        left_nodes,
         left_spots,
         b'l',
         pairs,
@@ -113,6 +122,8 @@ pub fn merge_projects(
         right_from,
         right_table,
         right_n,
+        words,
+        right_nodes,
         right_spots,
         b'r',
         pairs,

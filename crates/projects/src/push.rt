@@ -2,6 +2,7 @@
 use answers::Answer;
 use emit::put;
 use emit::put_all;
+use lines::fields::Node;
 use lines::fields::Spot;
 use names::Entry;
 use sides::columns::put_columns;
@@ -11,6 +12,7 @@ use sides::side::Side;
 use sides::side::prepare;
 use sides::writing::put_side;
 use text::piece;
+use words::table::WordRow;
 ghost use mathlib.Core.Path.{_≡_};
 ghost use Prim.Native.Nat.{_-_, _≤_};
 ghost use mathlib.Core.List.{List, _∷_, _++_};
@@ -25,6 +27,8 @@ ghost use Rattle.merging.specs.Request.{Projection, tree};
 ghost use Rattle.sides.specs.bridge.Columns.{columnsIn, picked};
 ghost use Rattle.projects.specs.bridge.Joining.{Stands, Terms, KnownTerms, pushedBehind};
 ghost use Rattle.names.specs.bridge.Names.{startsOf, sizesOf};
+ghost use Rattle.words.specs.bridge.Words.{Worded};
+ghost use Rattle.walking.specs.bridge.Renamed.{Shaped};
 
 const PROJECT: [u8; 7] = *b"project";
 
@@ -49,15 +53,17 @@ fn put_head(query: &[u8], from: usize, line: &[u8], side: Side, out: &mut [u8]) 
 
 // push_constants_in_project_pattern, behind the query's head: names, then measured on a buffer without room and written.
 pub fn push_in_project(
+    words: &[WordRow; 56],
     query: &[u8],
     from: usize,
     table: &[Entry; 1024],
     n: usize,
-    spots: &[Spot],
+    nodes: &[Node],
+    spots: &mut [Spot],
     constants: &[u8],
     out: &mut [u8],
 ) -> Answer
-    requires { ⌜ ((x : Projection) × Stands (now query) from (startsOf (now table)) (sizesOf (now table)) n (now spots) (tree x)) × KnownTerms (now constants) ⌝ }
+    requires { ⌜ ((x : Projection) × Stands (now query) from (startsOf (now table)) (sizesOf (now table)) n (now spots) (tree x)) × KnownTerms (now constants) × Worded (now words) × Shaped (now words) (now nodes) (length (now nodes)) (length (now spots)) ⌝ }
     ensures { λ r. ⌜ ((x : Projection) (ks : List Pair) → Stands (now (query .entry)) from (startsOf (now (table .entry))) (sizesOf (now (table .entry))) n (now (spots .entry)) (tree x) → Terms (now (constants .entry)) ks → Answered (pushedBehind (take from (now (query .entry))) x ks) (now (out .entry)) (now (out .exit)) r) ⌝ }
 {
     let mut pool = [0u8; 16384];
@@ -70,6 +76,8 @@ pub fn push_in_project(
         from,
         table,
         n,
+        words,
+        nodes,
         spots,
         b'v',
         &constants[..0],

@@ -20,26 +20,12 @@ fn end_from(text: &[u8], next: usize) -> usize
     find(text, next, text.len(), 10)
 }
 
-// The end of the reader's next line, or of its text.
-fn reader_end<'a>(reader: LineReader<'a>) -> usize
-    ensures { λ r. ⌜ EndsAt (now (reader .entry .text)) (reader .entry .next) r ⌝ }
-{
-    end_from(reader.text, reader.next)
-}
-
-// The same for a text and a place, of which a reader is made and lent.
-fn end_of_line(text: &[u8], next: usize) -> usize
-    ensures { λ r. ⌜ EndsAt (now (text .entry)) next r ⌝ }
-{
-    reader_end(LineReader { text, next })
-}
-
 // The end of the line that starts at a place of the text, for those who know that the place is one.
 pub fn next_end(text: &[u8], next: usize) -> usize
     requires { ⌜ next ≤ length (now text) ⌝ }
     ensures { λ r. ⌜ First 10 (now (text .entry)) next (length (now (text .entry))) r ⌝ }
 {
-    end_of_line(text, next)
+    end_from(text, next)
 }
 
 // The end of the line that starts here; the end of the text if no line does, or none that is ended.

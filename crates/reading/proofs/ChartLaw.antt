@@ -27,7 +27,7 @@ use Rattle.algebra.proofs.Neat.{neat, query-neat}
 use Rattle.algebra.proofs.Theorem.{query-exactly}
 use Rattle.scoping.specs.bridge.Places.{Mark, visible}
 use Rattle.scoping.specs.bridge.Walk.{State, state, opened, hides, times, child, beneath, whole, tree}
-use Rattle.scoping.specs.bridge.Spots.{Spot, spotsIn, fieldsSize, Trace, trace, spotLine}
+use Rattle.scoping.specs.bridge.Spots.{Spot, spotsIn, fieldsSize, Trace, trace, lineSpots, lineNodes, spotLine}
 use Rattle.names.specs.bridge.Names.{listing, Holds}
 use Rattle.names.specs.bridge.Checked.{Checked}
 use Rattle.lines.specs.bridge.Run.{Tells}
@@ -39,32 +39,37 @@ use Rattle.reading.specs.bridge.Charted.{treeStart, queryStart, Charted}
 
 -- ---- a whole text
 
-module _ {A : Type 0} (f : A → Tally → Tally) (from : Bytes → A → ℕ → Type 0) (s a l h : List ℕ) (before after : List (List ℕ)) (sort level : ℕ) where
+module _ {A : Type 0} (f : A → Tally → Tally) (from : Bytes → A → ℕ → Type 0) (s a l h : List ℕ) (before after words b : List (List ℕ)) (sort level : ℕ) where
   -- the walk from the first line on is the walk over the tree
   abbrev pub Inside : Outcome A → Type 0
-  Inside o = (x : A) → o ≡ reads x → (i : ℕ) → from s x i → entryOf level sort visible (state (linesFrom s 0) (trace 0 [])) ≡ tree spotLine 64 patterns visible (state (linesFrom s i) (trace i []))
+  Inside o = (x : A) → o ≡ reads x → (i : ℕ) → from s x i → entryOf level sort visible (state (linesFrom s 0) (trace 0 [] [])) ≡ tree spotLine 64 patterns visible (state (linesFrom s i) (trace i [] []))
 
-  pub charted : (r : Noting) (k : Check) (o : Outcome A) → k ≡ checked f o → Tells s a l h k (answerOf r) → Charts s a l before after sort level r → Inside o → Charted (λ x. f x start .names) from s a l h before after o r
+  pub charted : (r : Noting) (k : Check) (o : Outcome A) → k ≡ checked f o → Tells s a l h k (answerOf r) → Charts s words a l before after b sort level r → Inside o → Charted (λ x. f x start .names) from s a l h before after words b o r
   unfolding Tells Charts Charted
-  charted (Good n k) c (reads x) e t ch into =
+  charted (Good n k m) c (reads x) e t ch into =
       let w : Tells s a l h (checked f (reads x)) (G.Good n) = subst (λ c. Tells s a l h c (G.Good n)) e t in
       let i : w .0 ≡ n = (let q = w .1 in cc) in
       let hs : Holds s a l h n (f x start .names) = subst (λ (m : ℕ). Holds s a l h m (f x start .names)) i (w .2) in (
         n,
         k,
+        m,
         refl,
         hs,
         λ room. let g = ch room in (
           g .0,
-          λ i st. record {
-            spots = g .1;
-            walked = sym (into x refl i st) ∙ g .2;
-            kept = subst (λ (ns : List Bytes). Spotted ns after k (g .1)) (hs .fits (g .0)) (g .3);
-          },
+          λ i st. (
+            record {
+              spots = g .1;
+              nodes = g .2;
+              walked = sym (into x refl i st) ∙ g .3;
+              kept = subst (λ (ns : List Bytes). Spotted ns after k (g .1)) (hs .fits (g .0)) (g .4);
+            },
+            g .5,
+          ),
         ),
       )
-  charted (Good n k) c (refuses malformed) e t ch into = let q : G.Good n ≡ G.Malformed = subst (λ c. Tells s a l h c (G.Good n)) e t in let z : _≡_ {A = ℕ} 0 1 = cc in absurd (omega arith)
-  charted (Good n k) c (refuses overBound) e t ch into = let q : G.Good n ≡ G.OverBound = subst (λ c. Tells s a l h c (G.Good n)) e t in let z : _≡_ {A = ℕ} 0 1 = cc in absurd (omega arith)
+  charted (Good n k m) c (refuses malformed) e t ch into = let q : G.Good n ≡ G.Malformed = subst (λ c. Tells s a l h c (G.Good n)) e t in let z : _≡_ {A = ℕ} 0 1 = cc in absurd (omega arith)
+  charted (Good n k m) c (refuses overBound) e t ch into = let q : G.Good n ≡ G.OverBound = subst (λ c. Tells s a l h c (G.Good n)) e t in let z : _≡_ {A = ℕ} 0 1 = cc in absurd (omega arith)
   charted Malformed c (reads x) e t ch into = let w : Tells s a l h (checked f (reads x)) G.Malformed = subst (λ c. Tells s a l h c G.Malformed) e t in let q = w .1 in let z : _≡_ {A = ℕ} 0 1 = cc in absurd (omega arith)
   charted Malformed c (refuses malformed) e t ch into = refl
   charted Malformed c (refuses overBound) e t ch into = let q : G.Malformed ≡ G.OverBound = subst (λ c. Tells s a l h c G.Malformed) e t in let z : _≡_ {A = ℕ} 0 1 = cc in absurd (omega arith)
@@ -73,15 +78,15 @@ module _ {A : Type 0} (f : A → Tally → Tally) (from : Bytes → A → ℕ �
   charted OverBound c (refuses overBound) e t ch into = refl
 
 -- for callers: what it says without the spots
-pub charted-checked : {A : Type 0} (names : A → List Bytes) (from : Bytes → A → ℕ → Type 0) (s a l h : List ℕ) (before after : List (List ℕ)) (o : Outcome A) (r : Noting) → Charted names from s a l h before after o r → Checked names s a l h o (answerOf r)
+pub charted-checked : {A : Type 0} (names : A → List Bytes) (from : Bytes → A → ℕ → Type 0) (s a l h : List ℕ) (before after words b : List (List ℕ)) (o : Outcome A) (r : Noting) → Charted names from s a l h before after words b o r → Checked names s a l h o (answerOf r)
 unfolding Charted Checked
-charted-checked names from s a l h before after (reads x) r c = (c .0, ap answerOf (c .2), c .3)
-charted-checked names from s a l h before after (refuses malformed) r c = ap answerOf c
-charted-checked names from s a l h before after (refuses overBound) r c = ap answerOf c
+charted-checked names from s a l h before after words b (reads x) r c = (c .0, ap answerOf (c .3), c .4)
+charted-checked names from s a l h before after words b (refuses malformed) r c = ap answerOf c
+charted-checked names from s a l h before after words b (refuses overBound) r c = ap answerOf c
 
 -- ---- a tree
 
-pub tree-inside : (s : Bytes) (o : Outcome Pattern) (x : Pattern) → o ≡ reads x → (i : ℕ) → treeStart s x i → entryOf 64 2 visible (state (linesFrom s 0) (trace 0 [])) ≡ tree spotLine 64 patterns visible (state (linesFrom s i) (trace i []))
+pub tree-inside : (s : Bytes) (o : Outcome Pattern) (x : Pattern) → o ≡ reads x → (i : ℕ) → treeStart s x i → entryOf 64 2 visible (state (linesFrom s 0) (trace 0 [] [])) ≡ tree spotLine 64 patterns visible (state (linesFrom s i) (trace i [] []))
 unfolding tree
 tree-inside s o x e i z = rw z
 
@@ -89,8 +94,8 @@ tree-inside s o x e i z = rw z
 
 -- its head line has no spots, and its tree comes below it
 head-walked : (trees : Sort → Mark → State Trace → State Trace) (q : Query) (ls : List Line)
-    → whole spotLine trees heads visible ((bytes "query" ∷ q .kind ∷ q .dataset ∷ q .base ∷ []) ∷ ls) (trace 0 []) ≡ trees patterns visible (state ls (trace (0 + length (bytes "query") + fieldsSize (q .kind ∷ q .dataset ∷ q .base ∷ []) + 1) []))
-unfolding whole beneath times child hides rowIn same spotLine spotsIn opened
+    → whole spotLine trees heads visible ((bytes "query" ∷ q .kind ∷ q .dataset ∷ q .base ∷ []) ∷ ls) (trace 0 [] []) ≡ trees patterns visible (state ls (trace (0 + length (bytes "query") + fieldsSize (q .kind ∷ q .dataset ∷ q .base ∷ []) + 1) [] []))
+unfolding whole beneath times child hides rowIn same spotLine lineSpots lineNodes spotsIn opened
 head-walked trees q ls = refl
 
 -- from a place on stands the text of the lines from there on, if each of them is ended
@@ -129,8 +134,8 @@ module _ (s : Bytes) (q : Query) (e : readQuery s ≡ reads q) where
       let h = st .0 in
       omega (arith, d, n, h)
 
-pub query-inside : (s : Bytes) (x : Query) → readQuery s ≡ reads x → (i : ℕ) → queryStart s x i → entryOf 64 7 visible (state (linesFrom s 0) (trace 0 [])) ≡ tree spotLine 64 patterns visible (state (linesFrom s i) (trace i []))
+pub query-inside : (s : Bytes) (x : Query) → readQuery s ≡ reads x → (i : ℕ) → queryStart s x i → entryOf 64 7 visible (state (linesFrom s 0) (trace 0 [] [])) ≡ tree spotLine 64 patterns visible (state (linesFrom s i) (trace i [] []))
 query-inside s x e i st =
-    ap (λ (ls : List Line). whole spotLine (tree spotLine 64) heads visible ls (trace 0 [])) (lines-are s x e)
+    ap (λ (ls : List Line). whole spotLine (tree spotLine 64) heads visible ls (trace 0 [] [])) (lines-are s x e)
     ∙ head-walked (tree spotLine 64) x (put (x .tree) [])
-    ∙ (λ j. tree spotLine 64 patterns visible (state (sym (st .1) j) (trace (place-is s x e i st j) [])))
+    ∙ (λ j. tree spotLine 64 patterns visible (state (sym (st .1) j) (trace (place-is s x e i st j) [] [])))

@@ -1,6 +1,6 @@
 -- What a check's answer says of the text. Assumes nothing.
 use Prim.Native.Nat.{ℕ, _*_, _≤_}
-use mathlib.Core.Path.{_≡_, refl, sym, subst}
+use mathlib.Core.Path.{_≡_, refl, sym, subst, subst₂}
 use mathlib.Core.List.{List}
 use native.Mathlib.Omega.{arith}
 use lib.ListN.{length}
@@ -10,6 +10,7 @@ use Rattle.algebra.specs.declared.Answer.{Answer}
 use Rattle.algebra.specs.declared.Answer.the-variants.{Good, Malformed, OverBound}
 use Rattle.names.specs.bridge.Names.{Holds}
 use Rattle.names.specs.bridge.Checked.{Checked}
+use Rattle.lines.specs.bridge.Noded.{Noded, Roomy}
 use Rattle.lines.specs.bridge.Spotted.{Noted}
 use Rattle.lines.specs.declared.check.Noting.{Noting}
 use Rattle.lines.specs.declared.check.Noting.the-variants as N
@@ -40,14 +41,15 @@ module _ {A : Type 0} (f : A → List Bytes) (s : Bytes) (a l h : List ℕ) (r :
   said-over (refuses malformed) c q = let z : _≡_ {A = ℕ} 0 1 = cc in absurd (omega arith)
   said-over (refuses overBound) c q = refl
 
--- the variables of a good text, where there was room for all
-pub said-noted : {A : Type 0} (f : A → List Bytes) (start : Bytes → A → ℕ → Type 0) (s : Bytes) (a l h : List ℕ) (before after : List (List ℕ)) (o : Reading A) (r : Noting) (n k : ℕ) (x : A)
-    → Charted f start s a l h before after o r → o ≡ reads x → r ≡ N.Good n k → length s ≤ 3 * length before → (i : ℕ) → start s x i → Noted s i (f x) after k
+-- the variables and lines of a good text, where there was room for all
+pub said-noted : {A : Type 0} (f : A → List Bytes) (start : Bytes → A → ℕ → Type 0) (s : Bytes) (a l h : List ℕ) (before after words b : List (List ℕ)) (o : Reading A) (r : Noting) (n k m : ℕ) (x : A)
+    → Charted f start s a l h before after words b o r → o ≡ reads x → r ≡ N.Good n k m → length s ≤ 3 * length before → (i : ℕ) → start s x i → (w : Noted s i (f x) after k) × (Roomy s b → Noded words b m (w .nodes))
 unfolding Charted
-said-noted {A} f start s a l h before after (reads y) r n k x c e q room i at =
+said-noted {A} f start s a l h before after words b (reads y) r n k m x c e q room i at =
     let z : y ≡ x = cc in
-    let j : c .1 ≡ k = (let w = c .2 in cc) in
-    let g = c .4 room .1 i (subst (λ (v : A). start s v i) (sym z) at) in
-    subst (λ (m : ℕ). Noted s i (f x) after m) j (subst (λ (v : A). Noted s i (f v) after (c .1)) z g)
-said-noted f start s a l h before after (refuses malformed) r n k x c e q room i at = let z : _≡_ {A = ℕ} 0 1 = cc in absurd (omega arith)
-said-noted f start s a l h before after (refuses overBound) r n k x c e q room i at = let z : _≡_ {A = ℕ} 0 1 = cc in absurd (omega arith)
+    let j : c .1 ≡ k = (let w = c .3 in cc) in
+    let d : c .2 ≡ m = (let w = c .3 in cc) in
+    let g = c .5 room .1 i (subst (λ (v : A). start s v i) (sym z) at) in
+    subst₂ (λ (u v : ℕ). (w : Noted s i (f x) after u) × (Roomy s b → Noded words b v (w .nodes))) j d (subst (λ (v : A). (w : Noted s i (f v) after (c .1)) × (Roomy s b → Noded words b (c .2) (w .nodes))) z g)
+said-noted f start s a l h before after words b (refuses malformed) r n k m x c e q room i at = let z : _≡_ {A = ℕ} 0 1 = cc in absurd (omega arith)
+said-noted f start s a l h before after words b (refuses overBound) r n k m x c e q room i at = let z : _≡_ {A = ℕ} 0 1 = cc in absurd (omega arith)

@@ -30,11 +30,12 @@ use Rattle.scoping.specs.bridge.Becomes.{replacement}
 use Rattle.walking.specs.bridge.Code.{renames}
 use Rattle.walking.specs.bridge.Rewritten.{rewritten}
 use Rattle.walking.proofs.Noted.{rewritten-tree}
+use Rattle.walking.proofs.Remarked.{renamed-rewritten}
 use Rattle.answers.specs.declared.Answer.the-variants.{Written, Malformed, OverBound, TooShort}
 use Rattle.answers.specs.Outcome.{written, Reported, Answered}
 use Rattle.renaming.specs.Rename.{becomes, renameOutcome}
 use Rattle.heads.specs.bridge.Known.{Known}
-use Rattle.renaming.specs.bridge.Code.{Surveyed, Targets, renamedSize}
+use Rattle.renaming.specs.bridge.Code.{Surveyed, Renaming, Targets, renamedSize}
 use Rattle.renaming.proofs.Long.{renamed-long}
 use Rattle.renaming.proofs.Tables.{known-valid, known-depth, known-names, known-lines}
 use Rattle.scoping.proofs.Alike.{rename-alike}
@@ -42,7 +43,10 @@ use Rattle.answers.proofs.Answers.{too-short, all-written, answered}
 
 -- ---- the names
 
-module _ (s : Bytes) (a l : List ℕ) (n : ℕ) (spots : List (List ℕ)) (k : ℕ) (x : Surveyed s a l n spots k) (pairs : Bytes) (targets spans : List ℕ) (t : Targets (listing s a l n) n pairs targets spans) where
+module _ (s : Bytes) (a l : List ℕ) (n : ℕ) (spots : List (List ℕ)) (k : ℕ) (pairs : Bytes) (targets spans : List ℕ) (y : Renaming s a l n spots k spans) (t : Targets (listing s a l n) n pairs targets spans) where
+  abbrev x : Surveyed s a l n (y .before) k
+  x = y .surveyed
+
   abbrev new : Bytes → Bytes
   new = renames s a l n pairs targets spans
 
@@ -71,9 +75,10 @@ module _ (s : Bytes) (a l : List ℕ) (n : ℕ) (spots : List (List ℕ)) (k : �
   unfolding layout textOf
   renamed-puts at out out′ e =
       e
+      ∙ renamed-rewritten (y .renamed) k (le-refl k) (listing s a l n) s 0 0 (length s) new (em 0 out)
       ∙ ap (λ (zs : List Spot). rewritten new s zs 0 (length s) (em 0 out)) (x .noted .kept .are)
       ∙ sym (puts-nil _)
-      ∙ rewritten-tree s 0 (listing s a l n) spots k (x .noted) pattern (known-lines s a l (x .hints) n (x .known)) (known-valid s a l (x .hints) n (x .known)) (known-depth s a l (x .hints) n (x .known)) new keeps [] (em 0 out)
+      ∙ rewritten-tree s 0 (listing s a l n) (y .before) k (x .noted) pattern (known-lines s a l (x .hints) n (x .known)) (known-valid s a l (x .hints) n (x .known)) (known-depth s a l (x .hints) n (x .known)) new keeps [] (em 0 out)
 
   -- where that ends
   ends : (at : ℕ) (out out′ : Bytes) → em at out′ ≡ rewritten new s (drop 0 (spotsOf (listing s a l n) spots k)) 0 (length s) (em 0 out) → at ≡ min (length (layout (renameInGraphPattern new pattern))) last

@@ -2,17 +2,21 @@
 use Prim.Native.Nat.{ℕ, _*_, _≤_, _<_, zero-le}
 use mathlib.Core.Path.{_≡_, refl, sym, ap, subst, _∙_}
 use mathlib.Core.List.{List, []}
+use native.Mathlib.Nat.{le-refl}
 use native.Mathlib.Omega.{arith}
 use native.Mathlib.Decide.{decLt}
 use lib.ListN.{length, drop}
 use Rattle.text.specs.Text.{Bytes, linesOf, linesFrom}
 use Rattle.text.proofs.Texts.{lines-back}
 use Rattle.text.proofs.Places.{lines-start}
+use Rattle.algebra.specs.Tree.{Pattern}
 use Rattle.algebra.specs.Valid.{Valid}
 use Rattle.algebra.specs.Depth.{depth}
 use Rattle.algebra.specs.Layout.{put, layout}
 use Rattle.algebra.specs.Bounded.{IsTree}
 use Rattle.algebra.specs.Tally.{bounds}
+use Rattle.algebra.specs.bridge.Table.{patterns}
+use Rattle.words.specs.bridge.Words.{Worded}
 use Rattle.algebra.specs.Reader.{refuses, malformed, overBound}
 use Rattle.algebra.specs.Texts.{readTree}
 use Rattle.algebra.specs.declared.Answer.{Answer}
@@ -28,14 +32,17 @@ use Rattle.names.specs.bridge.Checked.{Checked}
 use Rattle.scoping.specs.Sets.{Once}
 use Rattle.scoping.specs.Numbering.{byPlace}
 use Rattle.scoping.proofs.FirstPlaces.{by-place-once}
-use Rattle.walking.specs.bridge.Code.{Named, Inside}
+use Rattle.walking.specs.bridge.Code.{Named, Inside, Marked}
+use Rattle.walking.specs.bridge.Renamed.{Renamed, Shaped}
+use Rattle.walking.proofs.Remarked.{renamed-marked, renamed-inside, renamed-stands}
 use Rattle.heads.specs.bridge.Known.{Known}
+use Rattle.lines.specs.bridge.Noded.{Noded, Roomy}
 use Rattle.lines.specs.bridge.Spotted.{spotsOf, Noted}
 use Rattle.walking.specs.bridge.Rewritten.{Stands}
-use Rattle.walking.proofs.Noted.{spotted-inside, stands-tree}
+use Rattle.walking.proofs.Noted.{spotted-inside, stands-tree, shaped-tree}
 use Rattle.walking.proofs.Spotted.{inside-more}
 use Rattle.names.proofs.Laws.{listing-long}
-use Rattle.renaming.specs.bridge.Code.{Surveyed}
+use Rattle.renaming.specs.bridge.Code.{Recorded, Surveyed, Renaming}
 use Rattle.lines.specs.bridge.Walks.{answerOf}
 use Rattle.lines.specs.declared.check.Noting.{Noting}
 use Rattle.lines.specs.declared.check.Noting.the-variants as Noting
@@ -97,30 +104,72 @@ module _ (s : Bytes) (a l : List ℕ) (n : ℕ) (spots : List (List ℕ)) (k : �
   pub surveyed-inside : Inside 1024 spots k
   surveyed-inside = inside-more n spots k inside surveyed-high
 
-  -- what put_renamed asks for
-  pub surveyed-ready : (n ≤ 1024) × Once (listing s a l n) × Inside n spots k × (0 ≤ k) × Stands s 0 (length s) (drop 0 (spotsOf (listing s a l n) spots k))
-  surveyed-ready = (
-    surveyed-high,
-    known-named s a l (x .hints) n (x .known) .once,
-    inside,
-    zero-le,
-    subst (Stands s 0 (length s)) (sym (x .noted .kept .are))
-        (stands-tree s 0 (listing s a l n) spots k (x .noted) (x .known .pattern) (known-lines s a l (x .hints) n (x .known)) (known-valid s a l (x .hints) n (x .known)) (known-depth s a l (x .hints) n (x .known))),
+  stands : Stands s 0 (length s) (drop 0 (spotsOf (listing s a l n) spots k))
+  stands =
+      subst (Stands s 0 (length s)) (sym (x .noted .kept .are))
+      (stands-tree s 0 (listing s a l n) spots k (x .noted) (x .known .pattern) (known-lines s a l (x .hints) n (x .known)) (known-valid s a l (x .hints) n (x .known)) (known-depth s a l (x .hints) n (x .known)))
+
+-- what put_renamed asks for
+pub renaming-ready : (s : Bytes) (a l : List ℕ) (n : ℕ) (spots : List (List ℕ)) (k : ℕ) (spans : List ℕ) → Renaming s a l n spots k spans
+    → (n ≤ 1024) × Once (listing s a l n) × Inside n spots k × Marked spans spots k × (0 ≤ k) × Stands s 0 (length s) (drop 0 (spotsOf (listing s a l n) spots k))
+renaming-ready s a l n spots k spans y =
+    let x = y .surveyed in
+    let r = y .renamed in (
+      surveyed-high s a l n (y .before) k x,
+      known-named s a l (x .hints) n (x .known) .once,
+      renamed-inside r k (le-refl k) n (inside s a l n (y .before) k x),
+      renamed-marked r k (le-refl k),
+      zero-le,
+      renamed-stands r k (le-refl k) (listing s a l n) s 0 0 (length s) (stands s a l n (y .before) k x),
+    )
+
+-- ---- a tree whose lines were noted too
+
+module _ (s : Bytes) (a l h : List ℕ) (n : ℕ) (spots : List (List ℕ)) (k : ℕ) (words nodes : List (List ℕ)) (m : ℕ) (x : Recorded s a l h n spots k words nodes m) where
+  abbrev p : Pattern
+  p = x .known .pattern
+
+  -- what rename_tree asks for
+  pub recorded-ready : Worded words × (k ≤ length spots) × Shaped words nodes m k
+  recorded-ready = (
+    x .worded,
+    x .noted .kept .many,
+    shaped-tree s 0 (listing s a l n) spots k (x .noted) p (known-lines s a l h n (x .known)) (known-valid s a l h n (x .known)) (known-depth s a l h n (x .known)) words nodes m (x .noded),
   )
+
+  pub recorded-renamed : (spans : List ℕ) (after : List (List ℕ)) → Renamed spans spots 0 after k → Renaming s a l n after k spans
+  recorded-renamed spans after r = record { before = spots; surveyed = surveyed s a l h n spots k (x .known) (x .noted); renamed = r }
 
 pub known-short : (s : Bytes) (a l h : List ℕ) (n : ℕ) → Known s a l h n → length s ≤ 16384
 known-short s a l h n k = let t = is-tree s a l h n k in subst (λ (b : Bytes). length b ≤ 16384) (t .0) (t .2 .bytes)
 
--- a good answer of the check that notes variables, where there was room for all
-module _ (s : Bytes) (a l h : List ℕ) (before after : List (List ℕ)) (r : Noting) (c : Charted treeNames treeStart s a l h before after (readTree s) r) where
-  is-checked : Checked treeNames s a l h (readTree s) (answerOf r)
-  is-checked = charted-checked treeNames treeStart s a l h before after (readTree s) r c
+-- room stays where a length does
+roomy-kept : (s : Bytes) (b d : List (List ℕ)) → length d ≡ length b → Roomy s b → Roomy s d
+roomy-kept s b d e r m i j = subst (λ (k : ℕ). m ≤ k) (sym e) (r m i j)
 
-  pub good-noted : (n k : ℕ) → (length s ≤ 16384 → length s ≤ 3 * length before) → r ≡ Noting.Good n k → Known s a l h n × Noted s 0 (listing s a l n) after k
+-- a good answer of the check that notes variables and lines, where there was room for all
+module _ (s : Bytes) (a l h : List ℕ) (before after words nodes : List (List ℕ)) (r : Noting) (c : Charted treeNames treeStart s a l h before after words nodes (readTree s) r) where
+  is-checked : Checked treeNames s a l h (readTree s) (answerOf r)
+  is-checked = charted-checked treeNames treeStart s a l h before after words nodes (readTree s) r c
+
+  -- its tree, and what was noted of it
+  pub record GoodNotes (n k m : ℕ) : Type 0 where
+    pub known : Known s a l h n
+    pub noted : Noted s 0 (listing s a l n) after k
+    pub noded : Roomy s nodes → Noded words nodes m (noted .nodes)
+
+  pub good-notes : (n k m : ℕ) → (length s ≤ 16384 → length s ≤ 3 * length before) → r ≡ Noting.Good n k m → GoodNotes n k m
   unfolding byPlace
-  good-noted n k room q =
+  good-notes n k m room q =
       let known = good-known s a l h (answerOf r) n is-checked (ap answerOf q) in
-      (known, subst (λ (ns : List Bytes). Noted s 0 ns after k) (sym (known-names s a l h n known)) (said-noted treeNames treeStart s a l h before after (readTree s) r n k (known .pattern) c (known .read) q (room (known-short s a l h n known)) 0 refl))
+      let g = subst (λ (ns : List Bytes). (w : Noted s 0 ns after k) × (Roomy s nodes → Noded words nodes m (w .nodes))) (sym (known-names s a l h n known)) (said-noted treeNames treeStart s a l h before after words nodes (readTree s) r n k m (known .pattern) c (known .read) q (room (known-short s a l h n known)) 0 refl) in
+      record { known = known; noted = g .0; noded = g .1 }
+
+  pub good-surveyed : (n k m : ℕ) → (length s ≤ 16384 → length s ≤ 3 * length before) → r ≡ Noting.Good n k m → Surveyed s a l n after k
+  good-surveyed n k m room q = let g = good-notes n k m room q in surveyed s a l h n after k (g .known) (g .noted)
+
+  pub good-recorded : (n k m : ℕ) (b : List (List ℕ)) → Worded words → (length s ≤ 16384 → length s ≤ 3 * length before) × Roomy s b → r ≡ Noting.Good n k m → length nodes ≡ length b → Recorded s a l h n after k words nodes m
+  good-recorded n k m b w (room, y) q e = let g = good-notes n k m room q in record { known = g .known; noted = g .noted; noded = g .noded (roomy-kept s b nodes e y); worded = w }
 
   pub noted-malformed : r ≡ Noting.Malformed → readTree s ≡ refuses malformed
   noted-malformed q = said-malformed treeNames s a l h (answerOf r) (readTree s) is-checked (ap answerOf q)

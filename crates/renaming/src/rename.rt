@@ -2,6 +2,7 @@
 use algebra::Answer as Check;
 use answers::Answer;
 use lines::check::Noting;
+use lines::fields::Node;
 use lines::fields::Spot;
 use lists::Entry as Pair;
 use lists::check_mapping;
@@ -10,25 +11,27 @@ use names::Entry;
 use names::find_name;
 use reading::note_tree;
 use walking::places::put_renamed;
+use walking::tree::rename_tree;
+use words::table::WordRow;
+use words::table::all_words;
 ghost use mathlib.Core.Path.{_≡_};
 ghost use Prim.Native.Nat.{ℕ, _*_, _≤_, _<_};
 ghost use mathlib.Core.Bool.{true, false};
 ghost use mathlib.Core.List.{[]};
 ghost use lib.ListN.{length, getD};
 ghost use Rattle.names.specs.bridge.Names.{startsOf, sizesOf, namesIn};
-ghost use Rattle.lines.specs.bridge.Spotted.{Noted};
+ghost use Rattle.lines.specs.bridge.Noded.{Roomy};
 ghost use Rattle.lists.specs.bridge.Pairs.{pairAt};
 ghost use Rattle.walking.specs.bridge.Code.{Named};
 ghost use Rattle.answers.specs.Outcome.{Answered};
 ghost use Rattle.renaming.specs.Rename.{renameOutcome};
-ghost use Rattle.heads.specs.bridge.Known.{Known};
-ghost use Rattle.renaming.specs.bridge.Code.{Surveyed, KnownPairs, Targets, Settled, renamedSize};
+ghost use Rattle.renaming.specs.bridge.Code.{Recorded, Renaming, KnownPairs, Targets, Settled, renamedSize};
 
 // A pair of the mapping: the entry of its first name, if that is in the table, gets the second.
 fn set_target(
     tree: &[u8],
     table: &[Entry; 1024],
-    hints: &[u16; 4096],
+    hints: &[u16; 2048],
     n: usize,
     mapping: &[u8],
     key: Pair,
@@ -47,7 +50,7 @@ fn set_target(
 fn find_targets(
     tree: &[u8],
     table: &[Entry; 1024],
-    hints: &[u16; 4096],
+    hints: &[u16; 2048],
     n: usize,
     mapping: &[u8],
     keys: &[Pair; 64],
@@ -75,7 +78,7 @@ fn is_room(
     news: &[Entry; 1024],
     room: usize,
 ) -> bool
-    requires { ⌜ Surveyed (now tree) (startsOf (now table)) (sizesOf (now table)) n (now spots) k × Targets (namesIn (now tree) (now table) n) n (now mapping) (startsOf (now news)) (sizesOf (now news)) ⌝ }
+    requires { ⌜ Renaming (now tree) (startsOf (now table)) (sizesOf (now table)) n (now spots) k (sizesOf (now news)) × Targets (namesIn (now tree) (now table) n) n (now mapping) (startsOf (now news)) (sizesOf (now news)) ⌝ }
     ensures { λ r. ⌜ (r ≡ true → renamedSize (now (tree .entry)) (startsOf (now (table .entry))) (sizesOf (now (table .entry))) n (now (spots .entry)) k (now (mapping .entry)) (startsOf (now (news .entry))) (sizesOf (now (news .entry))) ≤ room) × (r ≡ false → room < renamedSize (now (tree .entry)) (startsOf (now (table .entry))) (sizesOf (now (table .entry))) n (now (spots .entry)) k (now (mapping .entry)) (startsOf (now (news .entry))) (sizesOf (now (news .entry)))) ⌝ }
 {
     if tree.len() <= room / 44 {
@@ -111,7 +114,7 @@ fn rename_over(
     news: &[Entry; 1024],
     out: &mut [u8],
 ) -> Answer
-    requires { ⌜ Surveyed (now tree) (startsOf (now table)) (sizesOf (now table)) n (now spots) k × Targets (namesIn (now tree) (now table) n) n (now mapping) (startsOf (now news)) (sizesOf (now news)) ⌝ }
+    requires { ⌜ Renaming (now tree) (startsOf (now table)) (sizesOf (now table)) n (now spots) k (sizesOf (now news)) × Targets (namesIn (now tree) (now table) n) n (now mapping) (startsOf (now news)) (sizesOf (now news)) ⌝ }
     ensures { λ r. ⌜ Answered (renameOutcome (now (tree .entry)) (now (mapping .entry))) (now (out .entry)) (now (out .exit)) r ⌝ }
 {
     if !is_room(tree, table, n, spots, k, mapping, news, out.len()) {
@@ -126,21 +129,25 @@ fn rename_over(
 fn rename_by(
     tree: &[u8],
     table: &[Entry; 1024],
-    hints: &[u16; 4096],
+    hints: &[u16; 2048],
     n: usize,
-    spots: &[Spot],
+    spots: &mut [Spot],
     k: usize,
+    words: &[WordRow; 56],
+    nodes: &[Node],
+    m: usize,
     mapping: &[u8],
     out: &mut [u8],
 ) -> Answer
-    requires { ⌜ Known (now tree) (startsOf (now table)) (sizesOf (now table)) (now hints) n × Noted (now tree) 0 (namesIn (now tree) (now table) n) (now spots) k ⌝ }
+    requires { ⌜ Recorded (now tree) (startsOf (now table)) (sizesOf (now table)) (now hints) n (now spots) k (now words) (now nodes) m ⌝ }
     ensures { λ r. ⌜ Answered (renameOutcome (now (tree .entry)) (now (mapping .entry))) (now (out .entry)) (now (out .exit)) r ⌝ }
 {
     let mut keys = [[0u16; 4]; 64];
     match check_mapping(mapping, &mut keys) {
-        Check::Good(m) => {
+        Check::Good(pairs) => {
             let mut news = [[0u16; 2]; 1024];
-            find_targets(tree, table, hints, n, mapping, &keys, m, &mut news);
+            find_targets(tree, table, hints, n, mapping, &keys, pairs, &mut news);
+            rename_tree(words, nodes, m, spots, k, &news);
             rename_over(tree, table, n, spots, k, mapping, &news, out)
         }
         Check::Malformed => Answer::Malformed,
@@ -148,43 +155,61 @@ fn rename_by(
     }
 }
 
-// The same for any tree, where the spots have room for all that a text within the bounds can have.
+// The same for any tree, where spots and nodes have room for all that a text within the bounds can have.
 fn rename_with(
     tree: &[u8],
-    table: &mut [Entry; 1024],
-    hints: &mut [u16; 4096],
     spots: &mut [Spot],
+    nodes: &mut [Node],
     mapping: &[u8],
     out: &mut [u8],
 ) -> Answer
-    requires { ⌜ (length (now tree) ≤ 16384 → length (now tree) ≤ 3 * length (now spots)) ⌝ }
+    requires { ⌜ (length (now tree) ≤ 16384 → length (now tree) ≤ 3 * length (now spots)) × Roomy (now tree) (now nodes) ⌝ }
     ensures { λ r. ⌜ Answered (renameOutcome (now (tree .entry)) (now (mapping .entry))) (now (out .entry)) (now (out .exit)) r ⌝ }
 {
-    match note_tree(tree, table, hints, spots) {
-        Noting::Good(n, k) => { rename_by(tree, table, hints, n, spots, k, mapping, out) }
+    let words = all_words();
+    let mut table = [[0u16; 2]; 1024];
+    let mut hints = [0u16; 2048];
+    match note_tree(tree, &words, &mut table, &mut hints, spots, nodes) {
+        Noting::Good(n, k, m) => {
+            rename_by(
+                tree,
+                &table,
+                &hints,
+                n,
+                spots,
+                k,
+                &words,
+                nodes,
+                m,
+                mapping,
+                out,
+            )
+        }
         Noting::Malformed => Answer::Malformed,
         Noting::OverBound => Answer::OverBound,
     }
 }
 
-// rename: tree and mapping to tree. The spots are as many as pays: they are cleared first.
+// rename: tree and mapping to tree. Spots and nodes are as many as pays: they are cleared first.
 pub fn rename(tree: &[u8], mapping: &[u8], out: &mut [u8]) -> Answer
     ensures { λ r. ⌜ Answered (renameOutcome (now (tree .entry)) (now (mapping .entry))) (now (out .entry)) (now (out .exit)) r ⌝ }
 {
-    let mut table = [[0u16; 2]; 1024];
-    let mut hints = [0u16; 4096];
     if tree.len() <= 768 {
         let mut spots = [[0u16; 3]; 256];
-        return rename_with(tree, &mut table, &mut hints, &mut spots, mapping, out);
+        let mut nodes = [[0u32; 3]; 256];
+        return rename_with(tree, &mut spots, &mut nodes, mapping, out);
     }
     if tree.len() <= 1536 {
         let mut spots = [[0u16; 3]; 512];
-        return rename_with(tree, &mut table, &mut hints, &mut spots, mapping, out);
+        let mut nodes = [[0u32; 3]; 512];
+        return rename_with(tree, &mut spots, &mut nodes, mapping, out);
     }
     if tree.len() <= 6144 {
         let mut spots = [[0u16; 3]; 2048];
-        return rename_with(tree, &mut table, &mut hints, &mut spots, mapping, out);
+        let mut nodes = [[0u32; 3]; 2048];
+        return rename_with(tree, &mut spots, &mut nodes, mapping, out);
     }
     let mut spots = [[0u16; 3]; 5462];
-    rename_with(tree, &mut table, &mut hints, &mut spots, mapping, out)
+    let mut nodes = [[0u32; 3]; 2048];
+    rename_with(tree, &mut spots, &mut nodes, mapping, out)
 }

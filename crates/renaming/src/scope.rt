@@ -3,12 +3,14 @@ use answers::Answer;
 use emit::put;
 use emit::put_all;
 use lines::check::Noting;
+use lines::fields::Node;
 use lines::fields::Spot;
 use names::Entry;
 use names::wide;
 use reading::note_tree;
 use text::piece;
 use walking::places::note_places;
+use words::table::all_words;
 ghost use mathlib.Core.Path.{_≡_};
 ghost use Prim.Native.Nat.{_*_, _≤_, _<_};
 ghost use mathlib.Core.List.{[], _∷_};
@@ -111,19 +113,17 @@ fn scope_of(
     Answer::Written(size)
 }
 
-// The same for any text, where the spots have room for all that a text within the bounds can have.
-fn scope_over(
-    tree: &[u8],
-    table: &mut [Entry; 1024],
-    hints: &mut [u16; 4096],
-    spots: &mut [Spot],
-    out: &mut [u8],
-) -> Answer
+// The same for any text, where the spots have room for all that a text within the bounds can have. Lines aren't noted.
+fn scope_over(tree: &[u8], spots: &mut [Spot], out: &mut [u8]) -> Answer
     requires { ⌜ (length (now tree) ≤ 16384 → length (now tree) ≤ 3 * length (now spots)) ⌝ }
     ensures { λ r. ⌜ Answered (scopeOutcome (now (tree .entry))) (now (out .entry)) (now (out .exit)) r ⌝ }
 {
-    match note_tree(tree, table, hints, spots) {
-        Noting::Good(n, k) => scope_of(tree, table, n, spots, k, out),
+    let words = all_words();
+    let mut table = [[0u16; 2]; 1024];
+    let mut hints = [0u16; 2048];
+    let mut nodes: [Node; 0] = [[0, 0, 0]; 0];
+    match note_tree(tree, &words, &mut table, &mut hints, spots, &mut nodes) {
+        Noting::Good(n, k, _) => scope_of(tree, &table, n, spots, k, out),
         Noting::Malformed => Answer::Malformed,
         Noting::OverBound => Answer::OverBound,
     }
@@ -133,20 +133,18 @@ fn scope_over(
 pub fn scope(tree: &[u8], out: &mut [u8]) -> Answer
     ensures { λ r. ⌜ Answered (scopeOutcome (now (tree .entry))) (now (out .entry)) (now (out .exit)) r ⌝ }
 {
-    let mut table = [[0u16; 2]; 1024];
-    let mut hints = [0u16; 4096];
     if tree.len() <= 768 {
         let mut spots = [[0u16; 3]; 256];
-        return scope_over(tree, &mut table, &mut hints, &mut spots, out);
+        return scope_over(tree, &mut spots, out);
     }
     if tree.len() <= 1536 {
         let mut spots = [[0u16; 3]; 512];
-        return scope_over(tree, &mut table, &mut hints, &mut spots, out);
+        return scope_over(tree, &mut spots, out);
     }
     if tree.len() <= 6144 {
         let mut spots = [[0u16; 3]; 2048];
-        return scope_over(tree, &mut table, &mut hints, &mut spots, out);
+        return scope_over(tree, &mut spots, out);
     }
     let mut spots = [[0u16; 3]; 5462];
-    scope_over(tree, &mut table, &mut hints, &mut spots, out)
+    scope_over(tree, &mut spots, out)
 }

@@ -19,3 +19,4 @@ pub mod Renamed
 pub mod Services
 pub mod Worked
 pub mod Alike
+pub mod Skipped

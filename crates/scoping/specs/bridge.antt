@@ -1,6 +1,7 @@
 pub mod Places
 pub mod Walk
 pub mod Spots
+pub mod Skip
 pub mod Services
 pub mod Pushes
 pub mod Becomes

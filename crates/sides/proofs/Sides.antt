@@ -40,6 +40,8 @@ use Rattle.merging.proofs.Names.{Letter, side-fits}
 use Rattle.algebra.specs.Query.{Pair}
 use Rattle.sides.specs.declared.list.Positions.{Positions}
 use Rattle.sides.specs.declared.list.Positions.the-variants.{Outside, Are}
+use Rattle.sides.specs.declared.side.Side.{Side}
+use Rattle.sides.specs.declared.side.Prepared.the-variants as P
 use Rattle.sides.specs.bridge.Columns.{columnsIn}
 use Rattle.sides.specs.bridge.Listed.{Listed, positionsIn, Kept, Found}
 use Rattle.sides.specs.bridge.Side.{TreeIn, Placed, Renames, maskAt, SideIs}
@@ -167,6 +169,9 @@ module _ (s : Bytes) (at : ℕ) (a l : List ℕ) (n : ℕ) (v : List (List ℕ))
         new-positive = line-positive (map side (x .columns)) new-fits map-few size line₀ line₁ long-line put-line
 
 -- ---- what was found, told as a whole
+
+pub not-ready : (s : Side) → P.Outside ≡ P.Ready s → ⊥
+not-ready s q = let z : _≡_ {A = ℕ} 0 1 = cc in omega arith
 
 pub found-outside : (s : Bytes) (xs : List Pair) (second : Bool) (c : ℕ) (at lines : List ℕ) (r : Positions) (cs : List Bytes) → Found s xs second c at lines r → r ≡ Outside → c ≡ length cs → inside cs (positionsIn second xs) ≡ false
 unfolding Found inside

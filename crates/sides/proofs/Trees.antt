@@ -26,10 +26,12 @@ use Rattle.scoping.proofs.FirstPlaces.{by-place-mem, by-place-once}
 use Rattle.scoping.proofs.Alike.{rename-alike}
 use Rattle.lines.specs.bridge.Spotted.{spotsOf}
 use Rattle.scoping.specs.bridge.Becomes.{replacement}
-use Rattle.walking.specs.bridge.Code.{renames, Inside}
+use Rattle.walking.specs.bridge.Code.{renames, Inside, Marked}
 use Rattle.scoping.specs.bridge.Becomes.{chosen}
 use Rattle.walking.specs.bridge.Flags.{flagAll}
 use Rattle.walking.specs.bridge.Rewritten.{rewritten, flagSpots, Stands}
+use Rattle.walking.specs.bridge.Renamed.{Renamed}
+use Rattle.walking.proofs.Remarked.{renamed-marked, renamed-inside, renamed-stands, renamed-rewritten}
 use Rattle.walking.proofs.Noted.{spots-take, flagged-tree, column-count, rewritten-inner, stands-inner, rewritten-columns, stands-columns}
 use Rattle.walking.proofs.Chosen.{chosen-in-scope, chosen-hidden}
 use Rattle.naming.specs.bridge.Code.{numberedBy, Standard}
@@ -144,3 +146,36 @@ module _ (s : Bytes) (at : ℕ) (a l : List ℕ) (n : ℕ) (v : List (List ℕ))
         ap (puts (textOf u)) (q ∙ ap (λ (xs : List Spot). rewritten put-names s xs inner (length s) e) inner-spots)
         ∙ rewritten-inner s at all-names v (length v) (kept .noted) (x .columns) (x .inner) (kept .lines) (kept .valid) (kept .deep) inner (t .high) (t .behind) put-names stay u e
         ∙ ap (λ (p : Pattern). puts (textOf (put p u)) e) inner-alike
+
+  -- ---- the same for variables that were renamed
+
+  module _ (sizes : List ℕ) (b : List (List ℕ)) (r : Renamed sizes v 0 b (length v)) where
+    pub line-inside : Inside n b columns
+    line-inside = renamed-inside r columns columns-few n (tree-inside s at a l n v (tree x) kept columns columns-few)
+
+    pub line-marked : Marked sizes b columns
+    line-marked = renamed-marked r columns columns-few
+
+    pub marked-line-stands : Stands s at inner (spotsOf all-names b columns)
+    marked-line-stands = renamed-stands r columns columns-few all-names s 0 at inner line-stands
+
+    pub marked-line : (new : Bytes → Bytes) (e e′ : Em) → e′ ≡ rewritten new s (spotsOf all-names b columns) at inner e → e′ ≡ rewritten new s (spotsOf all-names v columns) at inner e
+    marked-line new e e′ q = q ∙ renamed-rewritten r columns columns-few all-names s 0 at inner new e
+
+    pub inner-inside : Inside n b (length b)
+    inner-inside = subst (Inside n b) (sym (r .long)) (renamed-inside r (length v) (le-refl (length v)) n (tree-inside s at a l n v (tree x) kept (length v) (le-refl (length v))))
+
+    pub inner-marked : Marked sizes b (length b)
+    inner-marked = subst (Marked sizes b) (sym (r .long)) (renamed-marked r (length v) (le-refl (length v)))
+
+    pub inner-few : columns ≤ length b
+    inner-few = let h = columns-few in let e = r .long in omega arith
+
+    pub marked-inner-stands : Stands s inner (length s) (drop columns (spotsOf all-names b (length b)))
+    marked-inner-stands = subst (λ (k : ℕ). Stands s inner (length s) (drop columns (spotsOf all-names b k))) (sym (r .long)) (renamed-stands r (length v) (le-refl (length v)) all-names s columns inner (length s) inner-stands)
+
+    pub marked-inner : (new : Bytes → Bytes) (e e′ : Em) → e′ ≡ rewritten new s (drop columns (spotsOf all-names b (length b))) inner (length s) e → e′ ≡ rewritten new s (drop columns (spotsOf all-names v (length v))) inner (length s) e
+    marked-inner new e e′ q =
+        q
+        ∙ ap (λ (k : ℕ). rewritten new s (drop columns (spotsOf all-names b k)) inner (length s) e) (r .long)
+        ∙ renamed-rewritten r (length v) (le-refl (length v)) all-names s columns inner (length s) new e

@@ -21,6 +21,7 @@ ghost use Rattle.emit.specs.bridge.Emit.{em, puts};
 ghost use Rattle.scoping.specs.Rename.{renameInGraphPattern};
 ghost use Rattle.algebra.specs.Layout.{put};
 ghost use Rattle.merging.specs.Request.{Projection};
+ghost use Rattle.walking.specs.bridge.Renamed.{Renamed};
 ghost use Rattle.sides.specs.bridge.Columns.{columnsIn, picked};
 ghost use Rattle.sides.specs.bridge.Listed.{Kept, termsFrom};
 ghost use Rattle.sides.specs.bridge.Side.{Renames, Placed, joinLine, valuesLines};
@@ -71,7 +72,7 @@ fn put_values(
     put(out, f, 10)
 }
 
-// The lines of a side: its inner pattern under new names, and its constants bound.
+// The lines of a side whose tree was renamed: its inner pattern under new names, and its constants bound.
 pub fn put_side(
     text: &[u8],
     table: &[Entry; 1024],
@@ -87,8 +88,8 @@ pub fn put_side(
     out: &mut [u8],
     at: usize,
 ) -> usize
-    requires { ⌜ ((from : ℕ) × (x : Projection) × Placed (now text) from (startsOf (now table)) (sizesOf (now table)) n (now spots) (side .inner) (side .columns) x) × (side .constants ≤ 64) × (length (now positions) ≡ 64) × (side .end ≤ length (now line)) × (ones (side .constant) ≡ length (picked 1 (side .constant) (columnsIn (now line) (side .end)))) ⌝ }
-    ensures { λ r. ⌜ ((from : ℕ) (x : Projection) (new : Bytes → Bytes) (ks : List Pair) → Placed (now (text .entry)) from (startsOf (now (table .entry))) (sizesOf (now (table .entry))) n (now (spots .entry)) (side .inner) (side .columns) x → Renames (namesIn (now (text .entry)) (now (table .entry)) n) n (now (pool .entry)) (startsOf (now (news .entry))) (sizesOf (now (news .entry))) new → Kept (now (constants .entry)) ks false (now (positions .entry)) (now (lines .entry)) (side .constants) → (t : List Line) → puts (textOf t) (em r (now (out .exit))) ≡ puts (textOf (joinLine (side .constants) (put (renameInGraphPattern new (x .inner)) (valuesLines (side .constants) (ones (side .constant)) (picked 1 (side .constant) (columnsIn (now (line .entry)) (side .end))) (termsFrom ks 0 64) t)))) (em at (now (out .entry)))) ⌝ }
+    requires { ⌜ ((from : ℕ) × (x : Projection) × (v : List (List ℕ)) × Placed (now text) from (startsOf (now table)) (sizesOf (now table)) n v (side .inner) (side .columns) x × Renamed (sizesOf (now news)) v 0 (now spots) (length v)) × (side .constants ≤ 64) × (length (now positions) ≡ 64) × (side .end ≤ length (now line)) × (ones (side .constant) ≡ length (picked 1 (side .constant) (columnsIn (now line) (side .end)))) ⌝ }
+    ensures { λ r. ⌜ ((from : ℕ) (x : Projection) (v : List (List ℕ)) (new : Bytes → Bytes) (ks : List Pair) → Placed (now (text .entry)) from (startsOf (now (table .entry))) (sizesOf (now (table .entry))) n v (side .inner) (side .columns) x → Renamed (sizesOf (now (news .entry))) v 0 (now (spots .entry)) (length v) → Renames (namesIn (now (text .entry)) (now (table .entry)) n) n (now (pool .entry)) (startsOf (now (news .entry))) (sizesOf (now (news .entry))) new → Kept (now (constants .entry)) ks false (now (positions .entry)) (now (lines .entry)) (side .constants) → (t : List Line) → puts (textOf t) (em r (now (out .exit))) ≡ puts (textOf (joinLine (side .constants) (put (renameInGraphPattern new (x .inner)) (valuesLines (side .constants) (ones (side .constant)) (picked 1 (side .constant) (columnsIn (now (line .entry)) (side .end))) (termsFrom ks 0 64) t)))) (em at (now (out .entry)))) ⌝ }
 {
     let a = put_join(side.constants, out, at);
     let b = put_renamed(

@@ -2,7 +2,7 @@
 use Prim.Native.Nat.{ℕ, zero, suc, _+_, _-_, _≤_, _<_}
 use mathlib.Core.Path.{_≡_, refl, sym, ap, subst, _∙_}
 use mathlib.Core.List.{List, [], _∷_, _++_, map, append-nil, append-assoc}
-use mathlib.Core.Bool.{false, cond}
+use mathlib.Core.Bool.{false}
 use mathlib.Core.Logic.{⊎-elim}
 use native.Mathlib.Nat.{le-refl, eq-or-lt-of-le}
 use native.Mathlib.Omega.{arith}
@@ -12,13 +12,13 @@ use Rattle.text.specs.Text.{Bytes, Line, same, textOf, linesFrom}
 use Rattle.text.specs.Word.{bytes}
 use Rattle.text.specs.Field.{variable, fits, allFit}
 use Rattle.text.proofs.Basics.{and-left, and-right}
-use Rattle.text.proofs.Texts.{neat-ended}
+use Rattle.text.proofs.Texts.{Ended, neat-ended}
 use Rattle.algebra.specs.Tree.{Pattern, project}
 use Rattle.algebra.specs.Word.{PROJECT}
 use Rattle.algebra.specs.Layout.{put}
 use Rattle.algebra.specs.Valid.{Valid, AllFit, mem}
 use Rattle.algebra.specs.Depth.{depth}
-use Rattle.algebra.specs.bridge.Table.{patterns, rowIn, Row}
+use Rattle.algebra.specs.bridge.Table.{Sort, patterns, rowIn, Row}
 use Rattle.algebra.proofs.Neat.{neat}
 use Rattle.emit.specs.bridge.Emit.{Em, puts}
 use Rattle.emit.proofs.Laws.{puts-nil}
@@ -27,10 +27,14 @@ use Rattle.scoping.proofs.Index.{index-at}
 use Rattle.scoping.specs.bridge.Places.{Mark, visible, under, places}
 use Rattle.scoping.specs.Rename.{renameInGraphPattern}
 use Rattle.scoping.specs.bridge.Walk.{State, state, hides, opened, tree}
-use Rattle.scoping.specs.bridge.Spots.{Spot, spot, spotsIn, fieldsSize, Trace, trace, spotLine}
+use Rattle.scoping.specs.bridge.Spots.{Spot, spot, spotsIn, fieldsSize, Node, Trace, trace, lineSpots, lineNodes, spotLine}
+use Rattle.scoping.specs.bridge.Skip.{skip}
+use Rattle.scoping.proofs.Skipped.{skip-all, none-found}
+use Rattle.lines.specs.bridge.Noded.{nodeAt, nodesOf, Noded}
 use Rattle.lines.specs.bridge.Spotted.{spotAt, spotsOf, Spotted, Noted}
 use Rattle.walking.specs.bridge.Walk.{Output}
 use Rattle.walking.specs.bridge.Code.{Inside}
+use Rattle.walking.specs.bridge.Renamed.{Shaped}
 use Rattle.walking.specs.bridge.Flags.{flagAll}
 use Rattle.walking.specs.bridge.Rewritten.{rewritten, flagSpots, Stands}
 use Rattle.walking.proofs.After.{line}
@@ -72,6 +76,11 @@ spots-take ns a k j h =
         (λ (q : j < k). less k j q ∙ sym (take-append-le j (spotsOf ns a k) (spotAt ns (getD a k []) ∷ []) (omega (arith, spots-long ns a k))))
         (eq-or-lt-of-le (omega arith))
 
+nodes-long : (words b : List (List ℕ)) (m : ℕ) → length (nodesOf words b m) ≡ m
+unfolding nodesOf
+nodes-long words b zero = refl
+nodes-long words b (suc m) = let q = nodes-long words b m in length-append (nodesOf words b m) (nodeAt words (getD b m []) ∷ []) ∙ omega (arith, q)
+
 module _ {ns : List Bytes} {a : List (List ℕ)} {k : ℕ} {xs : List Spot} (x : Spotted ns a k xs) where
   pub spotted-long : length xs ≡ k
   spotted-long = ap length (sym (x .are)) ∙ spots-long ns a k
@@ -83,7 +92,7 @@ module _ {ns : List Bytes} {a : List (List ℕ)} {k : ℕ} {xs : List Spot} (x :
 
 module _ (s : Bytes) (from : ℕ) (ns : List Bytes) (a : List (List ℕ)) (k : ℕ) (x : Noted s from ns a k) (p : Pattern) (lines : linesFrom s from ≡ put p []) (valid : Valid p) (deep : depth p ≤ 64) where
   noted-found : Found s from visible 64 p (x .spots)
-  noted-found = record { lines = lines; valid = valid; deep = deep; walked = x .walked }
+  noted-found = record { lines = lines; valid = valid; deep = deep; nodes = x .nodes; walked = x .walked }
 
   -- the text under new names is the renamed tree's, whatever lines follow
   pub rewritten-tree : (new : Bytes → Bytes) → ((f : Bytes) → mem f ns ≡ false → new f ≡ f) → (t : List Line) (e : Em)
@@ -97,6 +106,23 @@ module _ (s : Bytes) (from : ℕ) (ns : List Bytes) (a : List (List ℕ)) (k : �
   -- they stand in the text, one behind the other
   pub stands-tree : Stands s from (length s) (x .spots)
   stands-tree = found-stands s from visible 64 p (x .spots) noted-found
+
+  lines-ended : Ended (linesFrom s from)
+  lines-ended = subst Ended (sym lines) (neat-ended (put p []) (neat p [] valid tt))
+
+  module _ (words b : List (List ℕ)) (n : ℕ) (noded : Noded words b n (x .nodes)) where
+    -- a descent over its noted lines leaves none
+    skip-tree : skip 64 patterns (nodesOf words b n) ≡ []
+    skip-tree = ap (skip 64 patterns) (noded .are) ∙ skip-all 64 visible from (length s) (x .spots) (x .nodes) (linesFrom s from) lines-ended (x .walked)
+
+    -- where no line is noted no variable is
+    none-noted : n ≡ 0 → k ≡ 0
+    none-noted z =
+        sym (spotted-long (x .kept))
+        ∙ none-found 63 visible from (length s) (x .spots) (x .nodes) (linesFrom s from) lines-ended (x .walked) (ap length (sym (noded .are)) ∙ nodes-long words b n ∙ z)
+
+    pub shaped-tree : Shaped words b n k
+    shaped-tree = record { few = noded .many; whole = skip-tree; none = none-noted }
 
 -- ---- a project
 
@@ -117,12 +143,12 @@ module _ (ys : List Spot) where
   abbrev Later : List Line → Trace → Trace → Type 0
   Later ls t u = (t .at ≡ u .at) × (t .spots ≡ ys ++ u .spots)
 
-  later-line : (m : Mark) (r : Row) (w : Bytes) (fs : List Bytes) (ls : List Line) (t u : Trace) → Later ((w ∷ fs) ∷ ls) t u → Later ls (spotLine m r w fs t) (spotLine m r w fs u)
+  later-line : (s : Sort) (m : Mark) (r : Row) (w : Bytes) (fs : List Bytes) (ls : List Line) (t u : Trace) → Later ((w ∷ fs) ∷ ls) t u → Later ls (spotLine s m r w fs t) (spotLine s m r w fs u)
   unfolding spotLine
-  later-line m r w fs ls t u (h, e) = (
+  later-line s m r w fs ls t u (h, e) = (
     ap (λ (n : ℕ). n + length w + fieldsSize fs + 1) h,
-    (λ i. e i ++ cond (same w (bytes "service")) [] (spotsIn m (r .slots) 0 (h i + length w + 1) fs))
-        ∙ append-assoc ys (u .spots) (cond (same w (bytes "service")) [] (spotsIn m (r .slots) 0 (u .at + length w + 1) fs)),
+    (λ i. e i ++ lineSpots m r w fs (h i))
+        ∙ append-assoc ys (u .spots) (lineSpots m r w fs (u .at)),
   )
 
 module _ (s : Bytes) (from : ℕ) (m : Mark) (d : ℕ) (cs : List Bytes) (q : Pattern) (xs : List Spot) (x : Found s from m (suc d) (project cs q) xs) where
@@ -133,27 +159,32 @@ module _ (s : Bytes) (from : ℕ) (m : Mark) (d : ℕ) (cs : List Bytes) (q : Pa
   abbrev columnSpots : List Spot
   columnSpots = spotsIn m [] 0 (from + length (bytes "project") + 1) cs
 
+  abbrev firstNode : List Node
+  firstNode = lineNodes patterns (heading PROJECT .row) cs 0
+
   all-columns : AllFit variable cs
   unfolding Valid
   all-columns = x .valid .0
 
-  inner-walk : tree spotLine (suc d) patterns m (state (linesFrom s from) (trace from [])) ≡ tree spotLine d patterns (under m) (state (put q []) (trace behind columnSpots))
+  inner-walk : tree spotLine (suc d) patterns m (state (linesFrom s from) (trace from [] [])) ≡ tree spotLine d patterns (under m) (state (put q []) (trace behind columnSpots firstNode))
   unfolding tree put rowIn hides same spotLine
-  inner-walk = ap (λ (ls : List Line). tree spotLine (suc d) patterns m (state ls (trace from []))) (x .lines)
+  inner-walk = ap (λ (ls : List Line). tree spotLine (suc d) patterns m (state ls (trace from [] []))) (x .lines)
 
   pub record Parted : Type 0 where
     pub rest : List Spot
+    pub nodes : List Node
     pub are : xs ≡ columnSpots ++ rest
-    pub walked : tree spotLine d patterns (under m) (state (put q []) (trace behind [])) ≡ state [] (trace (length s) rest)
+    pub walked : tree spotLine d patterns (under m) (state (put q []) (trace behind [] [])) ≡ state [] (trace (length s) rest nodes)
 
   pub parted : Parted
   parted =
-      let b = tree-both (Later columnSpots) spotLine spotLine (later-line columnSpots) (λ ls t u h. h) d patterns (under m) (put q []) (trace behind columnSpots) (trace behind []) (refl, sym (append-nil columnSpots)) in
-      let e : state (b .lines) (b .one) ≡ state [] (trace (length s) xs) = sym (b .left) ∙ sym inner-walk ∙ x .walked in
+      let b = tree-both (Later columnSpots) spotLine spotLine (later-line columnSpots) (λ ls t u h. h) d patterns (under m) (put q []) (trace behind columnSpots firstNode) (trace behind [] []) (refl, sym (append-nil columnSpots)) in
+      let e : state (b .lines) (b .one) ≡ state [] (trace (length s) xs (x .nodes)) = sym (b .left) ∙ sym inner-walk ∙ x .walked in
       record {
         rest = b .other .spots;
+        nodes = b .other .nodes;
         are = sym (ap (λ (st : State Trace). st .output .spots) e) ∙ b .kept .1;
-        walked = b .right ∙ λ i. state (e i .lines) (trace ((sym (b .kept .0) ∙ ap (λ (st : State Trace). st .output .at) e) i) (b .other .spots));
+        walked = b .right ∙ λ i. state (e i .lines) (trace ((sym (b .kept .0) ∙ ap (λ (st : State Trace). st .output .at) e) i) (b .other .spots) (b .other .nodes));
       }
 
   -- the columns are the first of them
@@ -209,10 +240,11 @@ module _ (s : Bytes) (from : ℕ) (m : Mark) (d : ℕ) (cs : List Bytes) (q : Pa
       lines = lines;
       valid = inner-valid;
       deep = inner-deep;
+      nodes = parted .nodes;
       walked =
-          (λ i. tree spotLine d patterns (under m) (state (lines i) (trace (next-behind i) [])))
+          (λ i. tree spotLine d patterns (under m) (state (lines i) (trace (next-behind i) [] [])))
           ∙ parted .walked
-          ∙ ap (λ (zs : List Spot). state [] (trace (length s) zs)) (sym other-columns);
+          ∙ ap (λ (zs : List Spot). state [] (trace (length s) zs (parted .nodes))) (sym other-columns);
     }
 
     module _ (ns : List Bytes) (new : Bytes → Bytes) (keeps : (f : Bytes) → mem f ns ≡ false → new f ≡ f) (e : Em) where
@@ -220,7 +252,7 @@ module _ (s : Bytes) (from : ℕ) (m : Mark) (d : ℕ) (cs : List Bytes) (q : Pa
       start = record { em = e; flags = [] }
 
       pub found-columns : rewritten new s (take (length cs) xs) from next e ≡ puts (textOf ((bytes "project" ∷ map new cs) ∷ [])) e
-      unfolding Stands textOf same
+      unfolding Stands textOf same lineSpots
       found-columns =
           (λ i. rewritten new s ((first-columns ∙ sym (append-nil columnSpots)) i) from (next-behind i) e)
           ∙ line-stretch s (bytes "project") cs from (textOf (put q [])) (found-low s from m (suc d) (project cs q) xs x) line-text ns new keeps m (heading PROJECT .row) start .written [] behind (le-refl behind, behind-high)
@@ -229,7 +261,7 @@ module _ (s : Bytes) (from : ℕ) (m : Mark) (d : ℕ) (cs : List Bytes) (q : Pa
           ∙ line new m (heading PROJECT) [] start (columnFields keeps cs all-columns) .written []
 
     pub columns-stand : Stands s from next (take (length cs) xs)
-    unfolding Stands textOf same
+    unfolding Stands textOf same lineSpots
     columns-stand =
         subst (λ (n : ℕ). Stands s from n (take (length cs) xs)) (sym next-behind)
         (subst (Stands s from behind) (append-nil columnSpots ∙ sym first-columns)

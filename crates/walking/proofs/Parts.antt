@@ -116,42 +116,42 @@ module _ (ns : List Bytes) (new : Bytes → Bytes) where
   module _ (trees : Sort → Mark → State Output → State Output) (hide : Bool) (m : Mark) where
     -- as many expressions as the operator takes
     pub arity-below : (a : Arity) (n x : ℕ) (st : State Output) → Takes a n
-        → beneath (putLine ns new) trees hide m (arityRow a .below) (numberIn (getD (putArity a n) 0 []) ∷ x ∷ []) st ≡ times (child (putLine ns new) trees hide m expressions) n st
+        → beneath (λ s. putLine ns new) trees hide m (arityRow a .below) (numberIn (getD (putArity a n) 0 []) ∷ x ∷ []) st ≡ times (child (λ s. putLine ns new) trees hide m expressions) n st
     unfolding putArity Takes beneath
-    arity-below (exactly j) n x st h = ap (λ (z : ℕ). times (child (putLine ns new) trees hide m expressions) z st) (sym h)
+    arity-below (exactly j) n x st h = ap (λ (z : ℕ). times (child (λ s. putLine ns new) trees hide m expressions) z st) (sym h)
     arity-below (counted j) n x st h = let e : n - j + j ≡ n = omega arith in rw (number-back (n - j) (h .1), e)
 
     -- rows of values are left as they are
     pub walk-rows : (n : ℕ) (rs : List (List Bytes)) (t : List Line) (o : Output) → Rows n rs
-        → After ns o (putRows rs) [] t (times (child (putLine ns new) trees hide m rows) (length rs) (state (putRows rs t) o))
+        → After ns o (putRows rs) [] t (times (child (λ s. putLine ns new) trees hide m rows) (length rs) (state (putRows rs t) o))
     unfolding Rows putRows times child part rowIn same marked
     walk-rows n [] t o v = none-after
     walk-rows n (r ∷ rs) t o v =
-        then (times (child (putLine ns new) trees hide m rows) (length rs)) (line new m (entry (bytes "row") (tailed (texts cell) [])) (putRows rs t) o (cells r (v .1))) λ o.
+        then (times (child (λ s. putLine ns new) trees hide m rows) (length rs)) (line new m (entry (bytes "row") (tailed (texts cell) [])) (putRows rs t) o (cells r (v .1))) λ o.
         walk-rows n rs t o (v .2)
 
     -- triples
     pub walk-triples : ((f : Bytes) → mem f ns ≡ false → new f ≡ f) → (ts : List Triple) (t : List Line) (o : Output) → Triples ts
-        → After ns o (putTriples (map (renameInTriple new) ts)) (marked m (tripleVariables ts)) t (times (child (putLine ns new) trees hide m triples) (length ts) (state (putTriples ts t) o))
+        → After ns o (putTriples (map (renameInTriple new) ts)) (marked m (tripleVariables ts)) t (times (child (λ s. putLine ns new) trees hide m triples) (length ts) (state (putTriples ts t) o))
     unfolding Triples putTriples times child part rowIn same opened tripleVariables variablesOf keep marked
     walk-triples keeps [] t o v = none-after
     walk-triples keeps (x ∷ xs) t o v =
         told (marked-append m (variablesOf (x .subj ∷ x .pred ∷ x .obj ∷ [])) (tripleVariables xs))
-        (then (times (child (putLine ns new) trees hide m triples) (length xs))
+        (then (times (child (λ s. putLine ns new) trees hide m triples) (length xs))
         (line new m (entry (bytes "t") (row (slot node ∷ slot name ∷ slot node ∷ []) [])) (putTriples xs t) o
         (term-then keeps refl (x .subj) (term-then keeps refl (x .pred) (term-then keeps refl (x .obj) no-fields)))) λ o.
         walk-triples keeps xs t o (v .3))
 
   -- an expression's line, where the row of its word is known
   pub by-row : (w : Bytes) (r : Row) (fs : List Bytes) (ls : List Line) (o : Output) (d : ℕ) → rowFor expressions w ≡ some r
-      → tree (putLine ns new) (suc d) expressions silent (state ((w ∷ fs) ∷ ls) o)
-      ≡ beneath (putLine ns new) (tree (putLine ns new) d) (hides w) silent (r .below) (numberIn (getD fs 0 []) ∷ numberIn (getD fs 1 []) ∷ []) (state ls (putLine ns new silent r w fs o))
+      → tree (λ s. putLine ns new) (suc d) expressions silent (state ((w ∷ fs) ∷ ls) o)
+      ≡ beneath (λ s. putLine ns new) (tree (λ s. putLine ns new) d) (hides w) silent (r .below) (numberIn (getD fs 0 []) ∷ numberIn (getD fs 1 []) ∷ []) (state ls (putLine ns new silent r w fs o))
   unfolding tree
   by-row w r fs ls o d e = rw e
 
   -- an order's line
   pub by-direction : (trees : Sort → Mark → State Output → State Output) (m : Mark) (a : Direction) (ls : List Line) (o : Output)
-      → part (putLine ns new) trees orders m ((spellD a ∷ []) ∷ ls) o ≡ trees expressions silent (state ls (putLine ns new m (orderRow a .row) (spellD a) [] o))
+      → part (λ s. putLine ns new) trees orders m ((spellD a ∷ []) ∷ ls) o ≡ trees expressions silent (state ls (putLine ns new m (orderRow a .row) (spellD a) [] o))
   unfolding part rowIn same
   by-direction trees m ASC ls o = refl
   by-direction trees m DESC ls o = refl

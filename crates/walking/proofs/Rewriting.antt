@@ -13,13 +13,13 @@ use Rattle.algebra.specs.Tree.{Pattern}
 use Rattle.algebra.specs.Layout.{put}
 use Rattle.algebra.specs.Valid.{Valid, mem}
 use Rattle.algebra.specs.Depth.{depth}
-use Rattle.algebra.specs.bridge.Table.{patterns, Row}
+use Rattle.algebra.specs.bridge.Table.{Sort, patterns, Row}
 use Rattle.algebra.proofs.Neat.{neat}
 use Rattle.emit.specs.bridge.Emit.{Em, puts}
 use Rattle.scoping.specs.bridge.Places.{Mark, places}
 use Rattle.scoping.specs.Rename.{renameInGraphPattern}
 use Rattle.scoping.specs.bridge.Walk.{State, state, tree}
-use Rattle.scoping.specs.bridge.Spots.{Spot, Trace, trace, spotLine}
+use Rattle.scoping.specs.bridge.Spots.{Spot, Node, Trace, trace, spotLine}
 use Rattle.walking.specs.bridge.Walk.{Output, putLine}
 use Rattle.walking.specs.bridge.Flags.{flagAll}
 use Rattle.walking.specs.bridge.Rewritten.{rewritten, flagSpots, Stands}
@@ -43,7 +43,8 @@ pub record Found (s : Bytes) (from : ℕ) (m : Mark) (d : ℕ) (p : Pattern) (xs
   pub lines : linesFrom s from ≡ put p []
   pub valid : Valid p
   pub deep : depth p ≤ d
-  pub walked : tree spotLine d patterns m (state (linesFrom s from) (trace from [])) ≡ state [] (trace (length s) xs)
+  pub nodes : List Node
+  pub walked : tree spotLine d patterns m (state (linesFrom s from) (trace from [] [])) ≡ state [] (trace (length s) xs nodes)
 
 -- what was found so far has been written
 record Going (ns : List Bytes) (new : Bytes → Bytes) (s : Bytes) (from : ℕ) (start : Output) (ls : List Line) (t : Trace) (o : Output) : Type 0 where
@@ -54,32 +55,32 @@ record Going (ns : List Bytes) (new : Bytes → Bytes) (s : Bytes) (from : ℕ) 
 
 module _ (s : Bytes) (from : ℕ) (m : Mark) (d : ℕ) (p : Pattern) (xs : List Spot) (x : Found s from m d p xs) where
   -- the walk, from the tree's own lines
-  walk-is : tree spotLine d patterns m (state (put p []) (trace from [])) ≡ state [] (trace (length s) xs)
-  walk-is = ap (λ (ls : List Line). tree spotLine d patterns m (state ls (trace from []))) (sym (x .lines)) ∙ x .walked
+  walk-is : tree spotLine d patterns m (state (put p []) (trace from [] [])) ≡ state [] (trace (length s) xs (x .nodes))
+  walk-is = ap (λ (ls : List Line). tree spotLine d patterns m (state ls (trace from [] []))) (sym (x .lines)) ∙ x .walked
 
   pub found-low : from ≤ length s
   unfolding spotLine
   found-low =
-      let b = tree-both (λ ls t u. from ≤ t .at) spotLine spotLine (λ n r w fs ls t u h. omega arith) (λ ls t u h. h) d patterns m (put p []) (trace from []) (trace from []) (le-refl from) in
-      let e : b .one ≡ trace (length s) xs = ap (λ (st : State Trace). st .output) (sym (b .left) ∙ walk-is) in
+      let b = tree-both (λ ls t u. from ≤ t .at) spotLine spotLine (λ k n r w fs ls t u h. omega arith) (λ ls t u h. h) d patterns m (put p []) (trace from [] []) (trace from [] []) (le-refl from) in
+      let e : b .one ≡ trace (length s) xs (x .nodes) = ap (λ (st : State Trace). st .output) (sym (b .left) ∙ walk-is) in
       subst (λ (t : Trace). from ≤ t .at) e (b .kept)
 
   pub found-text : drop from s ≡ textOf (put p [])
   found-text = text-from s from (put p []) (x .lines) (neat-ended (put p []) (neat p [] (x .valid) tt))
 
   module _ (ns : List Bytes) (new : Bytes → Bytes) (keeps : (f : Bytes) → mem f ns ≡ false → new f ≡ f) where
-    going-line : (start : Output) (n : Mark) (r : Row) (w : Bytes) (fs : List Bytes) (ls : List Line) (t : Trace) (o : Output)
-        → Going ns new s from start ((w ∷ fs) ∷ ls) t o → Going ns new s from start ls (spotLine n r w fs t) (putLine ns new n r w fs o)
+    going-line : (start : Output) (k : Sort) (n : Mark) (r : Row) (w : Bytes) (fs : List Bytes) (ls : List Line) (t : Trace) (o : Output)
+        → Going ns new s from start ((w ∷ fs) ∷ ls) t o → Going ns new s from start ls (spotLine k n r w fs t) (putLine ns new n r w fs o)
     unfolding spotLine textOf
-    going-line start n r w fs ls t o g =
+    going-line start k n r w fs ls t o g =
         let z = end-front s w fs (t .at) (textOf ls) (g .high) (g .text) in
         record { text = z .behind; high = z .high; none = g .none; so-far = chain (g .so-far) (line-stretch s w fs (t .at) (textOf ls) (g .high) (g .text) ns new keeps n r o) }
 
-    pub found-stretch : (o : Output) → Stretch ns new s from (length s) xs o (tree (putLine ns new) d patterns m (state (put p []) o) .output)
+    pub found-stretch : (o : Output) → Stretch ns new s from (length s) xs o (tree (λ s. putLine ns new) d patterns m (state (put p []) o) .output)
     found-stretch o =
-        let b = tree-both (Going ns new s from o) spotLine (putLine ns new) (going-line o) (λ ls t u g. absurd (g .none)) d patterns m (put p []) (trace from []) o
+        let b = tree-both (Going ns new s from o) spotLine (λ s. putLine ns new) (going-line o) (λ ls t u g. absurd (g .none)) d patterns m (put p []) (trace from [] []) o
         (record { text = found-text; high = found-low; none = neat-ended (put p []) (neat p [] (x .valid) tt); so-far = nothing from o }) in
-        let e : b .one ≡ trace (length s) xs = ap (λ (st : State Trace). st .output) (sym (b .left) ∙ walk-is) in
+        let e : b .one ≡ trace (length s) xs (x .nodes) = ap (λ (st : State Trace). st .output) (sym (b .left) ∙ walk-is) in
         subst (λ (u : Output). Stretch ns new s from (length s) xs o u) (sym (ap (λ (st : State Output). st .output) (b .right)))
         (subst (λ (t : Trace). Stretch ns new s from (t .at) (t .spots) o (b .other)) e (b .kept .so-far))
 

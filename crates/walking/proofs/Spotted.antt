@@ -1,13 +1,15 @@
 -- Laws of the code that goes over noted variables, one for each way out. Assumes nothing.
 use Prim.Native.Nat.{ℕ, zero, suc, _+_, _-_, _≤_, _<_}
 use mathlib.Core.Path.{_≡_, refl, sym, ap, subst, _∙_}
+use mathlib.Core.Bool.{Bool, true, false}
 use mathlib.Core.List.{List, [], _∷_}
 use native.Mathlib.Omega.{arith}
 use native.Mathlib.Decide.{decLt}
 use native.Mathlib.Numerals.{add-one}
 use lib.ListN.{length, getD, drop, drop-of-length-le}
 use lib.Seq.{drop-cons}
-use borrow.Author.Tests.{ne-eqb}
+use lib.Dec.{eqb}
+use borrow.Author.Tests.{ne-eqb, eqb-true, eqb-false}
 use Rattle.text.specs.Text.{Bytes, part, piece}
 use Rattle.names.specs.bridge.Names.{nameAt, listing}
 use Rattle.names.proofs.Laws.{listing-long}
@@ -24,27 +26,52 @@ use Rattle.names.proofs.Laws.{listing-at}
 use Rattle.walking.proofs.Stretches.{part-append, stands-lower, stands-high, copy-apart}
 use Rattle.walking.proofs.Noted.{spots-long, spots-at}
 use Rattle.scoping.specs.bridge.Becomes.{replacement}
-use Rattle.walking.specs.bridge.Code.{renames, Inside, Stay, NextRenamed}
+use Rattle.walking.specs.bridge.Code.{renames, Inside, Stay, NextRenamed, Marked, Unmarked, NextMarked}
+use Rattle.walking.specs.bridge.Renamed.{newMark}
+use Rattle.walking.proofs.Marks.{mark-stays, mark-becomes}
 
--- ---- names that stay
+-- ---- marks
 
-pub stay-none : (a : List (List ℕ)) (spans : List ℕ) (i : ℕ) → Stay a spans i i
-unfolding Stay
-stay-none a spans i = λ j h l. absurd (omega arith)
+pub unmarked-none : (a : List (List ℕ)) (i : ℕ) → Unmarked a i i
+unfolding Unmarked
+unmarked-none a i = λ j h l. absurd (omega arith)
 
-pub stay-more : (a : List (List ℕ)) (spans : List ℕ) (i j x y : ℕ) → Stay a spans i j → x ≡ getD (getD a j []) 1 0 → y ≡ getD spans x 0 → y ≡ 0 → Stay a spans i (j + 1)
-unfolding Stay
-stay-more a spans i j x y h p e z = λ q l m. go q l (decLt q j) m
+pub unmarked-more : (a : List (List ℕ)) (i j x : ℕ) → Unmarked a i j → x ≡ getD (getD a j []) 2 0 → (x ≡ 4 → ⊥) → Unmarked a i (j + 1)
+unfolding Unmarked
+unmarked-more a i j x h e z = λ q l m. go q l (decLt q j) m
   where
-    go : (q : ℕ) → i ≤ q → Dec (q < j) → q < j + 1 → getD spans (getD (getD a q []) 1 0) 0 ≡ 0
+    go : (q : ℕ) → i ≤ q → Dec (q < j) → q < j + 1 → getD (getD a q []) 2 0 ≡ 4 → ⊥
     go q l (yes k) m = h q l k
-    go q l (no k) m = let s : q ≡ j = omega arith in rw (s, ← p) (sym e ∙ z)
+    go q l (no k) m = let s : q ≡ j = omega arith in rw (s, ← e) z
 
-pub next-here : (a : List (List ℕ)) (spans : List ℕ) (i k j x y : ℕ) → (i ≤ j) × (j ≤ k) × Stay a spans i j → x ≡ getD (getD a j []) 1 0 → y ≡ getD spans x 0 → (y ≡ 0 → ⊥) → NextRenamed a spans i k j
-next-here a spans i k j x y (l, h, t) p e n = record { low = l; high = h; before = t; here = λ m z. n (e ∙ ap (λ (v : ℕ). getD spans v 0) p ∙ z) }
+pub next-here : (a : List (List ℕ)) (i k j x : ℕ) → (i ≤ j) × (j ≤ k) × Unmarked a i j → x ≡ getD (getD a j []) 2 0 → x ≡ 4 → NextMarked a i k j
+next-here a i k j x (l, h, t) e n = record { low = l; high = h; before = t; here = λ m. sym e ∙ n }
 
-pub next-none : (a : List (List ℕ)) (spans : List ℕ) (i k j : ℕ) → (i ≤ j) × (j ≤ k) × Stay a spans i j → k ≤ j → NextRenamed a spans i k k
-next-none a spans i k j (l, h, t) e = let q : j ≡ k = omega arith in record { low = omega arith; high = omega arith; before = subst (Stay a spans i) q t; here = λ m z. omega arith }
+pub next-none : (a : List (List ℕ)) (i k j : ℕ) → (i ≤ j) × (j ≤ k) × Unmarked a i j → k ≤ j → NextMarked a i k k
+next-none a i k j (l, h, t) e = let q : j ≡ k = omega arith in record { low = omega arith; high = omega arith; before = subst (Unmarked a i) q t; here = λ m. absurd (omega arith) }
+
+-- a marked name becomes another, and any other stays
+marked-becomes : (sizes : List ℕ) (e : ℕ) → e < 1024 → newMark sizes e ≡ 4 → getD sizes e 0 ≡ 0 → ⊥
+marked-becomes sizes e l h z = let q : 3 ≡ newMark sizes e = mark-stays sizes e (getD sizes e 0) l refl z in omega arith
+
+unmarked-stays : (sizes : List ℕ) (e : ℕ) → e < 1024 → (newMark sizes e ≡ 4 → ⊥) → getD sizes e 0 ≡ 0
+unmarked-stays sizes e l h = go (eqb (getD sizes e 0) 0) refl
+  where
+    go : (t : Bool) → eqb (getD sizes e 0) 0 ≡ t → getD sizes e 0 ≡ 0
+    go true q = eqb-true (getD sizes e 0) 0 q
+    go false q = absurd (h (sym (mark-becomes sizes e (getD sizes e 0) l refl (eqb-false (getD sizes e 0) 0 q))))
+
+-- so the next marked one is the next that becomes another
+pub next-is : (a : List (List ℕ)) (sizes : List ℕ) (n i k r : ℕ) → n ≤ 1024 → Inside n a k → Marked sizes a k → NextMarked a i k r → NextRenamed a sizes i k r
+unfolding Stay Unmarked
+next-is a sizes n i k r h x m t =
+    let high = t .high in
+    record {
+      low = t .low;
+      high = t .high;
+      before = λ j l u. let y = x .each j (omega arith) in unmarked-stays sizes (getD (getD a j []) 1 0) (omega arith) (λ z. t .before j l u (m .mark j (omega arith) ∙ z));
+      here = λ u z. let y = x .each r u in marked-becomes sizes (getD (getD a r []) 1 0) (omega arith) (sym (m .mark r u) ∙ t .here u) z;
+    }
 
 pub inside-at : (n : ℕ) (a : List (List ℕ)) (k j : ℕ) → Inside n a k → j < k → getD (getD a j []) 1 0 < n
 inside-at n a k j x h = x .each j h

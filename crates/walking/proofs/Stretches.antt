@@ -17,7 +17,7 @@ use Rattle.emit.proofs.Laws.{puts-append, puts-nil}
 use Rattle.scoping.specs.Sets.{indexOf}
 use Rattle.scoping.specs.bridge.Places.{Mark}
 use Rattle.scoping.specs.bridge.Walk.{opened}
-use Rattle.scoping.specs.bridge.Spots.{Spot, spot, spotsIn, fieldsSize}
+use Rattle.scoping.specs.bridge.Spots.{Spot, spot, spotsIn, fieldsSize, lineSpots}
 use Rattle.walking.specs.bridge.Walk.{tabbed, Output, writes, flagged, putField, putFields, putLine}
 use Rattle.walking.specs.bridge.Rewritten.{rewritten, flagSpots, Stands}
 
@@ -203,8 +203,8 @@ module _ (s w : Bytes) (fs : List Bytes) (p : ℕ) (rest : Bytes) (h : p ≤ len
       ap-front q x = subst (λ (n : ℕ). Front s (p + length w + n) (10 ∷ []) rest) q x
 
   pub line-stretch : (ns : List Bytes) (new : Bytes → Bytes) → ((f : Bytes) → mem f ns ≡ false → new f ≡ f) → (m : Mark) (r : Row) (o : Output)
-      → Stretch ns new s p (p + length w + fieldsSize fs + 1) (cond (same w (bytes "service")) [] (spotsIn m (r .slots) 0 (p + length w + 1) fs)) o (putLine ns new m r w fs o)
-  unfolding putLine
+      → Stretch ns new s p (p + length w + fieldsSize fs + 1) (lineSpots m r w fs p) o (putLine ns new m r w fs o)
+  unfolding putLine lineSpots
   line-stretch ns new keeps m r o =
       copied-then w _ refl word-front
       (then-copied (10 ∷ []) _ refl end-front

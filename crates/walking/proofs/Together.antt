@@ -37,8 +37,8 @@ module _ {O P : Type 0} (R : List Line → O → P → Type 0) where
   times-both F G h zero = stay
   times-both F G h (suc n) = λ ls o p r. onward (times F n) (times G n) (h (eqb n 0) ls o p r) (times-both F G h n)
 
-  module _ (f : Mark → Row → Bytes → List Bytes → O → O) (g : Mark → Row → Bytes → List Bytes → P → P)
-      (line : (m : Mark) (r : Row) (w : Bytes) (fs : List Bytes) (ls : List Line) (o : O) (p : P) → R ((w ∷ fs) ∷ ls) o p → R ls (f m r w fs o) (g m r w fs p))
+  module _ (f : Sort → Mark → Row → Bytes → List Bytes → O → O) (g : Sort → Mark → Row → Bytes → List Bytes → P → P)
+      (line : (s : Sort) (m : Mark) (r : Row) (w : Bytes) (fs : List Bytes) (ls : List Line) (o : O) (p : P) → R ((w ∷ fs) ∷ ls) o p → R ls (f s m r w fs o) (g s m r w fs p))
       (none : (ls : List Line) (o : O) (p : P) → R ([] ∷ ls) o p → R ls o p) where
     module _ (T : Sort → Mark → State O → State O) (U : Sort → Mark → State P → State P) (h : (s : Sort) (m : Mark) → Keep R (T s m) (U s m)) where
       part-both : (s : Sort) (m : Mark) (ls : List Line) (o : O) (p : P) → R ls o p → Both R (part f T s m ls o) (part g U s m ls p)
@@ -48,13 +48,13 @@ module _ {O P : Type 0} (R : List Line → O → P → Type 0) where
       part-both s m ((w ∷ fs) ∷ ls) o p r = go (eqb (headAmount (rowOr (rowFor s w) .below) (numberIn (getD fs 0 []) ∷ numberIn (getD fs 1 []) ∷ [])) 0)
         where
           o′ : O
-          o′ = f m (rowOr (rowFor s w)) w fs o
+          o′ = f s m (rowOr (rowFor s w)) w fs o
 
           p′ : P
-          p′ = g m (rowOr (rowFor s w)) w fs p
+          p′ = g s m (rowOr (rowFor s w)) w fs p
 
           r′ : R ls o′ p′
-          r′ = line m (rowOr (rowFor s w)) w fs ls o p r
+          r′ = line s m (rowOr (rowFor s w)) w fs ls o p r
 
           go : (t : Bool) → Both R (cond t (state ls o′) (T expressions silent (state ls o′))) (cond t (state ls p′) (U expressions silent (state ls p′)))
           go true = stay ls o′ p′ r′
@@ -88,7 +88,7 @@ module _ {O P : Type 0} (R : List Line → O → P → Type 0) where
       whole-both s m [] o p r = stay [] o p r
       whole-both s m ([] ∷ ls) o p r = stay ls o p (none ls o p r)
       whole-both s m ((w ∷ fs) ∷ ls) o p r =
-          beneath-both (hides w) m (rowOr (rowFor s w) .below) (numberIn (getD fs 0 []) ∷ numberIn (getD fs 1 []) ∷ []) ls _ _ (line m (rowOr (rowFor s w)) w fs ls o p r)
+          beneath-both (hides w) m (rowOr (rowFor s w) .below) (numberIn (getD fs 0 []) ∷ numberIn (getD fs 1 []) ∷ []) ls _ _ (line s m (rowOr (rowFor s w)) w fs ls o p r)
 
     pub tree-both : (d : ℕ) (s : Sort) (m : Mark) → Keep R (tree f d s m) (tree g d s m)
     unfolding tree

@@ -32,14 +32,14 @@ use Rattle.walking.proofs.Written.{variable-is, no-fields, shut-then, n
 module _ (ns : List Bytes) (new : Bytes → Bytes) (keeps : (f : Bytes) → mem f ns ≡ false → new f ≡ f) where
   -- a pattern, and an expression, where d levels may still be opened
   abbrev P : ℕ → Mark → State Output → State Output
-  P d m st = tree (putLine ns new) d patterns m st
+  P d m st = tree (λ s. putLine ns new) d patterns m st
 
   abbrev E : ℕ → State Output → State Output
-  E d st = tree (putLine ns new) d expressions silent st
+  E d st = tree (λ s. putLine ns new) d expressions silent st
 
   -- n children of a sort
   abbrev below : Bool → Mark → Sort → ℕ → ℕ → State Output → State Output
-  below hide m s d n st = times (child (putLine ns new) (tree (putLine ns new) d) hide m s) n st
+  below hide m s d n st = times (child (λ s. putLine ns new) (tree (λ s. putLine ns new) d) hide m s) n st
 
   -- the walk over the tree writes the renamed tree and notes its places, whatever lines follow
   abbrev Goes : Pattern → Mark → List Line → Output → ℕ → Type 0
@@ -55,7 +55,7 @@ module _ (ns : List Bytes) (new : Bytes → Bytes) (keeps : (f : Bytes) → mem 
     walk (bgp ts) m t o d v h = deeper _ d h (Goes (bgp ts) m t o) λ k i.
         rw (number-back (length ts) (v .0))
         (then (below false m triples k (length ts)) (line new m (heading BGP) _ o (number-then (length ts) _ (length-map (renameInTriple new) ts) (v .0) no-fields)) λ o.
-        walk-triples ns new (tree (putLine ns new) k) false m keeps ts t o (v .1))
+        walk-triples ns new (tree (λ s. putLine ns new) k) false m keeps ts t o (v .1))
     walk (path s x y) m t o d v h = deeper _ d h (Goes (path s x y) m t o) λ k i.
         line new m (heading PATH) t o (term-then keeps refl s (shut-then x refl (term-then keeps refl y no-fields)))
     walk (join p q) m t o d v h = deeper _ d h (Goes (join p q) m t o) λ k i.
@@ -95,7 +95,7 @@ module _ (ns : List Bytes) (new : Bytes → Bytes) (keeps : (f : Bytes) → mem 
         (then (λ st. rest (below false m columns k 1 st)) (line new m (heading VALUES) ((bytes "cols" ∷ cs) ∷ putRows rs t) o
         (number-then (length cs) _ (length-map new cs) (v .0) (number-then (length rs) _ refl (v .1) no-fields))) λ o.
         then rest (line new m columnsRow (putRows rs t) o (columnFields keeps cs (v .2))) λ o.
-        walk-rows ns new (tree (putLine ns new) k) false m (length cs) rs t o (v .3)))
+        walk-rows ns new (tree (λ s. putLine ns new) k) false m (length cs) rs t o (v .3)))
     walk (orderby p os) m t o d v h = deeper _ d h (Goes (orderby p os) m t o) λ k i.
         let rest = below false m orders k (ocount os) in
         rw (number-back (ocount os) (v .0))
@@ -135,7 +135,7 @@ module _ (ns : List Bytes) (new : Bytes → Bytes) (keeps : (f : Bytes) → mem 
         walk p silent t o k v (omega arith)
     walkE (apply f es) t o d v h = deeper _ d h (GoesE (apply f es) t o) λ k i.
         reached (by-row ns new (spellO f) (arityRow (arity f)) (putArity (arity f) (count es)) (putEs es t) o k (op-row f)
-        ∙ arity-below ns new (tree (putLine ns new) k) (hides (spellO f)) silent (arity f) (count es) _ _ (v .0))
+        ∙ arity-below ns new (tree (λ s. putLine ns new) k) (hides (spellO f)) silent (arity f) (count es) _ _ (v .0))
         (then (below (hides (spellO f)) silent expressions k (count es)) (line new silent (headingE (OP f)) _ o (arity-fields (arity f) (count es) _ (count-renamed new es) (v .0))) λ o.
         walkEs es (hides (spellO f)) silent t o k (v .1) (omega arith))
     walkE (call n es) t o d v h = deeper _ d h (GoesE (call n es) t o) λ k i.
@@ -160,7 +160,7 @@ module _ (ns : List Bytes) (new : Bytes → Bytes) (keeps : (f : Bytes) → mem 
     walkOs oend hide m t o d v h = none-after
     walkOs (ocons a e os) hide m t o d v h =
         let rest = below hide m orders d (ocount os) in
-        reached (ap rest (by-direction ns new (tree (putLine ns new) d) m a (putE e (putOs os t)) o))
+        reached (ap rest (by-direction ns new (tree (λ s. putLine ns new) d) m a (putE e (putOs os t)) o))
         (then (λ st. rest (E d st)) (line new m (orderRow a) _ o no-fields) λ o.
         then rest (walkE e (putOs os t) o d (v .0) (omega arith)) λ o.
         walkOs os hide m t o d (v .1) (omega arith))
@@ -178,5 +178,5 @@ module _ (ns : List Bytes) (new : Bytes → Bytes) (keeps : (f : Bytes) → mem 
         walkAs rs hide m t o d (v .2) (omega arith)
 
   -- a whole tree: the renamed tree's text before whatever lines are written next, and its places
-  pub walk-before : (p : Pattern) (m : Mark) (d : ℕ) (o : Output) → Valid p → depth p ≤ d → After ns o (put (renameInGraphPattern new p)) (places p m) [] (tree (putLine ns new) d patterns m (state (put p []) o))
+  pub walk-before : (p : Pattern) (m : Mark) (d : ℕ) (o : Output) → Valid p → depth p ≤ d → After ns o (put (renameInGraphPattern new p)) (places p m) [] (tree (λ s. putLine ns new) d patterns m (state (put p []) o))
   walk-before p m d o v h = walk p m [] o d v h

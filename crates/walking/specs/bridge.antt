@@ -2,3 +2,4 @@ pub mod Walk
 pub mod Code
 pub mod Flags
 pub mod Rewritten
+pub mod Renamed

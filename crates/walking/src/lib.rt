@@ -1,3 +1,4 @@
 // Places in a text that was checked, and the text written under new names.
 pub mod line;
 pub mod places;
+pub mod tree;

@@ -14,19 +14,18 @@ ghost use Rattle.emit.specs.bridge.Emit.{em, puts};
 ghost use Rattle.scoping.specs.Sets.{Once};
 ghost use Rattle.lines.specs.bridge.Spotted.{markAt, spotsOf};
 ghost use Rattle.walking.specs.bridge.Walk.{flagged};
-ghost use Rattle.walking.specs.bridge.Code.{renames, Inside, NextRenamed};
+ghost use Rattle.walking.specs.bridge.Code.{renames, Inside, Marked, NextMarked};
 ghost use Rattle.walking.specs.bridge.Rewritten.{rewritten, flagSpots, Stands};
 
-// The first variable from number i on whose name becomes another; or k.
-fn next_renamed(spots: &[Spot], i: usize, k: usize, news: &[Entry; 1024]) -> usize
-    requires { ⌜ Inside 1024 (now spots) k × (i ≤ k) ⌝ }
-    ensures { λ r. ⌜ NextRenamed (now (spots .entry)) (sizesOf (now (news .entry))) i k r ⌝ }
+// The first variable from number i on that is marked as becoming another; or k.
+fn next_renamed(spots: &[Spot], i: usize, k: usize) -> usize
+    requires { ⌜ (k ≤ length (now spots)) × (i ≤ k) ⌝ }
+    ensures { λ r. ⌜ NextMarked (now (spots .entry)) i k r ⌝ }
 {
     let mut j = i;
     while j < k {
         let s = spots[j];
-        let e = news[wide(s[1])];
-        if e[1] != 0 {
+        if s[2] == 4 {
             return j;
         }
         j += 1;
@@ -52,7 +51,7 @@ fn name_size(text: &[u8], table: &[Entry; 1024], entry: usize) -> usize
     piece(text, wide(e[0]), wide(e[1])).len()
 }
 
-// The text between two places, the variables from number i up to k under their new names. All that stays is copied in as few pieces as can be.
+// The text between two places, the variables from number i up to k under their new names, as they are marked. All that stays is copied in as few pieces as can be.
 pub fn put_renamed(
     text: &[u8],
     from: usize,
@@ -67,12 +66,12 @@ pub fn put_renamed(
     out: &mut [u8],
     at: usize,
 ) -> usize
-    requires { ⌜ (n ≤ 1024) × Once (namesIn (now text) (now table) n) × Inside n (now spots) k × (i ≤ k) × Stands (now text) from to (drop i (spotsOf (namesIn (now text) (now table) n) (now spots) k)) ⌝ }
+    requires { ⌜ (n ≤ 1024) × Once (namesIn (now text) (now table) n) × Inside n (now spots) k × Marked (sizesOf (now news)) (now spots) k × (i ≤ k) × Stands (now text) from to (drop i (spotsOf (namesIn (now text) (now table) n) (now spots) k)) ⌝ }
     ensures { λ r. ⌜ em r (now (out .exit)) ≡ rewritten (renames (now (text .entry)) (startsOf (now (table .entry))) (sizesOf (now (table .entry))) n (now (pool .entry)) (startsOf (now (news .entry))) (sizesOf (now (news .entry)))) (now (text .entry)) (drop i (spotsOf (namesIn (now (text .entry)) (now (table .entry)) n) (now (spots .entry)) k)) from to (em at (now (out .entry))) ⌝ }
 {
     let mut done = from;
     let mut put = at;
-    let mut j = next_renamed(spots, i, k, news);
+    let mut j = next_renamed(spots, i, k);
     while j < k {
         let s = spots[j];
         let start = wide(s[0]);
@@ -80,7 +79,7 @@ pub fn put_renamed(
         let copied = put_all(out, put, &text[done..start]);
         put = put_new(pool, news, entry, out, copied);
         done = start + name_size(text, table, entry);
-        j = next_renamed(spots, j + 1, k, news);
+        j = next_renamed(spots, j + 1, k);
     }
     put_all(out, put, &text[done..to])
 }

@@ -1,22 +1,20 @@
 -- A row by the key of its word is the row of the word. Assumes nothing.
-use Prim.Native.Nat.{ℕ, zero, suc, _+_, _-_, _≤_, _<_, zero-le}
-use mathlib.Core.Path.{_≡_, refl, sym, _∙_, ap, subst}
-use mathlib.Core.Bool.{Bool, true, false, cond, not, _&&_, false≢true, true≢false}
+use Prim.Native.Nat.{ℕ, zero, suc, _+_, _-_, _≤_}
+use mathlib.Core.Path.{_≡_, refl, sym, _∙_, ap}
+use mathlib.Core.Bool.{Bool, true, false, cond, not, _&&_}
 use mathlib.Core.List.{List, [], _∷_}
-use mathlib.Core.Option.{Option, none, some}
+use mathlib.Core.Option.{some}
 use native.Mathlib.Omega.{arith}
 use lib.Dec.{eqb, leb, ltb}
-use lib.ListN.{length, getD, drop, length-take, length-drop}
-use lib.Seq.{getD-take, getD-drop}
+use lib.ListN.{length, getD}
 use borrow.Author.Tests.{leb-true, ltb-true, eqb-false, eq-eqb, ne-eqb, not-true}
-use Rattle.text.specs.Text.{Bytes, same, part}
+use Rattle.text.specs.Text.{Bytes, same}
 use Rattle.text.proofs.Basics.{and-left, and-right, same-eq}
-use Rattle.text.proofs.Lists.{same-long}
 use Rattle.algebra.specs.Valid.{mem}
-use Rattle.algebra.specs.bridge.Table.{Row, Entry, Sort, triples, columns, patterns, expressions, rows, orders, aggregates, heads, sets, positions, valueRows, parts, rowsOf, rowIn, rowFor}
+use Rattle.algebra.specs.bridge.Table.{Row, Entry, Sort, triples, columns, patterns, expressions, rows, orders, aggregates, heads, sets, positions, valueRows, parts, rowsOf, table, rowIn, rowFor}
 use Rattle.words.specs.declared.Found.{Found}
 use Rattle.words.specs.declared.Found.the-variants.{Is, None}
-use Rattle.words.specs.bridge.Code.{sortAt, rowOf, found, rowFound, Tidy, flagOf, Flags}
+use Rattle.words.specs.bridge.Code.{sortAt, rowOf, rowFound, flagOf, Flags}
 use Rattle.words.specs.bridge.Key.{keyOf, Small, Told, Keyed, keyIn, rowBy, flagBy, Flagged}
 
 -- ---- every word of the table is one that a key tells
@@ -49,6 +47,10 @@ words-tell positions = refl
 words-tell valueRows = refl
 words-tell parts = refl
 
+all-tell : allTell table ≡ true
+unfolding allTell table
+all-tell = refl
+
 small-is : (f : Bytes) → small f ≡ true → Small f
 unfolding small
 small-is [] h = tt
@@ -75,6 +77,10 @@ by-key (e ∷ es) f k h t =
 pub row-by-key : (s : ℕ) (f : Bytes) (k : ℕ) → Keyed f k → rowBy k (rowsOf (sortAt s)) ≡ rowFor (sortAt s) f
 row-by-key s f k t = sym (by-key (rowsOf (sortAt s)) f k (words-tell (sortAt s)) t)
 
+-- whatever its sort
+pub row-by-any : (f : Bytes) (k : ℕ) → Keyed f k → rowBy k table ≡ rowIn table f
+row-by-any f k t = sym (by-key table f k all-tell t)
+
 -- what the key tells of the names is what the word does
 flag-is : (es : List Entry) (f : Bytes) (k : ℕ) (r : Row) → allTell es ≡ true → Keyed f k → some r ≡ rowBy k es → flagBy k es ≡ flagOf f
 unfolding allTell rowBy flagBy
@@ -89,38 +95,7 @@ pub flag-by-key : (s : ℕ) (f : Bytes) (k : ℕ) (r : Found) → Keyed f k → 
 flag-by-key s f k (Is c) t w q = q ∙ flag-is (rowsOf (sortAt s)) f k (rowOf c) (words-tell (sortAt s)) t w
 flag-by-key s f k None t w q = tt
 
--- ---- a key that is none of the words'
-
--- the key is not that of any of these words, behind what is known already
-abbrev pub Others : ℕ → List Entry → Type 0 → Type 0
-Others k [] B = B
-Others k (e ∷ es) B = Others k es (B × (k ≡ keyOf 0 (e .word) → ⊥))
-
-before : (k : ℕ) (es : List Entry) (B : Type 0) → Others k es B → B
-before k [] B h = h
-before k (e ∷ es) B h = before k es (B × (k ≡ keyOf 0 (e .word) → ⊥)) h .0
-
-pub no-key : (k : ℕ) (es : List Entry) (B : Type 0) → Others k es B → none ≡ rowBy k es
-unfolding rowBy
-no-key k [] B h = refl
-no-key k (e ∷ es) B h = rw (ne-eqb k (keyOf 0 (e .word)) (before k es (B × (k ≡ keyOf 0 (e .word) → ⊥)) h .1)) (no-key k es (B × (k ≡ keyOf 0 (e .word) → ⊥)) h)
-
--- ---- a row by its key
-
-abbrev pub Says : ℕ → List Entry → ℕ → ℕ → Type 0
-Says s es k code = (rowFound (found code) ≡ rowBy k es) × Flagged k es (found code) × Tidy s (found code)
-
-pub at-key : (es : List Entry) {k j : ℕ} → k ≡ j → rowBy j es ≡ rowBy k es
-at-key es e = ap (λ (i : ℕ). rowBy i es) (sym e)
-
-pub flag-at : (es : List Entry) {k j : ℕ} → k ≡ j → flagBy j es ≡ flagBy k es
-flag-at es e = ap (λ (i : ℕ). flagBy i es) (sym e)
-
--- ---- the sorts by their numbers
-
--- what holds of a sort's number holds of a number that is the same
-pub of-sort : (s n k code : ℕ) → s ≡ n → Says n (rowsOf (sortAt n)) k code → Says s (rowsOf (sortAt s)) k code
-of-sort s n k code e h = subst (λ (m : ℕ). Says m (rowsOf (sortAt m)) k code) (sym e) h
+-- ---- numbers that are told apart
 
 -- s is none of the n numbers from i on, behind what is known already
 abbrev pub Past : ℕ → ℕ → ℕ → Type 0 → Type 0
@@ -138,9 +113,6 @@ past s i (suc n) B l h =
     let more : suc i ≤ s = omega arith in
     let far : suc i + n ≤ s = past s (suc i) n (B × (s ≡ i → ⊥)) more h in
     omega arith
-
-pub last-sort : (s : ℕ) (B : Type 0) → s < 12 → Past s 0 11 B → s ≡ 11
-last-sort s B h r = let l : 0 + 11 ≤ s = past s 0 11 B zero-le r in omega arith
 
 -- ---- words that are tested by their keys
 

@@ -1,2 +1,3 @@
 pub mod Code
 pub mod Key
+pub mod Words

@@ -1,16 +1,14 @@
 // The one table of words: the fields of a line that begins with each word, and the lines that come below it.
 mod codes;
 pub mod keys;
-mod rows;
+pub mod table;
 
-use crate::rows::row_of;
 use text::equal;
 ghost use mathlib.Core.Path.{_≡_};
 ghost use Prim.Native.Nat.{_≤_, _<_};
 ghost use lib.ListN.{length, getD};
-ghost use Rattle.text.specs.Text.{Bytes, same, part, First};
-ghost use Rattle.algebra.specs.bridge.Table.{rowFor};
-ghost use Rattle.words.specs.bridge.Code.{domainAt, found, rowFound, sortAt, Tidy, Flags, extraFound, extraOf, extras};
+ghost use Rattle.text.specs.Text.{same, part, First};
+ghost use Rattle.words.specs.bridge.Code.{domainAt, extraFound, extraOf, extras};
 ghost use Rattle.words.specs.bridge.Key.{Spells, Keyed};
 
 // What a word says of its line: its fields, a byte each, from the lowest on; what stands behind them; what it means for the names of its line
@@ -117,31 +115,6 @@ pub fn word_at(s: &[u8], from: usize, to: usize) -> Word
         end: w.end,
         key: key_of(s, from, w),
     }
-}
-
-// The row that a number of the table is.
-fn row_in(code: u64) -> Found
-    ensures { λ r. ⌜ r ≡ found code ⌝ }
-{
-    if code == 0 {
-        return Found::None;
-    }
-    Found::Is(Row {
-        fields: code % 0x100_0000,
-        behind: (code / 0x100_0000 % 16) as u8,
-        flag: (code / 0x1000_0000 % 16) as u8,
-        below: code / 0x1_0000_0000,
-    })
-}
-
-// The row of a word by its key, at the head of a line of a sort.
-pub fn row_at(sort: u8, key: u64) -> Found
-    requires { ⌜ sort < 12 ⌝ }
-    ensures { λ r. ⌜ ((f : Bytes) → Keyed f key → rowFound r ≡ rowFor (sortAt sort) f) ⌝ }
-    ensures tidy { λ r. ⌜ Tidy sort r ⌝ }
-    ensures flags { λ r. ⌜ ((f : Bytes) → Keyed f key → Flags f r) ⌝ }
-{
-    row_in(row_of(sort, key))
 }
 
 // A field is the domain of a number. Each domain is a constant of its own: it is laid out only where it is compared.

@@ -4,10 +4,10 @@ use Rattle.bench_check.proofs.again.Statement.{statement}
 use Rattle.bench_check.proofs.again.Tie as tie
 
 abbrev Inv-loop : tie.InvT-loop
-Inv-loop text times mix₀ k₀ mix k = Unit {0}
+Inv-loop text words times mix₀ k₀ mix k = Unit {0}
 
 abbrev μ-loop : tie.MeasureT-loop
-μ-loop text times mix₀ k₀ mix k = k
+μ-loop text words times mix₀ k₀ mix k = k
 
 pub again-spec : {M : Type 1} → statement M
 again-spec =

@@ -30,9 +30,9 @@ allPlaced cs zero ls = true
 allPlaced cs (suc n) [] = true
 allPlaced cs (suc n) (l ∷ ls) = (not (isTrueLine l) && treeToExpression cs (suc n) (l ∷ ls) .expressed) && allPlaced cs n (treeToExpression cs (suc n) (l ∷ ls) .left)
 
--- how many filters of the text s are placed, and how long their lines are; and that each is, where that is said
-pub record Measures (cs : List Bytes) (s : Bytes) (r : Measured) : Type 0 where
-  pub many : r .many ≡ placedFilters cs (length s) (linesFrom s 0) .many
-  pub size : em (r .size) [] ≡ puts (textOf (placedFilters cs (length s) (linesFrom s 0) .lines)) (em 0 [])
-  pub all : r .all ≡ true → allPlaced cs (length s) (linesFrom s 0) ≡ true
-  pub few : r .many ≤ length s
+-- how many filters of the text s are placed, of which n lines are left, and how long their lines are; and that each is, where that is said
+pub record Measures (cs : List Bytes) (s : Bytes) (n : ℕ) (r : Measured) : Type 0 where
+  pub many : r .many ≡ placedFilters cs n (linesFrom s 0) .many
+  pub size : em (r .size) [] ≡ puts (textOf (placedFilters cs n (linesFrom s 0) .lines)) (em 0 [])
+  pub all : r .all ≡ true → allPlaced cs n (linesFrom s 0) ≡ true
+  pub few : r .many ≤ n

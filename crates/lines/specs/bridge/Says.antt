@@ -9,11 +9,15 @@ use Rattle.text.specs.Text.{Bytes, split, part}
 use Rattle.cursor.specs.declared.Cursor.{Cursor}
 use Rattle.algebra.specs.Tally.{Tally, bounds}
 use Rattle.algebra.specs.Reader.{malformed, overBound, got, refused}
-use Rattle.algebra.specs.bridge.Table.{Tail, opens}
+use Rattle.algebra.specs.bridge.Table.{Tail, patterns, one, _of_, opens}
 use Rattle.algebra.specs.bridge.Machine.{Want, want, wants, lineOf}
 use Rattle.words.specs.declared.Found.the-variants.{Is}
-use Rattle.words.specs.bridge.Code.{sortAt, rowOf, Tidy}
+use Rattle.words.specs.declared.Row.{Row as Code}
+use Rattle.words.specs.bridge.Code.{sortAt, groupsIn, rowOf, found, Tidy}
+use Rattle.words.specs.bridge.Words.{codeAt}
+use Rattle.scoping.specs.bridge.Spots.{noted}
 use Rattle.names.specs.bridge.Names.{Holds}
+use Rattle.lines.specs.declared.line.Asked.{Asked}
 use Rattle.lines.specs.declared.line.Line.{Line}
 use Rattle.lines.specs.declared.line.Line.the-variants.{Asks, Malformed, OverBound}
 use Rattle.lines.specs.bridge.Line.{Fields, columnsOf}
@@ -41,8 +45,25 @@ LineIs s starts sizes hints c sort level width m (Asks a) =
     × (m′ .lines ≡ suc (m .lines)) × (m′ .wide ≤ 64) × Holds s starts sizes hints (a .names) (m′ .names) × (a .names ≤ 1024)
     × Tidy sort (Is (a .row)) × (opens (sortAt sort) ≡ true → level ≡ 0 → ⊥)
 
--- the numbers of a good line are those of a field, its row is one of the table, and it has a level if it opens one
-abbrev pub Small : ℕ → ℕ → Line → Type 0
-Small sort level (Asks a) = (a .first < 4294967296) × (a .second < 4294967296) × Tidy sort (Is (a .row)) × (opens (sortAt sort) ≡ true → level ≡ 0 → ⊥)
-Small sort level Malformed = Unit {0}
-Small sort level OverBound = Unit {0}
+-- the row of a query's head: a pattern stands below it, which it doesn't hide, and no number counts it
+pub record Heads (r : Code) (n : ℕ) : Type 0 where
+  pub below : groupsIn 3 (r .below) ≡ one of patterns ∷ []
+  pub flag : r .flag ≡ 0
+  pub none : n ≡ 0
+
+-- what is known of a good line: its numbers are those of a field, its row is that of its word's number in the table, it has a level if it opens one, it is no line too many, and its word has two bytes if it is noted
+pub record Sure (words : List (List ℕ)) (c : Cursor) (sort level lines : ℕ) (a : Asked) : Type 0 where
+  pub first : a .first < 4294967296
+  pub second : a .second < 4294967296
+  pub tidy : Tidy sort (Is (a .row))
+  pub deep : opens (sortAt sort) ≡ true → level ≡ 0 → ⊥
+  pub number : a .number ≤ 56
+  pub row : found (codeAt words (a .number)) ≡ Is (a .row)
+  pub few : lines < 2048
+  pub long : noted (sortAt sort) ≡ true → c .at + 2 ≤ c .end
+  pub head : sort ≡ 7 → Heads (a .row) (a .first)
+
+abbrev pub Small : List (List ℕ) → Cursor → ℕ → ℕ → ℕ → Line → Type 0
+Small words c sort level lines (Asks a) = Sure words c sort level lines a
+Small words c sort level lines Malformed = Unit {0}
+Small words c sort level lines OverBound = Unit {0}

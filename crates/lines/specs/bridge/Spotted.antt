@@ -7,7 +7,7 @@ use Rattle.text.specs.Text.{Bytes, linesFrom}
 use Rattle.algebra.specs.bridge.Table.{patterns}
 use Rattle.scoping.specs.bridge.Places.{Mark, visible, covered, silent}
 use Rattle.scoping.specs.bridge.Walk.{state, tree}
-use Rattle.scoping.specs.bridge.Spots.{Spot, spot, trace, spotLine}
+use Rattle.scoping.specs.bridge.Spots.{Spot, spot, Node, trace, spotLine}
 
 -- the marks by their numbers
 abbrev pub markAt : ℕ → Mark
@@ -30,8 +30,9 @@ pub record Spotted (ns : List Bytes) (a : List (List ℕ)) (k : ℕ) (xs : List 
   pub are : spotsOf ns a k ≡ xs
   pub inside : (i : ℕ) → i < k → getD (getD a i []) 1 0 < length ns
 
--- the first k are all that the walk over the tree that stands in s from a place on finds, to the end of the text
+-- the first k are all that the walk over the tree that stands in s from a place on finds, to the end of the text; it notes these lines
 pub record Noted (s : Bytes) (from : ℕ) (ns : List Bytes) (a : List (List ℕ)) (k : ℕ) : Type 0 where
   pub spots : List Spot
-  pub walked : tree spotLine 64 patterns visible (state (linesFrom s from) (trace from [])) ≡ state [] (trace (length s) spots)
+  pub nodes : List Node
+  pub walked : tree spotLine 64 patterns visible (state (linesFrom s from) (trace from [] [])) ≡ state [] (trace (length s) spots nodes)
   pub kept : Spotted ns a k spots

@@ -10,10 +10,11 @@ use Rattle.text.specs.Field.{isVar}
 use Rattle.algebra.specs.bridge.Table.{Slot, Sort}
 use Rattle.scoping.specs.bridge.Places.{Mark}
 use Rattle.scoping.specs.bridge.Walk.{State, state, beneath, whole}
-use Rattle.scoping.specs.bridge.Spots.{Spot, spot, spotsIn, Trace, trace, spotLine}
+use Rattle.scoping.specs.bridge.Spots.{Spot, spot, spotsIn, Node, node, groupsBelow, noted, Trace, trace, spotLine}
 use Rattle.cursor.specs.declared.Cursor.{Cursor}
 use Rattle.words.specs.bridge.Code.{sortAt, rowOf}
 use Rattle.names.specs.bridge.Names.{listing, startsOf, sizesOf}
+use Rattle.lines.specs.declared.line.Asked.{Asked}
 use Rattle.lines.specs.declared.line.Line.{Line as Read}
 use Rattle.lines.specs.declared.line.Line.the-variants.{Asks, Malformed, OverBound}
 use Rattle.lines.specs.bridge.Spotted.{markAt, Spotted}
@@ -59,13 +60,17 @@ found m ss s c = spotsIn m ss 0 (c .at) (leftAt s c)
 abbrev pub oneSpot : Mark → ℕ → Bytes → List Spot
 oneSpot m at f = cond (isVar f) (spot at f m ∷ []) []
 
--- a good line up to c .end: its spots were noted, and what it asks for is still to be walked
+-- the line itself, if it is of a sort that is noted, behind so many spots
+abbrev pub lineNode : ℕ → ℕ → Asked → List Node
+lineNode sort k q = cond (noted (sortAt sort)) (node k (groupsBelow (rowOf (q .row) .below) (q .first ∷ q .second ∷ [])) ∷ []) []
+
+-- a good line up to c .end: its spots were noted, and what it asks for is still to be walked, once the line is noted itself
 unfoldable pub LineNotes : Bytes → List ℕ → List ℕ → ℕ → List (List ℕ) → ℕ → List ℕ → List ℕ → List (List ℕ) → Cursor → ℕ → ℕ → Read → Type 0
 LineNotes s a l n p k a′ l′ p′ c sort mark (Asks q) =
     (xs : List Spot) → Keeps s (store a l n p k) (c .at) xs →
     (ys : List Spot) × Keeps s (store a′ l′ (q .names) p′ (q .spots)) (c .end + 1) ys
-    × ((trees : Sort → Mark → State Trace → State Trace) (ls : List Line)
-    → beneath spotLine trees (eqb (q .row .flag) 1) (markAt mark) (rowOf (q .row) .below) (q .first ∷ q .second ∷ []) (state ls (trace (c .end + 1) ys))
-    ≡ whole spotLine trees (sortAt sort) (markAt mark) (split 9 (part (c .at) (c .end) s) ∷ ls) (trace (c .at) xs))
+    × ((trees : Sort → Mark → State Trace → State Trace) (ls : List Line) (ns : List Node)
+    → beneath spotLine trees (eqb (q .row .flag) 1) (markAt mark) (rowOf (q .row) .below) (q .first ∷ q .second ∷ []) (state ls (trace (c .end + 1) ys (ns ++ lineNode sort (length xs) q)))
+    ≡ whole spotLine trees (sortAt sort) (markAt mark) (split 9 (part (c .at) (c .end) s) ∷ ls) (trace (c .at) xs ns))
 LineNotes s a l n p k a′ l′ p′ c sort mark Malformed = Unit {0}
 LineNotes s a l n p k a′ l′ p′ c sort mark OverBound = Unit {0}

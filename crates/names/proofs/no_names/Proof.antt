@@ -10,6 +10,5 @@ no-names-spec =
     tie.close
     (tie.spec
     (λ c κs. search needs)
-    (λ c. let e = c .before .have-places .ensures (c .if1 .taken) in (column-length 0 _ ∙ e .0, column-length 1 _ ∙ e .0, e .1))
     (λ c κs. search needs)
-    (λ c. let e = c .clear .ensures in (column-length 0 _ ∙ e .0, column-length 1 _ ∙ e .0, e .1)))
+    (λ c. let e = c .before .before .all-entries .ensures in (column-length 0 _ ∙ e, column-length 1 _ ∙ e, c .all-places .ensures)))

@@ -9,7 +9,7 @@ use Rattle.names.proofs.probe.Statement.{statement}
 use Rattle.names.proofs.probe.Tie as tie
 
 abbrev Inv-loop : tie.InvT-loop
-Inv-loop f s table hints n p₀ left₀ p left = (p < 4096) × L.Seeks f s (startsOf table) (sizesOf table) hints n p left × L.Taken hints (placeOf f) p left
+Inv-loop f s table hints n p₀ left₀ p left = (p < 2048) × L.Seeks f s (startsOf table) (sizesOf table) hints n p left × L.Taken hints (placeOf f) p left
 
 abbrev μ-loop : tie.MeasureT-loop
 μ-loop f s table hints n p₀ left₀ p left = left

@@ -12,9 +12,9 @@ unfoldable pub hashOf : ℕ → Bytes → ℕ
 hashOf h [] = h
 hashOf h (b ∷ bs) = hashOf (((h + b) * 16777619) % 4294967296) bs
 
--- a name's place among the hints: the hash's top twelve bits
+-- a name's place among the hints: the hash's top eleven bits
 unfoldable pub placeOf : Bytes → ℕ
-placeOf f = hashOf 0 f / 1048576
+placeOf f = hashOf 0 f / 2097152
 
 -- a column of the table: the starts of its names, and their sizes
 unfoldable pub column : ℕ → List (List ℕ) → List ℕ
@@ -44,7 +44,7 @@ namesIn s t n = listing s (startsOf t) (sizesOf t) n
 
 -- the place after a place, around the end
 abbrev pub after : ℕ → ℕ
-after p = (p + 1) % 4096
+after p = (p + 1) % 2048
 
 -- of the k places from p on, none is empty before the first that holds the hint v
 unfoldable pub Leads : List ℕ → ℕ → ℕ → ℕ → Type 0
@@ -54,7 +54,7 @@ Leads hints v p (suc k) = (getD hints p 0 ≡ v → ⊥) → (getD hints p 0 ≡
 -- from its own place on, each name is led to: a name's hint is its number, and these are numbered from i on
 unfoldable pub HintedFrom : ℕ → List ℕ → List Bytes → Type 0
 HintedFrom i hints [] = Unit {0}
-HintedFrom i hints (x ∷ xs) = Leads hints i (placeOf x) 4096 × HintedFrom (suc i) hints xs
+HintedFrom i hints (x ∷ xs) = Leads hints i (placeOf x) 2048 × HintedFrom (suc i) hints xs
 
 -- the same from 1 on, since 0 is an empty place
 unfoldable pub Hinted : List ℕ → List Bytes → Type 0
@@ -68,8 +68,8 @@ pub record Grows (old new : List ℕ) : Type 0 where
 
 -- a hint that is put at a place is led to from another place on; past the last place it is put nowhere
 pub record Free (hints : List ℕ) (from at : ℕ) : Type 0 where
-  pub here : at < 4096 → (v : ℕ) → length hints ≡ 4096 → Grows hints (set hints at v) × Leads (set hints at v) v from 4096
-  pub none : 4096 ≤ at → (v : ℕ) → Grows hints hints × Leads hints v from 4096
+  pub here : at < 2048 → (v : ℕ) → length hints ≡ 2048 → Grows hints (set hints at v) × Leads (set hints at v) v from 2048
+  pub none : 2048 ≤ at → (v : ℕ) → Grows hints hints × Leads hints v from 2048
 
 -- a name more, if it is new
 abbrev pub kept : Bytes → List Bytes → List Bytes
@@ -77,7 +77,7 @@ kept f ns = cond (mem f ns) ns (ns ++ (f ∷ []))
 
 -- the table with n names lists those wanted; or n is 1,025, and they are more than it can list
 pub record Holds (s : Bytes) (starts sizes hints : List ℕ) (n : ℕ) (want : List Bytes) : Type 0 where
-  pub entries : (length starts ≡ 1024) × (length sizes ≡ 1024) × (length hints ≡ 4096)
+  pub entries : (length starts ≡ 1024) × (length sizes ≡ 1024) × (length hints ≡ 2048)
   pub high : n ≤ 1025
   pub fits : n ≤ 1024 → listing s starts sizes n ≡ want
   pub hinted : n ≤ 1024 → Hinted hints want

@@ -7,10 +7,10 @@ use Rattle.numbers.proofs.run.Statement.{statement}
 use Rattle.numbers.proofs.run.Tie as tie
 
 abbrev Inv-loop : tie.InvT-loop
-Inv-loop fd window₀ table₀ hints₀ out₀ at₀ to₀ window table hints out at to = length window ≡ length window₀
+Inv-loop fd window₀ words table₀ hints₀ out₀ at₀ to₀ window table hints out at to = length window ≡ length window₀
 
 abbrev μ-loop : tie.MeasureT-loop
-μ-loop fd window₀ table₀ hints₀ out₀ at₀ to₀ window table hints out at to = 1099511627776 - at
+μ-loop fd window₀ words table₀ hints₀ out₀ at₀ to₀ window table hints out at to = 1099511627776 - at
 
 pub run-spec : {M : Type 1} → statement M
 run-spec =

@@ -14,6 +14,7 @@ use Rattle.algebra.specs.declared.Answer.{Answer as Check}
 use Rattle.algebra.specs.declared.Answer.the-variants.{Good, Malformed, OverBound}
 use Rattle.answers.specs.Outcome.{Outcome, refused, written, then, refusedUnless}
 use Rattle.names.specs.bridge.Names.{listing}
+use Rattle.lines.specs.bridge.Noded.{Roomy}
 use Rattle.lines.specs.bridge.Spotted.{Noted}
 use Rattle.scoping.specs.Numbering.{byPlace}
 use Rattle.scoping.specs.Premises.{inside, differentPositions}
@@ -47,6 +48,10 @@ pub record KnownText (s : Bytes) (a l : List ℕ) (n : ℕ) (v : List (List ℕ)
 -- an array has room for all variables that a text within the bounds can have
 abbrev pub HasRoom : Bytes → List (List ℕ) → Type 0
 HasRoom s v = length s ≤ 16384 → length s ≤ 3 * length v
+
+-- an array has room for all lines that are noted of such a text
+abbrev pub HasNodes : Bytes → List (List ℕ) → Type 0
+HasNodes s b = length s ≤ 16384 → Roomy s b
 
 -- a text is a constant list of these lines
 pub record Terms (s : Bytes) (ks : List Pair) : Type 0 where

@@ -6,4 +6,4 @@ use Rattle.reader.proofs.next_end.Tie as tie
 
 pub next-end-spec : {M : Type 1} → statement M
 unfolding EndsAt
-next-end-spec = tie.close (tie.spec (λ c κs. search needs) (λ c. c .end-of-line .ensures (c .before .before .pre)))
+next-end-spec = tie.close (tie.spec (λ c κs. search needs) (λ c. c .end-from .ensures (c .before .before .pre)))

@@ -14,5 +14,5 @@ check-filters-spec =
     tie.close
     (tie.spec
     (λ c κs. search needs)
-    (λ c κs. (omega arith, holds-none _ _ _ _ (c .before .before .no-names .ensures .0) (c .before .before .no-names .ensures .1) (c .before .before .no-names .ensures .2)))
+    (λ c κs. let c2 = c .before .before in (omega arith, holds-none _ _ _ _ (c2 .no-names .ensures .0) (c2 .no-names .ensures .1) (c2 .no-names .ensures .2), c2 .before .before .before .before .pre .0))
     (λ c. told tallyFilters _ _ _ _ _ _ _ (check-filters (now (c .before .before .before .before .before .before .before .args .text))) (c .check-list .ensures)))

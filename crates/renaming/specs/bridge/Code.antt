@@ -11,20 +11,36 @@ use Rattle.algebra.specs.Reader.{reads}
 use Rattle.algebra.specs.Query.{Pair, mapping}
 use Rattle.algebra.specs.Texts.{readPairs}
 use Rattle.names.specs.bridge.Names.{listing}
+use Rattle.words.specs.bridge.Words.{Worded}
+use Rattle.lines.specs.bridge.Noded.{Noded}
 use Rattle.lines.specs.bridge.Spotted.{Noted, spotsOf}
 use Rattle.lists.specs.bridge.Pairs.{PairsTold}
 use Rattle.emit.specs.bridge.Emit.{Em, em, puts}
 use Rattle.scoping.specs.bridge.Becomes.{replacement, chosen}
 use Rattle.walking.specs.bridge.Code.{renames}
+use Rattle.walking.specs.bridge.Renamed.{Renamed}
 use Rattle.walking.specs.bridge.Rewritten.{rewritten}
 use Rattle.heads.specs.bridge.Known.{Known}
 use Rattle.renaming.specs.Rename.{becomes}
 
--- a text that is a tree's was checked, and its variables were noted
+-- a text that is a tree's was checked, and its variables and lines were noted
+pub record Recorded (tree : Bytes) (starts sizes hints : List ℕ) (n : ℕ) (spots : List (List ℕ)) (k : ℕ) (words nodes : List (List ℕ)) (m : ℕ) : Type 0 where
+  pub known : Known tree starts sizes hints n
+  pub noted : Noted tree 0 (listing tree starts sizes n) spots k
+  pub noded : Noded words nodes m (noted .nodes)
+  pub worded : Worded words
+
+-- its variables were noted
 pub record Surveyed (tree : Bytes) (starts sizes : List ℕ) (n : ℕ) (spots : List (List ℕ)) (k : ℕ) : Type 0 where
   pub hints : List ℕ
   pub known : Known tree starts sizes hints n
   pub noted : Noted tree 0 (listing tree starts sizes n) spots k
+
+-- and then renamed, by the sizes of their new names
+pub record Renaming (tree : Bytes) (starts sizes : List ℕ) (n : ℕ) (spots : List (List ℕ)) (k : ℕ) (spans : List ℕ) : Type 0 where
+  pub before : List (List ℕ)
+  pub surveyed : Surveyed tree starts sizes n before k
+  pub renamed : Renamed spans before 0 spots k
 
 -- a text that is a mapping's, and the first m entries tell its pairs
 abbrev pub KnownPairs : Bytes → List (List ℕ) → ℕ → Type 0

@@ -60,15 +60,15 @@ abbrev pub headAmount : List Below → List ℕ → ℕ
 headAmount [] cs = 0
 headAmount (b ∷ bs) cs = amountOf (b .amount) cs
 
-module _ {O : Type 0} (put : Mark → Row → Bytes → List Bytes → O → O) where
+module _ {O : Type 0} (put : Sort → Mark → Row → Bytes → List Bytes → O → O) where
   -- a line that is neither pattern nor expression, and the expression below it, if any
   unfoldable pub part : (Sort → Mark → State O → State O) → Sort → Mark → List Line → O → State O
   part trees s m [] o = state [] o
   part trees s m ([] ∷ ls) o = state ls o
   part trees s m ((w ∷ fs) ∷ ls) o =
       cond (eqb (headAmount (rowOr (rowFor s w) .below) (numberIn (getD fs 0 []) ∷ numberIn (getD fs 1 []) ∷ [])) 0)
-      (state ls (put m (rowOr (rowFor s w)) w fs o))
-      (trees expressions silent (state ls (put m (rowOr (rowFor s w)) w fs o)))
+      (state ls (put s m (rowOr (rowFor s w)) w fs o))
+      (trees expressions silent (state ls (put s m (rowOr (rowFor s w)) w fs o)))
 
   -- one child: expressions are silent, and a pattern that is hidden is marked so; other sorts stand below no tree
   unfoldable pub child : (Sort → Mark → State O → State O) → Bool → Mark → Sort → Bool → State O → State O
@@ -99,7 +99,7 @@ module _ {O : Type 0} (put : Mark → Row → Bytes → List Bytes → O → O) 
   whole trees s m ([] ∷ ls) o = state ls o
   whole trees s m ((w ∷ fs) ∷ ls) o =
       beneath trees (hides w) m (rowOr (rowFor s w) .below) (numberIn (getD fs 0 []) ∷ numberIn (getD fs 1 []) ∷ [])
-      (state ls (put m (rowOr (rowFor s w)) w fs o))
+      (state ls (put s m (rowOr (rowFor s w)) w fs o))
 
   -- a pattern or an expression, where d levels may still be opened
   unfoldable pub tree : ℕ → Sort → Mark → State O → State O

@@ -7,6 +7,7 @@ use Rattle.text.specs.Text.{Bytes}
 use Rattle.names.specs.bridge.Names.{listing, Hinted}
 use Rattle.scoping.specs.Sets.{Once}
 use Rattle.scoping.specs.bridge.Becomes.{replacement}
+use Rattle.walking.specs.bridge.Renamed.{newMark}
 
 -- the names of the table are told apart, and each is found
 pub record Named (s : Bytes) (starts sizes hints : List ℕ) (n : ℕ) : Type 0 where
@@ -26,6 +27,21 @@ pub record Inside (n : ℕ) (a : List (List ℕ)) (k : ℕ) : Type 0 where
 -- the names of the variables from number i up to r stay: each has no size to become
 unfoldable pub Stay : List (List ℕ) → List ℕ → ℕ → ℕ → Type 0
 Stay a spans i r = (j : ℕ) → i ≤ j → j < r → getD spans (getD (getD a j []) 1 0) 0 ≡ 0
+
+-- the marks of the first k variables say whose names become others, by the sizes of the new names
+pub record Marked (sizes : List ℕ) (a : List (List ℕ)) (k : ℕ) : Type 0 where
+  pub mark : (i : ℕ) → i < k → getD (getD a i []) 2 0 ≡ newMark sizes (getD (getD a i []) 1 0)
+
+-- the variables from number i up to r are not marked as becoming others
+unfoldable pub Unmarked : List (List ℕ) → ℕ → ℕ → Type 0
+Unmarked a i r = (j : ℕ) → i ≤ j → j < r → getD (getD a j []) 2 0 ≡ 4 → ⊥
+
+-- r is the first variable from number i on that is, or k
+pub record NextMarked (a : List (List ℕ)) (i k r : ℕ) : Type 0 where
+  pub low : i ≤ r
+  pub high : r ≤ k
+  pub before : Unmarked a i r
+  pub here : r < k → getD (getD a r []) 2 0 ≡ 4
 
 -- r is the first variable from number i on whose name becomes another, or k
 pub record NextRenamed (a : List (List ℕ)) (spans : List ℕ) (i k r : ℕ) : Type 0 where

@@ -25,7 +25,7 @@ bindings-of-spec =
     (λ c κs. search needs)
     (λ c. let p = c .before .before .before .before .before .before .before .before .before .before .before .before .pre .0 in let x = c .before .before .before .before .before .before .before .before .before .before .before .before .pre .1 in Wh.outside _ _ (p .0) (x .0) (p .1) (x .1) _ _ (S.says-at _ _ _ _ _ (c .before .before .before .before .before .before .before .before .outermost-projection .ensures) (c .before .before .before .before .before .before .line .given .1)) _ _ (c .before .before .before .read-columns .ensures .1) (listing-long _ _ _ _) (c .before .before .judge .result) (c .before .before .judge .ensures) _ (c .if1 .taken))
     (λ c. let c2 = c .before .before in let c4 = c2 .before .before in let c5 = c4 .before in let c8 = c5 .before .before .before in let c10 = c8 .before .before in let c14 = c10 .before .before .before .before in let p = c14 .pre .0 in let x = c14 .pre .1 in Wh.unusable _ _ (p .0) (x .0) (p .1) (x .1) _ _ (S.says-at _ _ _ _ _ (c10 .outermost-projection .ensures) (c8 .line .given .1)) _ _ (c5 .read-columns .ensures .1) (listing-long _ _ _ _) (c4 .judge .result) (c4 .judge .ensures) (c2 .if1 .left) _ (c .if2 .taken))
-    (λ c κs. let p = c .before .before .before .before .before .before .before .before .before .before .before .before .before .before .pre .0 in let x = c .before .before .before .before .before .before .before .before .before .before .before .before .before .before .pre .1 in (p, (_, S.says-at _ _ _ _ _ (c .before .before .before .before .before .before .before .before .before .before .outermost-projection .ensures) (c .before .before .before .before .before .before .before .before .line .given .1))))
+    (λ c κs. let p = c .before .before .before .before .before .before .before .before .before .before .before .before .before .before .pre .0 in let x = c .before .before .before .before .before .before .before .before .before .before .before .before .before .before .pre .1 in (p, (_, S.says-at _ _ _ _ _ (c .before .before .before .before .before .before .before .before .before .before .outermost-projection .ensures) (c .before .before .before .before .before .before .before .before .line .given .1)), c .before .before .before .before .before .before .before .before .before .before .before .before .before .before .pre .2))
     (λ c κs. let p = c .before .before .before .before .before .before .before .before .before .before .before .before .before .before .before .before .pre .0 in let x = c .before .before .before .before .before .before .before .before .before .before .before .before .before .before .before .before .pre .1 in (c .before .inner-end .ensures .low, c .before .inner-end .ensures .high, c .before .before .before .before .before .before .before .read-columns .ensures .0, R.sets-ended _ (x .0) (x .1), R.tree-short _ (p .0) (p .1), Wh.sets-short _ (x .0) (x .1)))
     (λ c. let c3 = c .before .before .before in let c4 = c3 .before in let c6 = c4 .before .before in let c8 = c6 .before .before in let c9 = c8 .before in let c12 = c9 .before .before .before in let c14 = c12 .before .before in let c18 = c14 .before .before .before .before in let p = c18 .pre .0 in let x = c18 .pre .1 in Wh.bindings-short _ _ (p .0) (x .0) (p .1) (x .1) _ _ (S.says-at _ _ _ _ _ (c14 .outermost-projection .ensures) (c12 .line .given .1)) _ _ (c9 .read-columns .ensures .1) (listing-long _ _ _ _) (c8 .judge .result) (c8 .judge .ensures) (c6 .if1 .left) (c4 .if2 .left) _ (c3 .inner-end .ensures) _ _ (c .before .has-room .ensures) (c .if3 .taken))
     (λ c κs. let p = c .before .before .before .before .before .before .before .before .before .before .before .before .before .before .before .before .before .before .before .before .pre .0 in let x = c .before .before .before .before .before .before .before .before .before .before .before .before .before .before .before .before .before .before .before .before .pre .1 in (c .before .before .before .before .before .inner-end .ensures .low, c .before .before .before .before .before .inner-end .ensures .high, c .before .before .before .before .before .before .before .before .before .before .before .read-columns .ensures .0, R.sets-ended _ (x .0) (x .1)))

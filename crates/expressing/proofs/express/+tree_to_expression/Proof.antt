@@ -23,31 +23,31 @@ use Rattle.words.proofs.word_at.Reads as word-at-reads
 use Rattle.expressing.proofs.express.+tree_to_expression.{statement}
 use Rattle.expressing.proofs.express.+tree_to_expression.Tie.{close}
 
-abbrev μ-tree-to-expression : Measures 4 tree-to-expression-kinds.ps ℕ
-μ-tree-to-expression κs a = a .1 .1 .1 .1 .1 .0
+abbrev μ-tree-to-expression : Measures 5 tree-to-expression-kinds.ps ℕ
+μ-tree-to-expression κs a = a .1 .1 .1 .1 .1 .1 .0
 
-abbrev tree-to-expression-at : ℕ → In 4 tree-to-expression-kinds.ps
+abbrev tree-to-expression-at : ℕ → In 5 tree-to-expression-kinds.ps
 tree-to-expression-at t =
     and
-    4
+    5
     tree-to-expression-kinds.ps
-    (is 4 tree-to-expression-kinds.ps μ-tree-to-expression t)
+    (is 5 tree-to-expression-kinds.ps μ-tree-to-expression t)
     tree-to-expression.Pre
 
-abbrev tree-to-expression-below : ℕ → In 4 tree-to-expression-kinds.ps
+abbrev tree-to-expression-below : ℕ → In 5 tree-to-expression-kinds.ps
 tree-to-expression-below t =
     and
-    4
+    5
     tree-to-expression-kinds.ps
-    (falls 4 tree-to-expression-kinds.ps _<_ μ-tree-to-expression t)
+    (falls 5 tree-to-expression-kinds.ps _<_ μ-tree-to-expression t)
     tree-to-expression.Pre
 
 abbrev tree-to-expression-Inv-loop : tree-to-expression-lts.InvT-loop
-tree-to-expression-Inv-loop tree columns n filters from left out₀ at end first expressed₀ to₀ next₀ parts₀ out expressed to next parts =
+tree-to-expression-Inv-loop tree columns n filters words from left out₀ at end first expressed₀ to₀ next₀ parts₀ out expressed to next parts =
     (length out ≡ length out₀) × X.Going (treeToExpression (namesIn tree columns n) (left - 1)) parts (linesFrom filters next) expressed (em to out) (severalParts (treeToExpression (namesIn tree columns n) (left - 1)) (partsBelow (split 9 (part from end filters))) (linesFrom filters (end + 1))) expressed₀ (em to₀ out₀)
 
 abbrev tree-to-expression-μ-loop : tree-to-expression-lts.MeasureT-loop
-tree-to-expression-μ-loop tree columns n filters from left out₀ at end first expressed₀ to₀ next₀ parts₀ out expressed to next parts =
+tree-to-expression-μ-loop tree columns n filters words from left out₀ at end first expressed₀ to₀ next₀ parts₀ out expressed to next parts =
     parts
 
 pub +tree-to-expression-spec : {M : Type 1} → statement M
@@ -74,9 +74,9 @@ pub +tree-to-expression-spec : {M : Type 1} → statement M
     (λ c. let a = c .before .before .before .before .before .before .args in let cs = namesIn (a .tree .now) (a .columns .now) (a .n) in X.no-line cs _ _ _ _ _ refl (c .before .before .if1 .left) _ (c .before .line-end .ensures) (c .if2 .taken) refl)
     (λ c κs. let a = c .before .before .before .before .before .before .args in let cs = namesIn (a .tree .now) (a .columns .now) (a .n) in (X.line-low cs _ _ (a .left) _ (c .before .before .if1 .left) (c .before .line-end .ensures) (c .if2 .left), c .before .line-end .ensures .high))
     (λ c. let h = c .before .before .before .line-end .ensures .high in let w = c .before .word-at .ensures .0 .high in omega arith)
-    (λ c κs. let h = c .before .before .before .before .line-end .ensures .high in let n = c .before .before .before .if2 .left in let w = c .before .before .word-at .ensures .0 .high in (c .before .before .before .before .before .before .before .before .before .pre .1, omega arith, omega arith))
+    (λ c κs. let h = c .before .before .before .before .line-end .ensures .high in let n = c .before .before .before .if2 .left in let w = c .before .before .word-at .ensures .0 .high in (c .before .before .before .before .before .before .before .before .before .pre .1 .0, omega arith, omega arith))
     (λ c. let h = c .before .before .before .before .before .before .before .line-end .ensures .high in let n = c .before .before .before .before .before .before .if2 .left in omega arith)
-    (λ c κs. let h = c .before .before .before .before .before .before .before .line-end .ensures .high in let n = c .before .before .before .before .before .before .if2 .left in omega arith)
+    (λ c κs. let h = c .before .before .before .before .before .before .before .line-end .ensures .high in let n = c .before .before .before .before .before .before .if2 .left in (omega arith, c .before .before .before .before .before .before .before .before .before .before .before .before .pre .1 .1))
     (λ c. let a = c .before .before .before .before .before .before .before .before .before .before .before .before .before .args in let cs = namesIn (a .tree .now) (a .columns .now) (a .n) in let w = c .before .before .before .before .before .before .word-at .ensures in (refl, rw (X.parts-here cs _ _ (a .left) _ (c .before .before .before .before .before .before .before .before .before .if1 .left) (c .before .before .before .before .before .before .before .before .line-end .ensures) (c .before .before .before .before .before .before .before .if2 .left) _ (w .0) _ (c .parts-below .ensures _ (w .1))) (X.going-start _ _ _ _ _)))
     (λ c. let n = c .before .before .before .before .before .before .before .before .before .before .before .if1 .left in omega arith)
     (λ c κs. let n = c .before .before .before .before .before .before .before .before .before .before .before .before .if1 .left in let m = c .before .before .before .before .before .before .before .before .before .before .before .before .before .before .before .before .pre .0 in (omega arith, c .before .before .before .before .before .before .before .before .before .before .before .before .before .before .before .before .pre .1))

@@ -16,12 +16,12 @@ use Rattle.expressing.proofs.place.put_every.Statement.{statement}
 use Rattle.expressing.proofs.place.put_every.Tie as tie
 
 abbrev Inv-loop : tie.InvT-loop
-Inv-loop tree columns n filters out₀ at to₀ from₀ left₀ out to from left =
+Inv-loop tree columns n filters words lines out₀ at to₀ from₀ left₀ out to from left =
     (length out ≡ length out₀) × (allPlaced (namesIn tree columns n) left (linesFrom filters from) ≡ true)
-    × (puts (textOf (placedFilters (namesIn tree columns n) left (linesFrom filters from) .lines)) (em to out) ≡ puts (textOf (placedFilters (namesIn tree columns n) (length filters) (linesFrom filters 0) .lines)) (em at out₀))
+    × (puts (textOf (placedFilters (namesIn tree columns n) left (linesFrom filters from) .lines)) (em to out) ≡ puts (textOf (placedFilters (namesIn tree columns n) lines (linesFrom filters 0) .lines)) (em at out₀))
 
 abbrev μ-loop : tie.MeasureT-loop
-μ-loop tree columns n filters out₀ at to₀ from₀ left₀ out to from left = left
+μ-loop tree columns n filters words lines out₀ at to₀ from₀ left₀ out to from left = left
 
 pub put-every-spec : {M : Type 1} → statement M
 put-every-spec =

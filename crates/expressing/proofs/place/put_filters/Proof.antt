@@ -13,11 +13,11 @@ use Rattle.expressing.proofs.place.put_filters.Statement.{statement}
 use Rattle.expressing.proofs.place.put_filters.Tie as tie
 
 abbrev Inv-loop : tie.InvT-loop
-Inv-loop tree columns n filters out₀ at many₀ to₀ from₀ left₀ out many to from left =
-    (length out ≡ length out₀) × C.Going (namesIn tree columns n) filters left from many (em to out) (placedFilters (namesIn tree columns n) (length filters) (linesFrom filters 0)) (em at out₀) × (many + left ≤ length filters)
+Inv-loop tree columns n filters words lines out₀ at many₀ to₀ from₀ left₀ out many to from left =
+    (length out ≡ length out₀) × C.Going (namesIn tree columns n) filters left from many (em to out) (placedFilters (namesIn tree columns n) lines (linesFrom filters 0)) (em at out₀) × (many + left ≤ lines)
 
 abbrev μ-loop : tie.MeasureT-loop
-μ-loop tree columns n filters out₀ at many₀ to₀ from₀ left₀ out many to from left =
+μ-loop tree columns n filters words lines out₀ at many₀ to₀ from₀ left₀ out many to from left =
     left
 
 pub put-filters-spec : {M : Type 1} → statement M

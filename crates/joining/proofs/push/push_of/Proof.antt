@@ -24,13 +24,14 @@ push-of-spec =
     (λ c κs. search needs)
     (λ c. search needs)
     (λ c. let c2 = c .before .before in let c4 = c2 .before .before in let c5 = c4 .before in let c6 = c5 .before in let c7 = c6 .before in let c8 = c7 .before in let c12 = c8 .before .before .before .before in A.answered (written (c12 .args .query .now)) (pushConstantsOutcome (c12 .args .query .now) (c12 .args .constants .now)) (c12 .args .out .now) (c2 .copy2 .last .1 .0) (c2 .copy2 .result) (Calls.other-root _ _ _ (c12 .pre .0 .read) (c12 .pre .1) (c8 .is-select-or-ask .result) (c8 .is-select-or-ask .ensures _ (c12 .pre .0 .read)) (c7 .if1 .left) (O.no-project _ _ _ ((c6 .tree-start .ensures .1 _ (c12 .pre .0 .read)) .lines) _ (c5 .is-project .ensures) (c4 .if2 .taken))) (c2 .copy2 .ensures))
-    (λ c κs. let c2 = c .before .before in let c3 = c2 .before in let c9 = c3 .before .before .before .before .before .before in (((O.a-project _ _ _ ((c3 .tree-start .ensures .1 _ (c9 .pre .0 .read)) .lines) _ (c2 .is-project .ensures) (c .before .if2 .left)) .0, K.stands-as _ _ _ _ _ _ _ _ ((O.a-project _ _ _ ((c3 .tree-start .ensures .1 _ (c9 .pre .0 .read)) .lines) _ (c2 .is-project .ensures) (c .before .if2 .left)) .2) (K.query-stands _ _ _ _ _ (c9 .pre .0) _ (c3 .tree-start .ensures .0) (c3 .tree-start .ensures .1 _ (c9 .pre .0 .read)))), (c9 .pre .1)))
+    (λ c κs. let c2 = c .before .before .before in let c3 = c2 .before in let c9 = c3 .before .before .before .before .before .before in (((O.a-project _ _ _ ((c3 .tree-start .ensures .1 _ (c9 .pre .0 .read)) .lines) _ (c2 .is-project .ensures) (c .before .before .if2 .left)) .0, K.stands-as _ _ _ _ _ _ _ _ ((O.a-project _ _ _ ((c3 .tree-start .ensures .1 _ (c9 .pre .0 .read)) .lines) _ (c2 .is-project .ensures) (c .before .before .if2 .left)) .2) (K.query-stands _ _ _ _ _ (c9 .pre .0) _ (c3 .tree-start .ensures .0) (c3 .tree-start .ensures .1 _ (c9 .pre .0 .read)))), (c9 .pre .1), c .before .before .before .before .before .before .before .before .before .before .pre .2, c .before .before .before .before .before .before .before .before .before .before .pre .3))
     (λ c. search needs)
-    (λ c. let c2 = c .before .before in
-    let c4 = c2 .before .before in
+    (λ c. search needs)
+    (λ c. let c2 = c .before .before .before in
+    let c4 = c2 .before .before .before in
     let c5 = c4 .before in
     let c6 = c5 .before in
     let c7 = c6 .before in
     let c8 = c7 .before in
     let c12 = c8 .before .before .before .before in
-    let x = (O.a-project _ _ _ ((c6 .tree-start .ensures .1 _ (c12 .pre .0 .read)) .lines) _ (c5 .is-project .ensures) (c4 .if2 .left)) in A.answered (pushedBehind (take (c6 .tree-start .result) (c12 .args .query .now)) (x .0) (c12 .pre .1 .list)) (pushConstantsOutcome (c12 .args .query .now) (c12 .args .constants .now)) (c12 .args .out .now) (c2 .push-in-project .last .1 .1 .1 .1 .1 .1 .0) (c2 .push-in-project .result) (Calls.pushes _ _ _ (c12 .pre .0 .read) (c12 .pre .1) (c8 .is-select-or-ask .result) (c8 .is-select-or-ask .ensures _ (c12 .pre .0 .read)) (c7 .if1 .left) _ _ (c6 .tree-start .ensures .1 _ (c12 .pre .0 .read)) (x .1)) (c2 .push-in-project .ensures (x .0) (c12 .pre .1 .list) (K.stands-as _ _ _ _ _ _ _ _ (x .2) (K.query-stands _ _ _ _ _ (c12 .pre .0) _ (c6 .tree-start .ensures .0) (c6 .tree-start .ensures .1 _ (c12 .pre .0 .read)))) (c12 .pre .1 .terms))))
+    let x = (O.a-project _ _ _ ((c6 .tree-start .ensures .1 _ (c12 .pre .0 .read)) .lines) _ (c5 .is-project .ensures) (c4 .if2 .left)) in A.answered (pushedBehind (take (c6 .tree-start .result) (c12 .args .query .now)) (x .0) (c12 .pre .1 .list)) (pushConstantsOutcome (c12 .args .query .now) (c12 .args .constants .now)) (c12 .args .out .now) (c2 .push-in-project .last .1 .1 .1 .1 .1 .1 .1 .1 .0) (c2 .push-in-project .result) (Calls.pushes _ _ _ (c12 .pre .0 .read) (c12 .pre .1) (c8 .is-select-or-ask .result) (c8 .is-select-or-ask .ensures _ (c12 .pre .0 .read)) (c7 .if1 .left) _ _ (c6 .tree-start .ensures .1 _ (c12 .pre .0 .read)) (x .1)) (c2 .push-in-project .ensures (x .0) (c12 .pre .1 .list) (K.stands-as _ _ _ _ _ _ _ _ (x .2) (K.query-stands _ _ _ _ _ (c12 .pre .0) _ (c6 .tree-start .ensures .0) (c6 .tree-start .ensures .1 _ (c12 .pre .0 .read)))) (c12 .pre .1 .terms))))

@@ -10,10 +10,11 @@ check-one-spec =
     tie.close
     (tie.spec
     (λ c. search needs)
-    (λ c κs. let c5 = c .before .before .before .before in c5 .pre)
+    (λ c. search needs)
+    (λ c κs. let c5 = c .before .before .before .before .before in c5 .pre)
     (λ c. search needs)
     (λ c. search needs)
     (λ c. search needs)
-    (λ c. let c4 = c .before .before .before .before in W.tells-as _ _ _ _ _ _ (G.Good _ _) (c .before .r .given .1) (c4 .note-one .ensures .0))
-    (λ c. let c3 = c .before .before .before in W.tells-as _ _ _ _ _ _ G.Malformed (c .enum-told .given .1) (c3 .note-one .ensures .0))
-    (λ c. let c3 = c .before .before .before in W.tells-as _ _ _ _ _ _ G.OverBound (c .enum-told2 .given .1) (c3 .note-one .ensures .0)))
+    (λ c. let c5 = c .before .before .before .before .before in W.tells-as _ _ _ _ _ _ (G.Good _ _ _) (c .before .r .given .1) (c5 .note-one .ensures .0))
+    (λ c. let c4 = c .before .before .before .before in W.tells-as _ _ _ _ _ _ G.Malformed (c .enum-told .given .1) (c4 .note-one .ensures .0))
+    (λ c. let c4 = c .before .before .before .before in W.tells-as _ _ _ _ _ _ G.OverBound (c .enum-told2 .given .1) (c4 .note-one .ensures .0)))

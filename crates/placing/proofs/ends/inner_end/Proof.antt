@@ -11,5 +11,5 @@ inner-end-spec =
     (tie.spec
     (λ c κs. search needs)
     (λ c. let t = c .before .before .before .pre in B.ends-with-text _ (t .0 .0) (t .0 .1) (t .1 .0) _ (t .1 .1) _ (c .before .is-bare-down .ensures) (c .if1 .taken))
-    (λ c κs. let t = c .before .before .before .pre in (t .1 .1 .high, tree-short _ (t .0 .0) (t .0 .1)))
+    (λ c κs. let t = c .before .before .before .pre in (t .1 .1 .high, tree-short _ (t .0 .0) (t .0 .1), t .2))
     (λ c. search needs))

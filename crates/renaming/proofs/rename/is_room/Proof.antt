@@ -9,7 +9,7 @@ pub is-room-spec : {M : Type 1} → statement M
 is-room-spec =
     tie.close
     (tie.spec
-    (λ c. let k = c .before .before .before .pre in R.rename-roomy _ _ _ _ _ _ (k .0) _ _ _ (k .1) _ (c .if1 .taken))
+    (λ c. let k = c .before .before .before .pre in R.rename-roomy _ _ _ _ _ _ _ _ _ (k .0) (k .1) _ (c .if1 .taken))
     (λ c. search needs)
-    (λ c κs. T.surveyed-ready _ _ _ _ _ _ (c .before .before .before .before .pre .0))
-    (λ c. let k = c .before .before .before .before .before .before .pre in R.rename-measured _ _ _ _ _ _ (k .0) _ _ _ (k .1) _ _ _ _ (c .before .put-renamed .ensures)))
+    (λ c κs. T.renaming-ready _ _ _ _ _ _ _ (c .before .before .before .before .pre .0))
+    (λ c. let k = c .before .before .before .before .before .before .pre in R.rename-measured _ _ _ _ _ _ _ _ _ (k .0) (k .1) _ _ _ _ (c .before .put-renamed .ensures)))

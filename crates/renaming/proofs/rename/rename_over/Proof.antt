@@ -12,7 +12,7 @@ rename-over-spec =
     tie.close
     (tie.spec
     (λ c κs. search needs)
-    (λ c. let k = c .before .before .before .before .before .pre in R.rename-short _ _ _ _ _ _ (k .0) _ _ _ (k .1) _ (c .before .is-room .ensures .1 (not-true (c .before .is-room .result) (c .if1 .taken))))
-    (λ c κs. T.surveyed-ready _ _ _ _ _ _ (c .before .before .before .before .before .before .pre .0))
+    (λ c. let k = c .before .before .before .before .before .pre in R.rename-short _ _ _ _ _ _ _ _ _ (k .0) (k .1) _ (c .before .is-room .ensures .1 (not-true (c .before .is-room .result) (c .if1 .taken))))
+    (λ c κs. T.renaming-ready _ _ _ _ _ _ _ (c .before .before .before .before .before .before .pre .0))
     (λ c. search needs)
-    (λ c. let k = c .before .before .before .before .before .before .before .before .before .pre in let g = c .before .before .before .before .before .before .before .before .before .good in R.rename-written _ _ _ _ _ _ (k .0) _ _ _ (k .1) _ _ _ (c .before .before .before .before .before .is-room .ensures .0 (not-false (c .before .before .before .before .before .is-room .result) (c .before .before .before .before .if1 .left))) (omega (arith, g)) (c .before .before .put-renamed .ensures)))
+    (λ c. let k = c .before .before .before .before .before .before .before .before .before .pre in let g = c .before .before .before .before .before .before .before .before .before .good in R.rename-written _ _ _ _ _ _ _ _ _ (k .0) (k .1) _ _ _ (c .before .before .before .before .before .is-room .ensures .0 (not-false (c .before .before .before .before .before .is-room .result) (c .before .before .before .before .if1 .left))) (omega (arith, g)) (c .before .before .put-renamed .ensures)))

@@ -1,7 +1,6 @@
 -- `sides::writing/put_side` meets its contract. Assumes nothing.
 use borrow.Author.Needs.{needs}
 use mathlib.Core.Path.{_≡_, _∙_}
-use native.Mathlib.Nat.{le-refl}
 use Rattle.sides.proofs.Trees as T
 use Rattle.sides.proofs.writing.put_side.Statement.{statement}
 use Rattle.sides.proofs.writing.put_side.Tie as tie
@@ -11,7 +10,7 @@ put-side-spec =
     tie.close
     (tie.spec
     (λ c κs. search needs)
-    (λ c κs. (T.tree-high _ _ _ _ _ _ _ (c .before .before .before .before .before .before .before .before .before .before .pre .0 .2 .stands), T.tree-once _ _ _ _ _ _ _ (c .before .before .before .before .before .before .before .before .before .before .pre .0 .2 .stands), T.tree-inside _ _ _ _ _ _ _ (c .before .before .before .before .before .before .before .before .before .before .pre .0 .2 .stands) _ (le-refl _), T.columns-few _ _ _ _ _ _ _ _ _ (c .before .before .before .before .before .before .before .before .before .before .pre .0 .2), T.inner-stands _ _ _ _ _ _ _ _ _ (c .before .before .before .before .before .before .before .before .before .before .pre .0 .2)))
-    (λ c κs. (c .before .before .before .before .before .before .before .before .before .before .before .before .before .before .pre .1, c .before .before .before .before .before .before .before .before .before .before .before .before .before .before .pre .2, c .before .before .before .before .before .before .before .before .before .before .before .before .before .before .pre .3, c .before .before .before .before .before .before .before .before .before .before .before .before .before .before .pre .4))
+    (λ c κs. let c10 = c .before .before .before .before .before .before .before .before .before .before in let p = c10 .pre .0 .3 in let r = c10 .pre .0 .4 in (T.tree-high _ _ _ _ _ _ _ (p .stands), T.tree-once _ _ _ _ _ _ _ (p .stands), T.inner-inside _ _ _ _ _ _ _ _ _ p _ _ r, T.inner-marked _ _ _ _ _ _ _ _ _ p _ _ r, T.inner-few _ _ _ _ _ _ _ _ _ p _ _ r, T.marked-inner-stands _ _ _ _ _ _ _ _ _ p _ _ r))
+    (λ c κs. let c14 = c .before .before .before .before .before .before .before .before .before .before .before .before .before .before in (c14 .pre .1, c14 .pre .2, c14 .pre .3, c14 .pre .4))
     (λ c. search needs)
-    (λ c. λ from x new ks t r k u. c .before .before .put-values .ensures ks k u ∙ T.inner-written _ from _ _ _ _ _ _ x t _ _ _ new r _ _ (c .before .before .before .before .before .before .put-renamed .ensures) _ ∙ c .before .before .before .before .before .before .before .before .before .before .put-join .ensures _))
+    (λ c. let c6 = c .before .before .before .before .before .before in let c10 = c6 .before .before .before .before in λ from x v new ks t m r k u. c .before .before .put-values .ensures ks k u ∙ T.inner-written _ from _ _ _ _ _ _ x t _ _ _ new r _ _ (T.marked-inner _ from _ _ _ _ _ _ x t _ _ m _ _ _ (c6 .put-renamed .ensures)) _ ∙ c10 .put-join .ensures _))
