@@ -246,7 +246,7 @@ fn answered(room: usize, call: impl Fn(&mut [u8], &mut usize) -> u8) -> Result<V
     loop {
         let mut out = vec![0; room];
         let mut size = 0;
-        match refusal(call(&mut out, &mut size)) {
+        match Refusal::of(call(&mut out, &mut size)) {
             None => {
                 out.truncate(size);
                 out.shrink_to_fit();
@@ -256,17 +256,6 @@ fn answered(room: usize, call: impl Fn(&mut [u8], &mut usize) -> u8) -> Result<V
             Some(refusal) => return Err(refusal),
         }
     }
-}
-
-/// What a number stands for; 0 is an answer.
-fn refusal(number: u8) -> Option<Refusal> {
-    if number == 0 {
-        return None;
-    }
-    let known = Refusal::ALL
-        .into_iter()
-        .find(|refusal| refusal.number() == number);
-    Some(known.unwrap_or_else(|| panic!("gandeuch.h names no number {number}")))
 }
 
 /// The examples of the README, as tests.

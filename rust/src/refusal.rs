@@ -6,26 +6,29 @@ use std::fmt::{Display, Formatter, Result};
 /// Why a call has no answer. Texts are checked in the order of the parameters ([`Malformed`](Refusal::Malformed),
 /// [`OverBound`](Refusal::OverBound)); then 5, 4, 3, 7 in this order, as far as a call has them.
 #[derive(Debug, Clone, Copy, PartialEq, Eq, Hash)]
+#[non_exhaustive]
 pub enum Refusal {
     /// A text is malformed.
-    Malformed = 1,
+    Malformed,
     /// A text is over a bound.
-    OverBound = 2,
+    OverBound,
     /// A position is outside its projection.
-    Outside = 3,
+    Outside,
     /// A tree's root isn't project.
-    NotProject = 4,
+    NotProject,
     /// The heads of two queries differ, or their kind can't be merged.
-    NotMergeable = 5,
+    NotMergeable,
     /// The answer is longer than the room for it. No function of this crate returns it, as they make room for every answer.
-    TooShort = 6,
+    TooShort,
     /// A value can't be used: a tuple or a map.
-    NotUsable = 7,
+    NotUsable,
+    /// A number that this version of the crate has no name for.
+    Other(u8),
 }
 
 impl Refusal {
-    /// All of them, by rising number.
-    pub const ALL: [Self; 7] = [
+    /// All that have a name, by rising number.
+    pub const ALL: &'static [Self] = &[
         Self::Malformed,
         Self::OverBound,
         Self::Outside,
@@ -37,7 +40,25 @@ impl Refusal {
 
     /// The number that the library returns for it.
     pub fn number(self) -> u8 {
-        self as u8
+        match self {
+            Self::Malformed => 1,
+            Self::OverBound => 2,
+            Self::Outside => 3,
+            Self::NotProject => 4,
+            Self::NotMergeable => 5,
+            Self::TooShort => 6,
+            Self::NotUsable => 7,
+            Self::Other(number) => number,
+        }
+    }
+
+    /// What a number stands for; 0 is an answer.
+    pub(crate) fn of(number: u8) -> Option<Self> {
+        let known = Self::ALL.iter().find(|known| known.number() == number);
+        match number {
+            0 => None,
+            _ => Some(known.copied().unwrap_or(Self::Other(number))),
+        }
     }
 }
 
@@ -51,6 +72,7 @@ impl Display for Refusal {
             Self::NotMergeable => "the heads of two queries differ, or can't be merged",
             Self::TooShort => "the answer is longer than the room for it",
             Self::NotUsable => "a value can't be used",
+            Self::Other(number) => return write!(f, "refused by the number {number}"),
         })
     }
 }

@@ -38,9 +38,16 @@ fn room_has_an_end() {
 }
 
 #[test]
-#[should_panic(expected = "no number 8")]
-fn an_unknown_number_is_no_refusal() {
-    let _ = answered(1, |_, _| 8);
+fn every_number_but_0_is_a_refusal() {
+    for number in 1..=u8::MAX {
+        let Err(refusal) = answered(MOST, |_, _| number) else {
+            panic!("{number} is an answer");
+        };
+        assert_eq!(refusal.number(), number);
+        assert_eq!(refusal == Refusal::Other(number), number > 7);
+        assert!(!refusal.to_string().is_empty());
+    }
+    assert_eq!(answered(1, |_, _| 0), Ok(vec![]));
 }
 
 #[test]

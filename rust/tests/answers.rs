@@ -83,7 +83,7 @@ fn bindings_and_filters() {
 
 #[test]
 fn numbers_and_messages() {
-    for (index, refusal) in Refusal::ALL.into_iter().enumerate() {
+    for (index, &refusal) in Refusal::ALL.iter().enumerate() {
         assert_eq!(usize::from(refusal.number()), index + 1);
         let error: Box<dyn std::error::Error> = Box::new(refusal);
         assert!(!error.to_string().is_empty());
