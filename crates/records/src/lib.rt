@@ -10,10 +10,10 @@ ghost use Prim.Native.Nat.{_≤_, _<_};
 // No file goes on behind this place.
 pub const LIMIT: u64 = 1099511627776;
 
-// The kinds are 0 to 9. These two say that the file has ended, and that what stands there is no record.
-pub const NONE: u32 = 10;
+// The kinds are 0 to 99. These two say that the file has ended, and that what stands there is no record.
+pub const NONE: u32 = 100;
 
-pub const BAD: u32 = 11;
+pub const BAD: u32 = 101;
 
 // A record by places in the bytes that were read, and the place of the next one in the file.
 pub struct Record {
@@ -114,7 +114,7 @@ fn record_in(s: &[u8], at: u64) -> Record
     ensures { λ r. ⌜ at < r .next ⌝ }
 {
     let h = read_header(s);
-    if 9 < h.kind {
+    if 99 < h.kind {
         return no_record(BAD);
     }
     let text = h.end + 1;
