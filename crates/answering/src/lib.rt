@@ -1,20 +1,28 @@
 // What the programs share: an input's texts go to a call, and its answer to standard output.
 use answers::Answer;
 use answers::number;
+use answers::size_of;
 use binding::bindings::bindings;
+use emit::put;
+use emit::put_all;
 use expressing::filters::filters;
 use joining::patterns::merge_patterns;
 use joining::push::push_constants;
 use joining::queries::merge_queries;
 use libc::STDOUT_FILENO;
+use naming::numbers::put_decimal;
 use negating::negate;
 use parted::part_texts;
 use parted::text_at;
 use renaming::rename::rename;
 use renaming::scope::scope;
 use text::piece;
+ghost use mathlib.Core.Path.{_≡_};
+ghost use Prim.Native.Nat.{_≤_};
+ghost use lib.ListN.{length, take};
 ghost use Rattle.answers.specs.Outcome.{Answered};
 ghost use Rattle.answering.specs.Answering.{scopeInput, renameInput, mergeInput, mergeQueriesInput, pushInput, negateInput, bindingsInput, filtersInput};
+ghost use Rattle.answering.specs.Printed.{refusalLine, Prints};
 
 // The bytes of the longest input, and of the longest answer.
 const LIMIT: usize = 65536;
@@ -169,12 +177,30 @@ pub fn answer_filters(input: &[u8], out: &mut [u8]) -> Answer
     )
 }
 
-// The answer's bytes, or the line `refused` with its number: whether all was written.
-pub fn write_answer(answer: Answer, out: &[u8]) -> bool {
-    if let Answer::Written(size) = answer {
-        return io::write_all(STDOUT_FILENO, piece(out, 0, size));
+const REFUSED: [u8; 8] = *b"refused\t";
+
+// The line of a refusal, from the buffer's start on: how many bytes.
+fn put_refusal(number: u8, out: &mut [u8]) -> usize
+    ensures { λ r. ⌜ (length (refusalLine number) ≤ length (now (out .entry)) → take r (now (out .exit)) ≡ refusalLine number) ⌝ }
+{
+    let a = put_all(out, 0, &REFUSED);
+    let b = put_decimal(out, a, number as usize);
+    put(out, b, 10)
+}
+
+// What is printed of an answer, from its buffer's start on: how many bytes.
+pub fn put_printed(answer: Answer, out: &mut [u8]) -> usize
+    ensures { λ r. ⌜ Prints answer (now (out .entry)) (now (out .exit)) r ⌝ }
+{
+    let n = number(answer);
+    if n == 0 {
+        return size_of(answer);
     }
-    let mut line = *b"refused\t0\n";
-    line[8] = 48 + number(answer) % 10;
-    io::write_all(STDOUT_FILENO, &line)
+    put_refusal(n, out)
+}
+
+// The answer's bytes, or the line `refused` with its number: whether all was written.
+pub fn write_answer(answer: Answer, out: &mut [u8]) -> bool {
+    let size = put_printed(answer, out);
+    io::write_all(STDOUT_FILENO, piece(out, 0, size))
 }

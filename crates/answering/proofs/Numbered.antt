@@ -1,0 +1,111 @@
+-- No program's outcome refuses with 0, so what a program prints is what its outcome says (`program-prints`). Assumes nothing.
+use Prim.Native.Nat.{ℕ, _+_}
+use mathlib.Core.Path.{_≡_}
+use mathlib.Core.Bool.{Bool, true, false, cond}
+use mathlib.Core.List.{List}
+use mathlib.Core.Option.{Option, none, some}
+use native.Mathlib.Omega.{arith}
+use lib.ListN.{length, take}
+use lib.Dec.{leb, eqb}
+use Rattle.text.specs.Text.{Bytes}
+use Rattle.parted.specs.Parted.{texts}
+use Rattle.algebra.specs.Query.{Query, mapping}
+use Rattle.algebra.specs.Texts.{readTree, readQuery, readPairs, readSets, readFilters}
+use Rattle.answers.specs.declared.Answer.{Answer}
+use Rattle.answers.specs.Outcome.{Outcome, refused, written, Answered}
+use Rattle.answers.proofs.Numbered.{Numbered, written-numbered, then-numbered, test-numbered, not-zero}
+use Rattle.renaming.specs.Scope.{scopeOutcome}
+use Rattle.renaming.specs.Rename.{renameOutcome}
+use Rattle.merging.specs.Sides.{Constant}
+use Rattle.scoping.specs.Premises.{inside}
+use Rattle.scoping.specs.Sets.{all}
+use Rattle.merging.specs.Request.{Projection, asProject, readConstants, positions}
+use Rattle.merging.specs.Merge.{isSelectOrAsk}
+use Rattle.merging.specs.Push.{pushed, pushConstants, pushConstantsOutcome}
+use Rattle.merging.specs.Negate.{negateOutcome}
+use Rattle.merging.proofs.Returned.{merge-patterns-numbered, merge-queries-numbered}
+use Rattle.negating.specs.Projections.{outermostProjection}
+use Rattle.filtering.specs.IfFound.{ifFound}
+use Rattle.filtering.specs.Bindings.{positionsInside, valuesUsable, bindingsOutcome}
+use Rattle.filtering.specs.Filters.{referencesInside, filtersOutcome}
+use Rattle.answering.specs.Answering.{inputOutcome, scopeInput, renameInput, mergeInput, mergeQueriesInput, pushInput, negateInput, bindingsInput, filtersInput}
+use Rattle.answering.specs.Printed.{printed, Prints}
+
+-- ---- calls
+
+scope-numbered : (tree : Bytes) → Numbered (scopeOutcome tree)
+unfolding scopeOutcome
+scope-numbered tree = then-numbered (readTree tree) _ λ p. written-numbered _
+
+rename-numbered : (tree pairs : Bytes) → Numbered (renameOutcome tree pairs)
+unfolding renameOutcome
+rename-numbered tree pairs = then-numbered (readTree tree) _ λ p. then-numbered (readPairs mapping pairs) _ λ xs. written-numbered _
+
+pushed-numbered : (q : Query) (ks : List Constant) (o : Option Projection) → Numbered (pushed q ks o)
+unfolding pushed
+pushed-numbered q ks none = written-numbered _
+pushed-numbered q ks (some x) = test-numbered 3 (inside (x .columns) (positions ks)) _ (λ z. omega arith) (written-numbered _)
+
+either-numbered : (t : Bool) (o p : Outcome) → Numbered o → Numbered p → Numbered (cond t o p)
+either-numbered true o p a b = a
+either-numbered false o p a b = b
+
+push-numbered : (query constants : Bytes) → Numbered (pushConstantsOutcome query constants)
+unfolding pushConstantsOutcome pushConstants
+push-numbered query constants =
+    then-numbered (readQuery query) _ λ q. then-numbered (readConstants constants) _ λ ks.
+    either-numbered (isSelectOrAsk (q .kind)) _ _ (pushed-numbered q ks (asProject (q .tree))) (written-numbered _)
+
+negate-numbered : (query : Bytes) → Numbered (negateOutcome query)
+unfolding negateOutcome
+negate-numbered query = then-numbered (readQuery query) _ λ q. written-numbered _
+
+bindings-numbered : (tree sets : Bytes) → Numbered (bindingsOutcome tree sets)
+unfolding bindingsOutcome
+bindings-numbered tree sets =
+    then-numbered (readTree tree) _ λ p. then-numbered (readSets sets) _ λ xs.
+    test-numbered 3 (ifFound (outermostProjection p) λ cs. positionsInside cs xs) _ (λ z. omega arith)
+    (test-numbered 7 (ifFound (outermostProjection p) λ cs. valuesUsable xs) _ (λ z. omega arith) (written-numbered _))
+
+filters-numbered : (tree filters : Bytes) → Numbered (filtersOutcome tree filters)
+unfolding filtersOutcome
+filters-numbered tree filters =
+    then-numbered (readTree tree) _ λ p. then-numbered (readFilters filters) _ λ fs.
+    test-numbered 3 (ifFound (outermostProjection p) λ cs. all (referencesInside cs) fs) _ (λ z. omega arith) (written-numbered _)
+
+-- ---- programs
+
+module _ (s : Bytes) where
+  input-numbered : (n : ℕ) (call : List Bytes → Outcome) → ((ts : List Bytes) → Numbered (call ts)) → Numbered (inputOutcome n call s)
+  unfolding inputOutcome Numbered
+  input-numbered n call f =
+      either-numbered (leb (length s) 65536) _ _
+      (either-numbered (eqb (length (texts s)) (n + 1)) (call (texts s)) (refused 1) (f (texts s)) (λ z. omega arith)) (λ z. omega arith)
+
+  pub scope-input-numbered : Numbered (scopeInput s)
+  scope-input-numbered = input-numbered 0 _ λ ts. scope-numbered _
+
+  pub rename-input-numbered : Numbered (renameInput s)
+  rename-input-numbered = input-numbered 1 _ λ ts. rename-numbered _ _
+
+  pub merge-input-numbered : Numbered (mergeInput s)
+  merge-input-numbered = input-numbered 4 _ λ ts. merge-patterns-numbered _ _ _ _ _
+
+  pub merge-queries-input-numbered : Numbered (mergeQueriesInput s)
+  merge-queries-input-numbered = input-numbered 4 _ λ ts. merge-queries-numbered _ _ _ _ _
+
+  pub push-input-numbered : Numbered (pushInput s)
+  push-input-numbered = input-numbered 1 _ λ ts. push-numbered _ _
+
+  pub negate-input-numbered : Numbered (negateInput s)
+  negate-input-numbered = input-numbered 0 _ λ ts. negate-numbered _
+
+  pub bindings-input-numbered : Numbered (bindingsInput s)
+  bindings-input-numbered = input-numbered 1 _ λ ts. bindings-numbered _ _
+
+  pub filters-input-numbered : Numbered (filtersInput s)
+  filters-input-numbered = input-numbered 1 _ λ ts. filters-numbered _ _
+
+-- the contract of `put_printed` and that of the program's call, together
+pub program-prints : (o : Outcome) (before answered now : Bytes) (a : Answer) (r : ℕ) → Numbered o → length before ≡ 65536 → Answered o before answered a → Prints a answered now r → take r now ≡ printed o
+program-prints o before answered now a r h l e p = p o before (not-zero o h) l e
