@@ -24,7 +24,7 @@
 
 #define GANDEUCH_VERSION "0.1.0"
 
-/* What a call returns. */
+/* What a call returns. A new call may bring new numbers; every number but 0 is a refusal. */
 enum {
     GANDEUCH_WRITTEN = 0,       /* the answer stands in `out` */
     GANDEUCH_MALFORMED = 1,     /* a text is malformed */
