@@ -171,6 +171,14 @@ pub rest-moved : (s a b h : List ℕ) (p q : Place) (a′ b′ h′ : List ℕ) 
 rest-moved s a b h p q a′ b′ h′ us vs r e g ρ ws m st =
     subst (λ (i : ℕ). Went s a′ b′ h′ ρ (vs ++ ws) (run bounds (linesFrom s i) ρ (us ++ ws) m) r) (e .at) (g ρ ws m (stood-moved s a b h q p m (record { at = sym (e .at); lines = sym (e .lines); names = sym (e .names); fault = sym (e .fault) }) st))
 
+-- one after the other
+pub rest-then : (s a b h : List ℕ) (p : Place) (a′ b′ h′ : List ℕ) (us vs : List Want) (q : Place) (a″ b″ h″ : List ℕ) (ws : List Want) (r : Place) → Rest s a b h p a′ b′ h′ us vs q → q .fault ≡ 0 → Rest s a′ b′ h′ q a″ b″ h″ vs ws r → Rest s a b h p a″ b″ h″ us ws r
+rest-then s a b h p a′ b′ h′ us vs q a″ b″ h″ ws r f z g ρ ts m st = went-on s ρ a′ b′ h′ a″ b″ h″ (vs ++ ts) (ws ++ ts) _ q r (f ρ ts m st) z (λ m′ st′. g ρ ts m′ st′)
+
+-- to a place that is told by another cursor
+pub rest-to : (s a b h : List ℕ) (p : Place) (a′ b′ h′ : List ℕ) (us vs : List Want) (q r : Place) → SamePlace q r → Rest s a b h p a′ b′ h′ us vs q → Rest s a b h p a′ b′ h′ us vs r
+rest-to s a b h p a′ b′ h′ us vs q r e f ρ ws m st = went-moved s a′ b′ h′ ρ (vs ++ ws) _ q r e (f ρ ws m st)
+
 -- a query's head asks for its tree
 pub head-goes : (s a b h : List ℕ) (p : Place) (a′ b′ h′ : List ℕ) (us : List Want) (level : ℕ) (row : Code) (first second : ℕ) (r : Place) → (r .fault ≡ 0 → Heads row first) → Rest s a b h p a′ b′ h′ us (groups 3 (row .below) level first second) r
     → Rest s a b h p a′ b′ h′ us (want (sortAt 2) level 0 ∷ []) r
@@ -230,3 +238,7 @@ module _ (s a b h : List ℕ) (p : Place) (a′ b′ h′ : List ℕ) (w : Want)
 
   pub lines-all : Lines s a b h p a′ b′ h′ w n k q → k ≤ 0 → Goes s a b h p a′ b′ h′ (replicate n w) q
   lines-all ls e ρ ws m st = went-as s ρ a′ b′ h′ _ _ _ q (ap (λ (i : ℕ). replicate i w ++ ws) (let z : k ≡ 0 = omega arith in z)) (ls ρ ws m st)
+
+-- one line, from a place that is told by another cursor
+pub goes-one : (s a b h : List ℕ) (p q : Place) (a′ b′ h′ : List ℕ) (w : Want) (n : ℕ) (r : Place) → SamePlace p q → n ≡ 1 → Goes s a b h q a′ b′ h′ (replicate n w) r → Goes s a b h p a′ b′ h′ (w ∷ []) r
+goes-one s a b h p q a′ b′ h′ w n r e o g = goes-moved s a b h p q a′ b′ h′ (w ∷ []) r e (subst (λ (k : ℕ). Goes s a b h q a′ b′ h′ (replicate k w) r) o g)

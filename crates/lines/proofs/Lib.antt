@@ -20,5 +20,7 @@ pub mod WalkLaw
 pub mod NotesLaw
 pub mod WalksLaw
 pub mod GroupsLaw
+pub mod SortLaw
+pub mod OneLaw
 pub mod ReadLaw
 pub mod LentLaw

@@ -23,21 +23,6 @@ use Rattle.lines.proofs.RepeatLaw.{follows-along, follows-fine, follows
 use Rattle.lines.proofs.SlotLaw.{le-or-lt}
 use Rattle.lines.proofs.LineLaw.{columns-bare}
 
--- ---- which sorts open a level
-
-flags : List ℕ
-flags = 0 ∷ 0 ∷ 1 ∷ 1 ∷ 0 ∷ 0 ∷ 0 ∷ 0 ∷ 1 ∷ 0 ∷ 0 ∷ 1 ∷ []
-
-pub any-default : {A : Type 0} (l : List A) (i : ℕ) (d d′ : A) → i < length l → getD l i d ≡ getD l i d′
-any-default [] i d d′ h = absurd (omega arith)
-any-default (x ∷ l) zero d d′ h = refl
-any-default (x ∷ l) (suc i) d d′ h = any-default l i d d′ (omega arith)
-
-pub opens-flag : (k : ℕ) → k < 12 → eqb (getD (0 ∷ 0 ∷ 1 ∷ 1 ∷ 0 ∷ 0 ∷ 0 ∷ 0 ∷ 1 ∷ 0 ∷ 0 ∷ 1 ∷ []) k 0) 1 ≡ opens (sortAt k)
-unfolding flags
-opens-flag k h =
-    sym (List·getD-map (λ (x : ℕ). eqb x 1) flags k 0) ∙ (any-default (map (λ (x : ℕ). eqb x 1) flags) k false true h ∙ List·getD-map opens sorts k parts)
-
 -- ---- what is left at a cursor
 
 split-some : (b : ℕ) (xs : Bytes) → split b xs ≡ [] → ⊥

@@ -17,7 +17,7 @@ use Rattle.cursor.specs.declared.Cursor.{Cursor}
 use Rattle.cursor.specs.bridge.Cursor.{lineAt, lineDone}
 use Rattle.algebra.specs.declared.Answer.{Answer}
 use Rattle.algebra.specs.declared.Answer.the-variants as A
-use Rattle.algebra.specs.bridge.Table.{Sort, heads, parts, sorts, Below, opens}
+use Rattle.algebra.specs.bridge.Table.{Sort, patterns, heads, Below, opens}
 use Rattle.algebra.specs.bridge.Machine.{Check}
 use Rattle.scoping.specs.bridge.Places.{Mark, visible, covered, silent, under}
 use Rattle.scoping.specs.bridge.Walk.{State, state, times as many, child, beneath, whole, tree}
@@ -39,8 +39,7 @@ use Rattle.lines.specs.bridge.Run.{Started, Told, Tells}
 use Rattle.lines.specs.bridge.Noded.{nodeAt, nodesOf, Noded, Roomy}
 use Rattle.lines.specs.bridge.Spotted.{markAt, spotsOf, Spotted}
 use Rattle.lines.specs.bridge.Stored.{store, Keeps, lineNode, LineNotes}
-use Rattle.lines.specs.bridge.Walks.{Marks, walkAt, Book, bookAt, Full, NodePut, Walks, LineWalks, HeadWalks, entryOf, markUnder, answerOf, Charts}
-use Rattle.lines.proofs.SaysLaw.{any-default}
+use Rattle.lines.specs.bridge.Walks.{Marks, walkAt, Book, bookAt, Full, NodePut, Walks, LineWalks, HeadWalks, entryOf, markUnder, markAlone, answerOf, Charts}
 use Rattle.lines.proofs.SlotLaw.{le-or-lt}
 use Rattle.lines.proofs.StoreLaw.{spots-long}
 use Rattle.lines.proofs.WalkLaw.{group-next, group-none, child-is, times-next, times-done}
@@ -80,12 +79,6 @@ last-one k h = go (eqb k 1) refl
     go false e = sym (ne-eqb (k - 1) 0 (λ z. eqb-false k 1 e (omega (arith, z, h))))
 
 -- ---- lines that are noted
-
--- the sorts by their numbers
-pub noted-flag : (k : ℕ) → k < 12 → eqb (getD (0 ∷ 0 ∷ 1 ∷ 1 ∷ 0 ∷ 1 ∷ 1 ∷ 0 ∷ 0 ∷ 0 ∷ 0 ∷ 0 ∷ []) k 0) 1 ≡ noted (sortAt k)
-noted-flag k h =
-    sym (List·getD-map (λ (x : ℕ). eqb x 1) (0 ∷ 0 ∷ 1 ∷ 1 ∷ 0 ∷ 1 ∷ 1 ∷ 0 ∷ 0 ∷ 0 ∷ 0 ∷ 0 ∷ []) k 0)
-    ∙ (any-default (map (λ (x : ℕ). eqb x 1) (0 ∷ 0 ∷ 1 ∷ 1 ∷ 0 ∷ 1 ∷ 1 ∷ 0 ∷ 0 ∷ 0 ∷ 0 ∷ 0 ∷ [])) k false false h ∙ List·getD-map noted sorts k parts)
 
 module _ (b : List (List ℕ)) (m sort before : ℕ) (x : Asked) where
   pub node-none : (t : Bool) → t ≡ noted (sortAt sort) → t ≡ false → NodePut b m sort before x b m
@@ -221,6 +214,15 @@ module _ (s : Bytes) where
   unfolding Walks
   walks-from A p q B r f e w x k = let u = w x (subst (λ (i : ℕ). Full s A i x) (sym e) k) in (u .0, u .1, u .2 ∙ ap (λ (i : ℕ). f (state (linesFrom s i) (trace i (x .spots) (x .nodes)))) e)
 
+  -- nothing was walked yet
+  pub walks-none : (A : Book) (p : Place) → Walks s A p A p (λ st. st)
+  unfolding Walks
+  walks-none A p x k = (x, k, refl)
+
+  pub walks-then : (A : Book) (p : Place) (B : Book) (q : Place) (C : Book) (r : Place) (f : State Trace → State Trace) → Walks s A p B q (λ st. st) → Walks s B q C r f → Walks s A p C r f
+  unfolding Walks
+  walks-then A p B q C r f v w x k = let u = v x k in let y = w (u .0) (u .1) in (y .0, y .1, y .2 ∙ ap f (u .2))
+
   module _ (A : Book) (p : Place) (B : Book) (level sort mark : ℕ) (t : Taken) (line : LineWalks s A p B sort mark t) where
     pub entry-alone : t .row .below ≡ 0 → Walks s A p B (t .place) (entryOf level sort (markAt mark))
     unfolding Walks LineWalks
@@ -245,12 +247,23 @@ module _ (s : Bytes) where
       let u = line x f in
       (u .0, u .1, λ trees. ap₂ (λ (bs : List Below) (n : ℕ). beneath spotLine trees (eqb n 1) visible bs (t .first ∷ t .second ∷ []) (walkAt s (t .place) (u .0))) (sym (k .below)) (sym (k .flag)) ∙ u .2 trees)
 
-  pub head-alone : (A : Book) (p : Place) (B : Book) (t : Taken) (sort mark : ℕ) → sort ≡ 7 → mark ≡ 0 → Heads (t .row) (t .first) → LineWalks s A p B sort mark t → HeadWalks s A p B (t .place)
-  head-alone A p B t sort mark e z k line = head-walked A p B t k (subst (λ (m : ℕ). LineWalks s A p B 7 m t) z (subst (λ (i : ℕ). LineWalks s A p B i mark t) e line))
+  pub head-alone : (A : Book) (p : Place) (B : Book) (t : Taken) (sort mark : ℕ) → sort ≡ 7 → markAt mark ≡ visible → Heads (t .row) (t .first) → LineWalks s A p B sort mark t → HeadWalks s A p B (t .place)
+  unfolding LineWalks
+  head-alone A p B t sort mark e z k line = head-walked A p B t k (λ x f.
+      let u = line x f in
+      (u .0, u .1, λ trees. subst₂ (λ (i : ℕ) (m : Mark). beneath spotLine trees (eqb (t .row .flag) 1) m (rowOf (t .row) .below) (t .first ∷ t .second ∷ []) (walkAt s (t .place) (u .0)) ≡ whole spotLine trees (sortAt i) m (linesFrom s (p .cursor .at)) (trace (p .cursor .at) (x .spots) (x .nodes))) e z (u .2 trees)))
 
   pub head-from : (A : Book) (p q : Place) (B : Book) (r : Place) → q .cursor .at ≡ p .cursor .at → HeadWalks s A q B r → HeadWalks s A p B r
   unfolding HeadWalks
   head-from A p q B r e w x k = let u = w x (subst (λ (i : ℕ). Full s A i x) (sym e) k) in (u .0, u .1, λ trees. u .2 trees ∙ ap (λ (i : ℕ). whole spotLine trees heads visible (linesFrom s i) (trace i (x .spots) (x .nodes))) e)
+
+  pub head-moved : (A : Book) (p : Place) (B : Book) (q r : Place) → r .cursor .at ≡ q .cursor .at → HeadWalks s A p B q → HeadWalks s A p B r
+  unfolding HeadWalks
+  head-moved A p B q r e w x k = let u = w x k in (u .0, subst (λ (i : ℕ). Full s B i (u .0)) (sym e) (u .1), λ trees. ap (λ (i : ℕ). trees patterns visible (state (linesFrom s i) (trace i (u .0 .spots) (u .0 .nodes)))) e ∙ u .2 trees)
+
+  pub head-then : (A : Book) (p : Place) (B : Book) (q : Place) (C : Book) (r : Place) → Walks s A p B q (λ st. st) → HeadWalks s B q C r → HeadWalks s A p C r
+  unfolding Walks HeadWalks
+  head-then A p B q C r v w x k = let u = v x k in let y = w (u .0) (u .1) in (y .0, y .1, λ trees. y .2 trees ∙ ap (λ (st : State Trace). whole spotLine trees heads visible (st .lines) (st .output)) (u .2))
 
   pub query-walked : (A : Book) (p : Place) (B : Book) (q : Place) (C : Book) (r : Place) (level : ℕ) → (level ≡ 0 → ⊥) → HeadWalks s A p B q → Walks s B q C r (entryOf level 2 visible) → Walks s A p C r (entryOf level 7 visible)
   unfolding Walks HeadWalks tree
@@ -374,7 +387,7 @@ full-start s words a l h w b p0 st q room = record {
 
 pub charted : (s : Bytes) (words : List (List ℕ)) (a l h : List ℕ) (w b : List (List ℕ)) (a′ l′ : List ℕ) (w′ b′ : List (List ℕ)) (sort level : ℕ) (p0 p : Place) (t : Answer) (r : Noting) → Started p0 → Holds s a l h 0 [] → Told s p t
     → (answerOf r ≡ t) × ((n k m : ℕ) → r ≡ N.Good n k m → (t ≡ A.Good n) × (k ≡ p .spots) × (m ≡ p .nodes))
-    → (p .fault ≡ 0 → Walks s (bookAt a l w words b p0) p0 (bookAt a′ l′ w′ words b′ p) p (entryOf level sort (markAt 0)))
+    → (p .fault ≡ 0 → Walks s (bookAt a l w words b p0) p0 (bookAt a′ l′ w′ words b′ p) p (entryOf level sort (markAlone sort)))
     → Charts s words a′ l′ w w′ b′ sort level r
 unfolding Charts Walks
 charted s words a l h w b a′ l′ w′ b′ sort level p0 p t (N.Good n k m) st q told is walks = λ room.
@@ -385,7 +398,7 @@ charted s words a l h w b a′ l′ w′ b′ sort level p0 p t (N.Good n k m) s
       (let f = u .1 .keeps .few in let m = z .2 in omega arith),
       u .0 .spots,
       u .0 .nodes,
-      ap (λ (i : ℕ). entryOf level sort visible (state (linesFrom s i) (trace i [] []))) (sym (st .at)) ∙ sym (u .2) ∙ ap₂ (λ (ls : List Line) (i : ℕ). state ls (trace i (u .0 .spots) (u .0 .nodes))) (lines-end s (p .cursor .at) (z .1)) e,
+      ap (λ (i : ℕ). entryOf level sort (markAlone sort) (state (linesFrom s i) (trace i [] []))) (sym (st .at)) ∙ sym (u .2) ∙ ap₂ (λ (ls : List Line) (i : ℕ). state ls (trace i (u .0 .spots) (u .0 .nodes))) (lines-end s (p .cursor .at) (z .1)) e,
       subst (λ (i : ℕ). Spotted (listing s a′ l′ i) w′ k (u .0 .spots)) (z .2) (subst (λ (j : ℕ). Spotted (listing s a′ l′ (p .n)) w′ j (u .0 .spots)) (sym (g .1)) (u .1 .keeps .spots)),
       λ all. subst (λ (j : ℕ). Noded words b′ j (u .0 .nodes)) (sym (g .2)) (u .1 .noded all),
     )

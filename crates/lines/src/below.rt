@@ -1,5 +1,5 @@
 // What a line asks for: groups of lines of one sort.
-use crate::line::opens_level;
+use crate::sorts::opens_level;
 ghost use mathlib.Core.Path.{_≡_};
 ghost use Prim.Native.Nat.{_/_, _%_, _≤_, _<_};
 ghost use Rattle.lines.specs.bridge.Says.{below};

@@ -67,8 +67,6 @@ fn check_from(
         q,
         level,
         sort,
-        0,
-        0,
         text,
         words,
         table,
@@ -129,20 +127,7 @@ fn head_from(
     let mut q = p;
     let cursor = q.cursor.moved_to(next);
     q.cursor = cursor;
-    check_entry(
-        q,
-        level,
-        7,
-        0,
-        0,
-        text,
-        words,
-        table,
-        hints,
-        spots,
-        nodes,
-        false,
-    )
+    check_entry(q, level, 7, text, words, table, hints, spots, nodes, false)
 }
 
 // The same by a line reader.
@@ -390,8 +375,6 @@ pub fn check_list(
             p,
             d,
             sort,
-            0,
-            0,
             s,
             words,
             table,

@@ -18,6 +18,7 @@ ghost use lib.ListN.{replicate};
 ghost use lib.Dec.{eqb};
 ghost use Rattle.algebra.specs.bridge.Machine.{want};
 ghost use Rattle.algebra.specs.bridge.Table.{opens};
+ghost use Rattle.scoping.specs.bridge.Places.{visible};
 ghost use Rattle.scoping.specs.bridge.Walk.{times as many, child, beneath, tree};
 ghost use Rattle.scoping.specs.bridge.Spots.{spotLine};
 ghost use Rattle.words.specs.bridge.Code.{sortAt, groupsIn, sortsIn};
@@ -26,10 +27,10 @@ ghost use Rattle.lines.specs.bridge.Says.{below};
 ghost use Rattle.lines.specs.bridge.Below.{groups};
 ghost use Rattle.lines.specs.bridge.Run.{Ready, Runs};
 ghost use Rattle.lines.specs.bridge.Spotted.{markAt};
-ghost use Rattle.lines.specs.bridge.Walks.{Notes, HeadNotes, entryOf};
+ghost use Rattle.lines.specs.bridge.Walks.{Notes, HeadNotes, entryOf, markUnder, markAlone};
 
 // A line of a sort, with all that it asks for; or, where it is not wanted whole, the line alone.
-pub fn check_entry(
+fn check_line(
     p: Place,
     level: u8,
     sort: u8,
@@ -49,7 +50,7 @@ pub fn check_entry(
     ensures walks { λ r. ⌜ (whole ≡ true → r .fault ≡ 0 → sort ≤ 7 → Notes (now (s .entry)) (now (words .entry)) (now (table .entry)) (now (spots .entry)) (now (nodes .entry)) p (now (table .exit)) (now (spots .exit)) (now (nodes .exit)) r (entryOf level sort (markAt mark))) ⌝ }
     ensures deep { λ r. ⌜ (r .fault ≡ 0 → opens (sortAt sort) ≡ true → level ≡ 0 → ⊥) ⌝ }
     ensures head { λ r. ⌜ (whole ≡ false → sort ≡ 7 → Runs (now (s .entry)) (now (table .entry)) (now (hints .entry)) p (want (sortAt sort) level width ∷ []) (want (sortAt 2) (below sort level) 0 ∷ []) (now (table .exit)) (now (hints .exit)) r) ⌝ }
-    ensures shown { λ r. ⌜ (whole ≡ false → sort ≡ 7 → mark ≡ 0 → HeadNotes (now (s .entry)) (now (words .entry)) (now (table .entry)) (now (spots .entry)) (now (nodes .entry)) p (now (table .exit)) (now (spots .exit)) (now (nodes .exit)) r) ⌝ }
+    ensures shown { λ r. ⌜ (whole ≡ false → sort ≡ 7 → markAt mark ≡ visible → HeadNotes (now (s .entry)) (now (words .entry)) (now (table .entry)) (now (spots .entry)) (now (nodes .entry)) p (now (table .exit)) (now (spots .exit)) (now (nodes .exit)) r) ⌝ }
 {
     let w = Wanted {
         sort,
@@ -110,6 +111,7 @@ fn check_below(
             hints,
             spots,
             nodes,
+            true,
         );
         if q.fault != 0 {
             return q;
@@ -119,7 +121,7 @@ fn check_below(
     q
 }
 
-// The lines that the cursor awaits, each with all that it asks for.
+// The lines that the cursor awaits, each with all that it asks for; or, where they are not wanted whole, the lines alone.
 fn check_lines(
     p: Place,
     w: Wanted,
@@ -130,17 +132,21 @@ fn check_lines(
     hints: &mut [u16; 2048],
     spots: &mut [Spot],
     nodes: &mut [Node],
+    whole: bool,
 ) -> Place
     requires { ⌜ (w .sort ≤ 11) × Ready (now s) p × Worded (now words) ⌝ }
-    ensures { λ r. ⌜ Runs (now (s .entry)) (now (table .entry)) (now (hints .entry)) p (replicate (p .cursor .awaited) (want (sortAt (w .sort)) (w .level) (w .width))) [] (now (table .exit)) (now (hints .exit)) r ⌝ }
-    ensures ready { λ r. ⌜ (r .fault ≡ 0 → (p .cursor .at ≤ r .cursor .at) × Ready (now (s .entry)) r) ⌝ }
-    ensures walks { λ r. ⌜ (r .fault ≡ 0 → w .sort ≤ 6 → Notes (now (s .entry)) (now (words .entry)) (now (table .entry)) (now (spots .entry)) (now (nodes .entry)) p (now (table .exit)) (now (spots .exit)) (now (nodes .exit)) r (many (child spotLine (tree spotLine (w .level)) (eqb flag 1) (markAt (w .mark)) (sortAt (w .sort))) (p .cursor .awaited))) ⌝ }
+    ensures { λ r. ⌜ (whole ≡ true → Runs (now (s .entry)) (now (table .entry)) (now (hints .entry)) p (replicate (p .cursor .awaited) (want (sortAt (w .sort)) (w .level) (w .width))) [] (now (table .exit)) (now (hints .exit)) r) ⌝ }
+    ensures ready { λ r. ⌜ (r .fault ≡ 0 → (p .cursor .at ≤ r .cursor .at) × Ready (now (s .entry)) r × (0 < p .cursor .awaited → (p .cursor .at < r .cursor .at) × (opens (sortAt (w .sort)) ≡ true → w .level ≡ 0 → ⊥))) ⌝ }
+    ensures walks { λ r. ⌜ (whole ≡ true → r .fault ≡ 0 → w .sort ≤ 6 → Notes (now (s .entry)) (now (words .entry)) (now (table .entry)) (now (spots .entry)) (now (nodes .entry)) p (now (table .exit)) (now (spots .exit)) (now (nodes .exit)) r (many (child spotLine (tree spotLine (w .level)) (eqb flag 1) (markAt (w .mark)) (sortAt (w .sort))) (p .cursor .awaited))) ⌝ }
+    ensures one { λ r. ⌜ (p .cursor .awaited ≡ 1 → whole ≡ true → r .fault ≡ 0 → w .sort ≤ 7 → Notes (now (s .entry)) (now (words .entry)) (now (table .entry)) (now (spots .entry)) (now (nodes .entry)) p (now (table .exit)) (now (spots .exit)) (now (nodes .exit)) r (entryOf (w .level) (w .sort) (markUnder (w .sort) (eqb flag 1) true (markAt (w .mark))))) ⌝ }
+    ensures head { λ r. ⌜ (p .cursor .awaited ≡ 1 → whole ≡ false → w .sort ≡ 7 → Runs (now (s .entry)) (now (table .entry)) (now (hints .entry)) p (want (sortAt (w .sort)) (w .level) (w .width) ∷ []) (want (sortAt 2) (below (w .sort) (w .level)) 0 ∷ []) (now (table .exit)) (now (hints .exit)) r) ⌝ }
+    ensures shown { λ r. ⌜ (p .cursor .awaited ≡ 1 → whole ≡ false → w .sort ≡ 7 → markAt (w .mark) ≡ visible → HeadNotes (now (s .entry)) (now (words .entry)) (now (table .entry)) (now (spots .entry)) (now (nodes .entry)) p (now (table .exit)) (now (spots .exit)) (now (nodes .exit)) r) ⌝ }
 {
     let mut q = p;
     while 0 < q.cursor.awaited {
         let c = q.cursor;
         let mark = mark_below(w.sort, flag, c.awaited == 1, w.mark);
-        q = check_entry(
+        q = check_line(
             q,
             w.level,
             w.sort,
@@ -152,7 +158,7 @@ fn check_lines(
             hints,
             spots,
             nodes,
-            true,
+            whole,
         );
         if q.fault != 0 {
             return q;
@@ -161,4 +167,47 @@ fn check_lines(
         q.cursor = cursor;
     }
     q
+}
+
+// A line of a sort, with all that it asks for; or, where it is not wanted whole, the line alone.
+pub fn check_entry(
+    p: Place,
+    level: u8,
+    sort: u8,
+    s: &[u8],
+    words: &[WordRow; 56],
+    table: &mut [Entry; 1024],
+    hints: &mut [u16; 2048],
+    spots: &mut [Spot],
+    nodes: &mut [Node],
+    whole: bool,
+) -> Place
+    requires { ⌜ (sort ≤ 11) × Ready (now s) p × Worded (now words) ⌝ }
+    ensures { λ r. ⌜ (whole ≡ true → Runs (now (s .entry)) (now (table .entry)) (now (hints .entry)) p (want (sortAt sort) level 0 ∷ []) [] (now (table .exit)) (now (hints .exit)) r) ⌝ }
+    ensures ready { λ r. ⌜ (r .fault ≡ 0 → (p .cursor .at < r .cursor .at) × Ready (now (s .entry)) r) ⌝ }
+    ensures walks { λ r. ⌜ (whole ≡ true → r .fault ≡ 0 → sort ≤ 7 → Notes (now (s .entry)) (now (words .entry)) (now (table .entry)) (now (spots .entry)) (now (nodes .entry)) p (now (table .exit)) (now (spots .exit)) (now (nodes .exit)) r (entryOf level sort (markAlone sort))) ⌝ }
+    ensures deep { λ r. ⌜ (r .fault ≡ 0 → opens (sortAt sort) ≡ true → level ≡ 0 → ⊥) ⌝ }
+    ensures head { λ r. ⌜ (whole ≡ false → sort ≡ 7 → Runs (now (s .entry)) (now (table .entry)) (now (hints .entry)) p (want (sortAt sort) level 0 ∷ []) (want (sortAt 2) (below sort level) 0 ∷ []) (now (table .exit)) (now (hints .exit)) r) ⌝ }
+    ensures shown { λ r. ⌜ (whole ≡ false → sort ≡ 7 → HeadNotes (now (s .entry)) (now (words .entry)) (now (table .entry)) (now (spots .entry)) (now (nodes .entry)) p (now (table .exit)) (now (spots .exit)) (now (nodes .exit)) r) ⌝ }
+{
+    let mut q = p;
+    let cursor = q.cursor.awaiting(1);
+    q.cursor = cursor;
+    check_lines(
+        q,
+        Wanted {
+            sort,
+            level,
+            width: 0,
+            mark: 0,
+        },
+        0,
+        s,
+        words,
+        table,
+        hints,
+        spots,
+        nodes,
+        whole,
+    )
 }

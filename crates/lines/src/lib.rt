@@ -6,5 +6,6 @@ pub mod fields;
 mod line;
 mod place;
 mod slots;
+pub mod sorts;
 mod variables;
 mod wanted;

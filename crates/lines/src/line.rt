@@ -2,6 +2,7 @@
 use crate::fields::Spot;
 use crate::slots::slots;
 use crate::slots::tail;
+use crate::sorts::opens_level;
 use crate::wanted::Wanted;
 use cursor::Cursor;
 use names::Entry;
@@ -75,17 +76,6 @@ fn fields(
         second: a.second,
         columns: t.number,
     }
-}
-
-// Which sorts of lines open a level or an entry of their own.
-const OPENS: [u8; 12] = [0, 0, 1, 1, 0, 0, 0, 0, 1, 0, 0, 1];
-
-pub fn opens_level(sort: u8) -> bool
-    requires { ⌜ sort ≤ 11 ⌝ }
-    ensures { λ r. ⌜ r ≡ opens (sortAt sort) ⌝ }
-{
-    let i = sort as usize;
-    OPENS[i] == 1
 }
 
 // How many spots there are behind a line: where the names of a line stay as they are, none is noted.

@@ -4,6 +4,7 @@ use crate::fields::Spot;
 use crate::line::Asked;
 use crate::line::Line;
 use crate::line::read_line;
+use crate::sorts::is_noted;
 use crate::wanted::Wanted;
 use cursor::Cursor;
 use names::Entry;
@@ -14,7 +15,6 @@ ghost use Prim.Native.Nat.{_≤_, _<_};
 ghost use mathlib.Core.List.{[], _∷_};
 ghost use lib.Dec.{eqb};
 ghost use Rattle.algebra.specs.bridge.Machine.{want};
-ghost use Rattle.scoping.specs.bridge.Spots.{noted};
 ghost use Rattle.words.specs.bridge.Code.{sortAt};
 ghost use Rattle.words.specs.bridge.Words.{Worded};
 ghost use Rattle.lines.specs.bridge.Says.{below};
@@ -106,17 +106,6 @@ fn lost(fault: usize) -> Taken
         second: 0,
         place: stopped(fault),
     }
-}
-
-// Which sorts of lines are noted.
-const NOTED: [u8; 12] = [0, 0, 1, 1, 0, 1, 1, 0, 0, 0, 0, 0];
-
-fn is_noted(sort: u8) -> bool
-    requires { ⌜ sort ≤ 11 ⌝ }
-    ensures { λ r. ⌜ r ≡ noted (sortAt sort) ⌝ }
-{
-    let i = sort as usize;
-    NOTED[i] == 1
 }
 
 // Notes a line of a sort that is noted, where there is room, behind so many spots.

@@ -27,6 +27,13 @@ fn byte(x: u8) -> usize
     x as usize
 }
 
+// A table without names.
+pub fn new_table() -> [Entry; 1024]
+    ensures { λ r. ⌜ r ≡ replicate 1024 (replicate 2 0) ⌝ }
+{
+    [[0; 2]; 1024]
+}
+
 // The table is cleared. Hints that are left from earlier names change no answer: a hint is compared with the name itself.
 pub fn clear(table: &mut [Entry; 1024])
     ensures { λ _. ⌜ now (table .exit) ≡ replicate 1024 (replicate 2 0) ⌝ }

@@ -32,7 +32,7 @@ use Rattle.names.specs.bridge.Names.{listing, Holds}
 use Rattle.names.specs.bridge.Checked.{Checked}
 use Rattle.lines.specs.bridge.Run.{Tells}
 use Rattle.lines.specs.bridge.Spotted.{Spotted, Noted}
-use Rattle.lines.specs.bridge.Walks.{entryOf, answerOf, Charts}
+use Rattle.lines.specs.bridge.Walks.{entryOf, markAlone, answerOf, Charts}
 use Rattle.lines.specs.declared.check.Noting.{Noting}
 use Rattle.lines.specs.declared.check.Noting.the-variants.{Good, Malformed, OverBound}
 use Rattle.reading.specs.bridge.Charted.{treeStart, queryStart, Charted}
@@ -42,7 +42,7 @@ use Rattle.reading.specs.bridge.Charted.{treeStart, queryStart, Charted}
 module _ {A : Type 0} (f : A → Tally → Tally) (from : Bytes → A → ℕ → Type 0) (s a l h : List ℕ) (before after words b : List (List ℕ)) (sort level : ℕ) where
   -- the walk from the first line on is the walk over the tree
   abbrev pub Inside : Outcome A → Type 0
-  Inside o = (x : A) → o ≡ reads x → (i : ℕ) → from s x i → entryOf level sort visible (state (linesFrom s 0) (trace 0 [] [])) ≡ tree spotLine 64 patterns visible (state (linesFrom s i) (trace i [] []))
+  Inside o = (x : A) → o ≡ reads x → (i : ℕ) → from s x i → entryOf level sort (markAlone sort) (state (linesFrom s 0) (trace 0 [] [])) ≡ tree spotLine 64 patterns visible (state (linesFrom s i) (trace i [] []))
 
   pub charted : (r : Noting) (k : Check) (o : Outcome A) → k ≡ checked f o → Tells s a l h k (answerOf r) → Charts s words a l before after b sort level r → Inside o → Charted (λ x. f x start .names) from s a l h before after words b o r
   unfolding Tells Charts Charted

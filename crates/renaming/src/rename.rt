@@ -9,6 +9,7 @@ use lists::check_mapping;
 use lists::field_at;
 use names::Entry;
 use names::find_name;
+use names::new_table;
 use reading::note_tree;
 use walking::places::put_renamed;
 use walking::tree::rename_tree;
@@ -167,7 +168,7 @@ fn rename_with(
     ensures { λ r. ⌜ Answered (renameOutcome (now (tree .entry)) (now (mapping .entry))) (now (out .entry)) (now (out .exit)) r ⌝ }
 {
     let words = all_words();
-    let mut table = [[0u16; 2]; 1024];
+    let mut table = new_table();
     let mut hints = [0u16; 2048];
     match note_tree(tree, &words, &mut table, &mut hints, spots, nodes) {
         Noting::Good(n, k, m) => {
@@ -194,6 +195,11 @@ fn rename_with(
 pub fn rename(tree: &[u8], mapping: &[u8], out: &mut [u8]) -> Answer
     ensures { λ r. ⌜ Answered (renameOutcome (now (tree .entry)) (now (mapping .entry))) (now (out .entry)) (now (out .exit)) r ⌝ }
 {
+    if tree.len() <= 384 {
+        let mut spots = [[0u16; 3]; 128];
+        let mut nodes = [[0u32; 3]; 128];
+        return rename_with(tree, &mut spots, &mut nodes, mapping, out);
+    }
     if tree.len() <= 768 {
         let mut spots = [[0u16; 3]; 256];
         let mut nodes = [[0u32; 3]; 256];

@@ -6,6 +6,7 @@ use lines::check::Noting;
 use lines::fields::Node;
 use lines::fields::Spot;
 use names::Entry;
+use names::new_table;
 use names::wide;
 use reading::note_tree;
 use text::piece;
@@ -119,7 +120,7 @@ fn scope_over(tree: &[u8], spots: &mut [Spot], out: &mut [u8]) -> Answer
     ensures { λ r. ⌜ Answered (scopeOutcome (now (tree .entry))) (now (out .entry)) (now (out .exit)) r ⌝ }
 {
     let words = all_words();
-    let mut table = [[0u16; 2]; 1024];
+    let mut table = new_table();
     let mut hints = [0u16; 2048];
     let mut nodes: [Node; 0] = [[0, 0, 0]; 0];
     match note_tree(tree, &words, &mut table, &mut hints, spots, &mut nodes) {

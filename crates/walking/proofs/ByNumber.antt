@@ -14,6 +14,7 @@ use Rattle.words.specs.bridge.Words.{isFront}
 use Rattle.scoping.specs.bridge.Spots.{Group, group, groupsBelow, Node, noted}
 use Rattle.scoping.specs.bridge.Skip.{isPatterns, headMany, skipTimes, skipPart, skipChild, skipGroups, skipUnder}
 use Rattle.lines.specs.bridge.Below.{amountIn}
+use Rattle.lines.proofs.SortLaw.{high-none}
 
 -- ---- groups by their numbers
 
@@ -147,15 +148,6 @@ pub group-noted : (s : ℕ) (t : Bool) → t ≡ noted (sortAt s) → not t ≡ 
 group-noted s true p q = sym p
 group-noted s false p q = absurd (true≢false q)
 
--- sorts behind those of a tree's lines
-high-none : (k : ℕ) → noted (sortAt (suc (suc (suc (suc (suc (suc (suc k)))))))) ≡ false
-high-none zero = refl
-high-none (suc zero) = refl
-high-none (suc (suc zero)) = refl
-high-none (suc (suc (suc zero))) = refl
-high-none (suc (suc (suc (suc zero)))) = refl
-high-none (suc (suc (suc (suc (suc k))))) = refl
-
 -- an order or an aggregate
 pub child-part : (U : Sort → List Node → List Node) (ns : List Node) (s : ℕ) → noted (sortAt s) ≡ true → (s ≡ 2 → ⊥) → (s ≡ 3 → ⊥) → skipPart U ns ≡ skipChild U (sortAt s) ns
 unfolding skipChild
@@ -167,32 +159,3 @@ child-part U ns (suc (suc (suc (suc zero)))) h p e = absurd (false≢true h)
 child-part U ns (suc (suc (suc (suc (suc zero))))) h p e = refl
 child-part U ns (suc (suc (suc (suc (suc (suc zero)))))) h p e = refl
 child-part U ns (suc (suc (suc (suc (suc (suc (suc k))))))) h p e = absurd (false≢true (sym (high-none k) ∙ h))
-
--- the sorts that are noted, by their numbers
-pub noted-low : (s : ℕ) → s < 2 → false ≡ noted (sortAt s)
-noted-low zero h = refl
-noted-low (suc zero) h = refl
-noted-low (suc (suc k)) h = absurd (omega arith)
-
-pub noted-rows : (s : ℕ) → s ≡ 4 → false ≡ noted (sortAt s)
-noted-rows s e = rw e refl
-
-pub noted-high : (s : ℕ) → 6 < s → false ≡ noted (sortAt s)
-noted-high (suc (suc (suc (suc (suc (suc (suc k))))))) h = sym (high-none k)
-noted-high zero h = absurd (omega arith)
-noted-high (suc zero) h = absurd (omega arith)
-noted-high (suc (suc zero)) h = absurd (omega arith)
-noted-high (suc (suc (suc zero))) h = absurd (omega arith)
-noted-high (suc (suc (suc (suc zero)))) h = absurd (omega arith)
-noted-high (suc (suc (suc (suc (suc zero))))) h = absurd (omega arith)
-noted-high (suc (suc (suc (suc (suc (suc zero)))))) h = absurd (omega arith)
-
-pub noted-is : (s : ℕ) → 2 ≤ s → (s ≡ 4 → ⊥) → s ≤ 6 → true ≡ noted (sortAt s)
-noted-is zero l n h = absurd (omega arith)
-noted-is (suc zero) l n h = absurd (omega arith)
-noted-is (suc (suc zero)) l n h = refl
-noted-is (suc (suc (suc zero))) l n h = refl
-noted-is (suc (suc (suc (suc zero)))) l n h = absurd (n refl)
-noted-is (suc (suc (suc (suc (suc zero))))) l n h = refl
-noted-is (suc (suc (suc (suc (suc (suc zero)))))) l n h = refl
-noted-is (suc (suc (suc (suc (suc (suc (suc k))))))) l n h = absurd (omega arith)

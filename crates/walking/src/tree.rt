@@ -2,6 +2,7 @@
 use lines::below::amount;
 use lines::fields::Node;
 use lines::fields::Spot;
+use lines::sorts::is_noted;
 use names::Entry;
 use names::wide;
 use words::table::WordRow;
@@ -125,22 +126,6 @@ fn rename_line(
         second: place(n[2]),
         spot,
     }
-}
-
-// Lines of this sort are noted: patterns, expressions, orders and aggregates.
-fn is_noted(sort: u8) -> bool
-    ensures { λ r. ⌜ r ≡ noted (sortAt sort) ⌝ }
-{
-    if sort < 2 {
-        return false;
-    }
-    if sort == 4 {
-        return false;
-    }
-    if 6 < sort {
-        return false;
-    }
-    true
 }
 
 // rename_in_graph_pattern: the variables of the pattern that is noted next, and of all that is below it.

@@ -84,28 +84,32 @@ HeadWalks s A p B r =
     (x : Marks) → Full s A (p .cursor .at) x → (y : Marks) × Full s B (r .cursor .at) y
     × ((trees : Sort → Mark → State Trace → State Trace) → trees patterns visible (walkAt s r y) ≡ whole spotLine trees heads visible (linesFrom s (p .cursor .at)) (trace (p .cursor .at) (x .spots) (x .nodes)))
 
+-- the mark of a line below another: expressions are silent, and the last pattern may be hidden
+abbrev pub markUnder : ℕ → Bool → Bool → Mark → Mark
+markUnder sort hide last m = cond (eqb sort 3) silent (cond (eqb sort 2) (cond (hide && last) (under m) m) m)
+
+-- the mark of a line below none
+abbrev pub markAlone : ℕ → Mark
+markAlone sort = markUnder sort false true visible
+
 -- a line of a sort, with what stands below it
 abbrev pub entryOf : ℕ → ℕ → Mark → State Trace → State Trace
 entryOf level sort m st = whole spotLine (tree spotLine (below sort level)) (sortAt sort) m (st .lines) (st .output)
 
 -- where the check of a tree met no fault, none was met before it, a level was left where its sort asks for one, and the walk was done
 abbrev pub TreeNotes : Bytes → List (List ℕ) → List (List ℕ) → List (List ℕ) → List (List ℕ) → Place → ℕ → ℕ → List (List ℕ) → List (List ℕ) → List (List ℕ) → Place → Type 0
-TreeNotes s words t v b p sort level t′ v′ b′ r = r .fault ≡ 0 → (p .fault ≡ 0) × (opens (sortAt sort) ≡ true → level ≡ 0 → ⊥) × (sort ≤ 7 → Notes s words t v b p t′ v′ b′ r (entryOf level sort visible))
+TreeNotes s words t v b p sort level t′ v′ b′ r = r .fault ≡ 0 → (p .fault ≡ 0) × (opens (sortAt sort) ≡ true → level ≡ 0 → ⊥) × (sort ≤ 7 → Notes s words t v b p t′ v′ b′ r (entryOf level sort (markAlone sort)))
 
 -- where the check of a query's head met no fault, it was walked
 abbrev pub HeadNotes : Bytes → List (List ℕ) → List (List ℕ) → List (List ℕ) → List (List ℕ) → Place → List (List ℕ) → List (List ℕ) → List (List ℕ) → Place → Type 0
 HeadNotes s words t v b p t′ v′ b′ r = r .fault ≡ 0 → HeadWalks s (bookIn t v words b p) p (bookIn t′ v′ words b′ r) r
-
--- the mark of a line below another: expressions are silent, and the last pattern may be hidden
-abbrev pub markUnder : ℕ → Bool → Bool → Mark → Mark
-markUnder sort hide last m = cond (eqb sort 3) silent (cond (eqb sort 2) (cond (hide && last) (under m) m) m)
 
 -- a text that is one line of a sort with all that it asks for was read to a place: the run, and the walk where no fault was met; and whether something is left over
 pub record ReadTo (s : Bytes) (words t : List (List ℕ)) (v b t′ : List (List ℕ)) (h′ : List ℕ) (v′ b′ : List (List ℕ)) (sort level : ℕ) (p : Place) (left : Bool) : Type 0 where
   pub went : Went s (startsOf t′) (sizesOf t′) h′ done [] (checkText bounds done (want (sortAt sort) level 0 ∷ []) s) p
   pub start : Place
   pub started : Started start
-  pub walked : p .fault ≡ 0 → sort ≤ 7 → Walks s (bookIn t v words b start) start (bookIn t′ v′ words b′ p) p (entryOf level sort visible)
+  pub walked : p .fault ≡ 0 → sort ≤ 7 → Walks s (bookIn t v words b start) start (bookIn t′ v′ words b′ p) p (entryOf level sort (markAlone sort))
   pub over : left ≡ ltb (p .cursor .at) (length s)
 
 -- the answer without spots and nodes
@@ -118,6 +122,6 @@ answerOf N.OverBound = A.OverBound
 unfoldable pub Charts : Bytes → List (List ℕ) → List ℕ → List ℕ → List (List ℕ) → List (List ℕ) → List (List ℕ) → ℕ → ℕ → Noting → Type 0
 Charts s words a l before after b sort level (N.Good n k m) =
     length s ≤ 3 * length before → (n ≤ 1024) × (xs : List Spot) × (ns : List Node)
-    × (entryOf level sort visible (state (linesFrom s 0) (trace 0 [] [])) ≡ state [] (trace (length s) xs ns)) × Spotted (listing s a l n) after k xs × (Roomy s b → Noded words b m ns)
+    × (entryOf level sort (markAlone sort) (state (linesFrom s 0) (trace 0 [] [])) ≡ state [] (trace (length s) xs ns)) × Spotted (listing s a l n) after k xs × (Roomy s b → Noded words b m ns)
 Charts s words a l before after b sort level N.Malformed = Unit {0}
 Charts s words a l before after b sort level N.OverBound = Unit {0}

@@ -20,5 +20,5 @@ head-from-spec =
     (λ c. search needs)
     (λ c. let c2 = c .before .before in let c7 = c2 .before .before .before .before .before in let c9 = c7 .before .before in let at = ap (λ k. k .at) (c7 .moved-to .ensures) ∙ c9 .pre .0 .at in let e = c2 .check-entry .ensures in (
       λ ρ ws x w. D.onward-rest _ _ _ _ (c9 .args .p) _ _ _ (want (sortAt 7) (c9 .args .level) 0 ∷ []) (want (sortAt 2) (c9 .args .level) 0 ∷ []) _ ws ρ x (c9 .pre .1) (D.rest-moved _ _ _ _ (c9 .args .p) _ _ _ _ (want (sortAt 7) (c9 .args .level) 0 ∷ []) (want (sortAt 2) (c9 .args .level) 0 ∷ []) _ (D.other-cursor (c9 .args .p) _ at) (e .1 .1 .1 .1 .0 refl refl)) w,
-      (λ z. W.head-from _ _ (c9 .args .p) _ _ _ at (e .1 .1 .1 .1 .1 refl refl refl z), λ z. e .1 .0 z .1 .few),
+      (λ z. W.head-from _ _ (c9 .args .p) _ _ _ at (e .1 .1 .1 .1 .1 refl refl z), λ z. e .1 .0 z .1 .few),
     )))

@@ -11,8 +11,9 @@ rename-with-spec =
     (tie.spec
     (λ c κs. search needs)
     (λ c κs. search needs)
+    (λ c κs. search needs)
     (λ c. search needs)
-    (λ c κs. let c7 = c .before .before .before .before .before .before .before in let c11 = c7 .before .before .before .before in let c17 = c11 .before .before .before .before .before .before in let c21 = c17 .before .before .before .before in T.good-recorded _ _ _ _ (c21 .args .spots .now) _ _ _ _ (c11 .note-tree .ensures) _ _ _ (c21 .args .nodes .now) (c17 .all-words .ensures) (c21 .pre) (c7 .n .given .1) (c11 .note-tree .kept .1 .1 .1 .1 .1 .0))
+    (λ c κs. let c7 = c .before .before .before .before .before .before .before in let c11 = c7 .before .before .before .before in let c18 = c11 .before .before .before .before .before .before .before in let c22 = c18 .before .before .before .before in T.good-recorded _ _ _ _ (c22 .args .spots .now) _ _ _ _ (c11 .note-tree .ensures) _ _ _ (c22 .args .nodes .now) (c18 .all-words .ensures) (c22 .pre) (c7 .n .given .1) (c11 .note-tree .kept .1 .1 .1 .1 .1 .0))
     (λ c. search needs)
     (λ c. search needs)
     (λ c. search needs)

@@ -10,10 +10,11 @@ scope-over-spec =
     tie.close
     (tie.spec
     (λ c κs. search needs)
+    (λ c κs. search needs)
     (λ c. search needs)
     (λ c κs. search needs)
     (λ c. search needs)
-    (λ c κs. let c4 = c .before .before .before .before in let c8 = c4 .before .before .before .before in let c17 = c8 .before .before .before .before .before .before .before .before .before in T.good-surveyed _ _ _ _ (c17 .args .spots .now) _ _ _ _ (c8 .note-tree .ensures) _ _ _ (c17 .pre) (c4 .n .given .1))
+    (λ c κs. let c4 = c .before .before .before .before in let c8 = c4 .before .before .before .before in let c18 = c8 .before .before .before .before .before .before .before .before .before .before in T.good-surveyed _ _ _ _ (c18 .args .spots .now) _ _ _ _ (c8 .note-tree .ensures) _ _ _ (c18 .pre) (c4 .n .given .1))
     (λ c. search needs)
     (λ c. search needs)
     (λ c. search needs)

@@ -34,7 +34,7 @@ use Rattle.walking.proofs.tree.rename_part.Reads as rename-part
 use Rattle.walking.proofs.tree.rename_part.Kinds as rename-part-kinds
 use Rattle.walking.proofs.tree.+rename_below+rename_child+rename_group+rename_in_expression+rename_in_graph_pattern+rename_part.Lts-rename_part as rename-part-lts
 use Rattle.lines.proofs.below.amount.Reads as amount-reads
-use Rattle.walking.proofs.tree.is_noted.Reads as is-noted-reads
+use Rattle.lines.proofs.sorts.is_noted.Reads as is-noted-reads
 use Rattle.walking.proofs.tree.rename_line.Reads as rename-line-reads
 use Rattle.walking.proofs.tree.+rename_below+rename_child+rename_group+rename_in_expression+rename_in_graph_pattern+rename_part.{
   statement,
