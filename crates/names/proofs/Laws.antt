@@ -5,7 +5,7 @@ use mathlib.Core.List.{List, [], _∷_, _++_, append-nil}
 use mathlib.Core.Bool.{Bool, true, false, cond, _||_, false≢true}
 use mathlib.Core.Logic.{⊎-elim}
 use native.Mathlib.Numerals.{add-one}
-use native.Mathlib.Nat.{eq-or-lt-of-le}
+use native.Mathlib.Nat.{eq-or-lt-of-le, mod-add-div', add-mul-mod-self-right}
 use native.Mathlib.Omega.{arith}
 use lib.ListN.{length, getD, set, drop, drop-of-length-le, length-append, length-set}
 use lib.Seq.{drop-cons, getD-set-same, getD-set-other}
@@ -22,6 +22,36 @@ use Rattle.names.proofs.Hints.{leads-on, leads-past, leads-back, leads-
 pub hash-next : (f : Bytes) (i h b : ℕ) → i < length f → b ≡ getD f i 0 → hashOf h (drop i f) ≡ hashOf (((h + b) * 16777619) % 4294967296) (drop (i + 1) f)
 unfolding hashOf
 hash-next f i h b k e = rw (e, add-one, drop-cons f i 0 k)
+
+-- a remainder that was taken before makes no difference
+step-late : (y b : ℕ) → ((y % 4294967296 + b) * 16777619) % 4294967296 ≡ ((y + b) * 16777619) % 4294967296
+step-late y b =
+    let d = mod-add-div' y 4294967296 in
+    let e : (y + b) * 16777619 ≡ (y % 4294967296 + b) * 16777619 + y / 4294967296 * 16777619 * 4294967296 = omega (arith, d) in
+    sym (ap (λ (n : ℕ). n % 4294967296) e ∙ add-mul-mod-self-right ((y % 4294967296 + b) * 16777619) (y / 4294967296 * 16777619) 4294967296)
+
+-- four steps in one, by the remainders of the product's powers
+four-steps : (x b c d : ℕ) → ((((x * 16777619 % 4294967296 + b) * 16777619 % 4294967296 + c) * 16777619 % 4294967296 + d) * 16777619) % 4294967296 ≡ (x * 1345077009 + b * 1055306571 + c * 637696617 + d * 16777619) % 4294967296
+four-steps x b c d =
+    ap (λ (n : ℕ). ((n + c) * 16777619 % 4294967296 + d) * 16777619 % 4294967296) (step-late (x * 16777619) b)
+    ∙ ap (λ (n : ℕ). (n + d) * 16777619 % 4294967296) (step-late ((x * 16777619 + b) * 16777619) c)
+    ∙ step-late (((x * 16777619 + b) * 16777619 + c) * 16777619) d
+    ∙ ap (λ (n : ℕ). n % 4294967296) powers
+    ∙ add-mul-mod-self-right (x * 1345077009 + b * 1055306571 + c * 637696617 + d * 16777619) (x * 18448516550316366547 + b * 1099590862703 + c * 65539) 4294967296
+  where
+    powers : (((x * 16777619 + b) * 16777619 + c) * 16777619 + d) * 16777619 ≡ x * 1345077009 + b * 1055306571 + c * 637696617 + d * 16777619 + (x * 18448516550316366547 + b * 1099590862703 + c * 65539) * 4294967296
+    powers = omega arith
+
+pub hash-four : (f : Bytes) (i h a b c d : ℕ) → i + 4 ≤ length f → a ≡ getD f i 0 → b ≡ getD f (i + 1) 0 → c ≡ getD f (i + 2) 0 → d ≡ getD f (i + 3) 0
+    → hashOf ((((h + a) * 1345077009 + b * 1055306571) + c * 637696617 + d * 16777619) % 4294967296) (drop (i + 4) f) ≡ hashOf h (drop i f)
+hash-four f i h a b c d k ea eb ec ed = sym (
+    hash-next f i h a (omega (arith, k)) ea
+    ∙ hash-next f (i + 1) _ b (omega (arith, k)) eb
+    ∙ ap (λ (j : ℕ). hashOf (((h + a) * 16777619 % 4294967296 + b) * 16777619 % 4294967296) (drop j f)) (let e : i + 1 + 1 ≡ i + 2 = omega arith in e)
+    ∙ hash-next f (i + 2) _ c (omega (arith, k)) ec
+    ∙ ap (λ (j : ℕ). hashOf ((((h + a) * 16777619 % 4294967296 + b) * 16777619 % 4294967296 + c) * 16777619 % 4294967296) (drop j f)) (let e : i + 2 + 1 ≡ i + 3 = omega arith in e)
+    ∙ hash-next f (i + 3) _ d (omega (arith, k)) ed
+    ∙ ap₂ (λ (x j : ℕ). hashOf x (drop j f)) (four-steps (h + a) b c d) (let e : i + 3 + 1 ≡ i + 4 = omega arith in e))
 
 pub hash-end : (f : Bytes) (i h : ℕ) → length f ≤ i → hashOf h (drop i f) ≡ h
 unfolding hashOf

@@ -6,7 +6,7 @@ ghost use mathlib.Core.Path.{_≡_};
 ghost use Prim.Native.Nat.{ℕ, _+_, _≤_, _<_};
 ghost use mathlib.Core.List.{List};
 ghost use mathlib.Core.Bool.{false, true};
-ghost use lib.ListN.{length, set, replicate};
+ghost use lib.ListN.{length, set, replicate, drop};
 ghost use Rattle.text.specs.Text.{same, piece as pieceOf};
 ghost use Rattle.algebra.specs.Valid.{mem};
 ghost use Rattle.names.specs.bridge.Names.{hashOf, placeOf, startsOf, sizesOf, after as afterOf, Leads, Hinted, Free, Grows, Lists, kept, namesIn, HoldsIn, nameIn};
@@ -58,12 +58,28 @@ pub fn no_names(table: &mut [Entry; 1024], hints: &mut [u16; 2048])
     all_places(*hints);
 }
 
+// The hash behind four more bytes, in one step: no product of a byte waits for the one before.
+fn hash_four(f: &[u8], i: usize, h: usize) -> usize
+    requires { ⌜ (i + 4 ≤ length (now f)) × (h < 4294967296) ⌝ }
+    ensures { λ r. ⌜ (hashOf r (drop (i + 4) (now (f .entry))) ≡ hashOf h (drop i (now (f .entry)))) × (r < 4294967296) ⌝ }
+{
+    let a = (h + byte(f[i])) * 1345077009;
+    let b = byte(f[i + 1]) * 1055306571;
+    let c = byte(f[i + 2]) * 637696617;
+    let d = byte(f[i + 3]) * 16777619;
+    (a + b + c + d) % 4294967296
+}
+
 // A name's hash, of 32 bits. A byte is added before the product, so that it reaches the top bits.
 fn hash(f: &[u8]) -> usize
     ensures { λ r. ⌜ (r ≡ hashOf 0 (now (f .entry))) × (r < 4294967296) ⌝ }
 {
     let mut h: usize = 0;
     let mut i = 0;
+    while 4 <= f.len() - i {
+        h = hash_four(f, i, h);
+        i += 4;
+    }
     while i < f.len() {
         h = ((h + byte(f[i])) * 16777619) % 4294967296;
         i += 1;
