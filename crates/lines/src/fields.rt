@@ -9,7 +9,7 @@ ghost use mathlib.Core.Path.{_≡_};
 ghost use Prim.Native.Nat.{_+_, _≤_, _<_};
 ghost use lib.ListN.{length};
 ghost use Rattle.text.specs.bridge.Code.{kindAt};
-ghost use Rattle.algebra.specs.bridge.Table.{text, count, choice};
+ghost use Rattle.algebra.specs.bridge.Table.{text, count};
 ghost use Rattle.lines.specs.bridge.Line.{takeField, takeTimes, takeValue, takeValues};
 ghost use Rattle.lines.specs.bridge.Steps.{InLine, leftAt, Follows, restOf, restIn, numberTaken};
 
@@ -77,21 +77,6 @@ pub fn count_field(s: &[u8], c: Cursor) -> Taken
             };
         }
     }
-}
-
-// A field that is 0 or 1 lines to come.
-pub fn choice_field(s: &[u8], c: Cursor) -> Taken
-    requires { ⌜ InLine (now s) c ⌝ }
-    ensures { λ r. ⌜ Follows (now (s .entry)) c (restOf (takeField choice (leftAt (now (s .entry)) c))) (r .cursor) × (numberTaken (takeField choice (leftAt (now (s .entry)) c)) ≡ r .number) × (r .number < 4294967296) ⌝ }
-{
-    let t = count_field(s, c);
-    if 1 < t.number {
-        return Taken {
-            cursor: c.failed(),
-            number: 0,
-        };
-    }
-    t
 }
 
 // A value's three fields: its domain, any lexical form, and the extra that the domain asks for.

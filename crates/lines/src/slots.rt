@@ -1,6 +1,5 @@
 // The fields behind a line's word: those that the slots of its row take, and what stands behind these.
 use crate::fields::Spot;
-use crate::fields::choice_field;
 use crate::fields::count_field;
 use crate::fields::fields_left;
 use crate::fields::text_field;
@@ -73,9 +72,9 @@ fn slot(
             number: 0,
         };
     }
+    let t = count_field(s, c);
+    let d = t.cursor;
     if role == 3 {
-        let t = count_field(s, c);
-        let d = t.cursor;
         return Step {
             cursor: d,
             names: n,
@@ -83,8 +82,14 @@ fn slot(
             number: t.number,
         };
     }
-    let t = choice_field(s, c);
-    let d = t.cursor;
+    if 1 < t.number {
+        return Step {
+            cursor: c.failed(),
+            names: n,
+            spots: k,
+            number: 0,
+        };
+    }
     Step {
         cursor: d,
         names: n,
