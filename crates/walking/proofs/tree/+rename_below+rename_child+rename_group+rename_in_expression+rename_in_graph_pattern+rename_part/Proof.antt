@@ -250,7 +250,7 @@ pub +rename-below+rename-child+rename-group+rename-in-expression+rename-in-graph
     (λ c κs. (let z = c .before .before .before .before .before .before .before .before .before .before .if1 .left in let p = c .before .before .before .before .before .before .before .before .before .before .before .pre .0 in omega (arith, p), (L.went-in (c .before .before .loop .inv .went), c .before .before .before .before .before .before .before .before .before .before .before .pre .1 .1)))
     (λ c. search needs)
     (λ c. let z = c .before .before .before .loop-test .taken in omega (arith, z))
-    (λ c. L.times-next _ _ (c .before .before .before .before .loop .inv) (c .before .before .before .loop-test .taken) (c .before .rename-in-expression .ensures))
+    (λ c. L.times-next _ _ (c .before .before .before .before .loop .inv) (let z = c .before .before .before .loop-test .taken in omega (arith, z)) (c .before .rename-in-expression .ensures))
     (λ c. c .before .loop .inv .went .all .all .long ∙ c .before .before .before .before .before .before .rename-line .ensures .0 .all .all .long)
     (λ c. L.expression-line (c .before .before .before .before .before .before .before .before .if2 .left) (c .before .before .before .before .before .before .rename-line .ensures .0) (c .before .before .before .before .before .before .rename-line .ensures .1) _ _ (c .before .before .before .before .before .before .before .before .before .if1 .left) (c .before .before .before .if3 .left) (c .before .before .amount .ensures) (L.times-done _ _ (c .before .loop .inv) (c .loop-test .left))))
     (λ t. rename-in-graph-pattern-lts.spec (
