@@ -11,6 +11,7 @@ use lib.Dec.{leb, eqb}
 use borrow.Author.Tests.{le-leb, lt-leb}
 use Rattle.text.specs.Text.{Bytes, split, part, First}
 use Rattle.text.proofs.Lists.{split-here, split-last}
+use Rattle.reader.specs.bridge.Lines.{LineEnd}
 use Rattle.cursor.specs.declared.Cursor.{Cursor}
 use Rattle.cursor.specs.declared.Field.{Field}
 use Rattle.cursor.specs.declared.Field.the-variants.{At, None}
@@ -35,6 +36,10 @@ left-next s at end e k h f =
 pub left-all : (s : Bytes) (at end : ℕ) → at ≤ end → left s at end ≡ split 9 (part at end s)
 unfolding left
 left-all s at end h = rw (le-leb at end h)
+
+-- the end of the line that starts here
+pub line-there : (s : Bytes) (at end : ℕ) → First 10 s at (length s) end → LineEnd s at end
+line-there s at end f = record { high = f .high; ends = λ _. f; none = λ _ _. f }
 
 -- ---- what a step found
 

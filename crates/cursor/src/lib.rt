@@ -112,7 +112,7 @@ impl Cursor {
 
     // Behind its line, where the next one starts.
     pub fn line_done(self) -> Self
-        requires { ⌜ self .end ≤ 16384 ⌝ }
+        requires { ⌜ self .end < 18446744073709551615 ⌝ }
         ensures { λ r. ⌜ r ≡ lineDone self ⌝ }
     {
         Cursor {

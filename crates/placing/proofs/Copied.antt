@@ -6,7 +6,7 @@ use mathlib.Core.Option.{Option, none, some}
 use native.Mathlib.Decide.{decLt}
 use native.Mathlib.Omega.{arith}
 use lib.ListN.{length, getD}
-use Rattle.text.specs.Text.{Bytes, Line, ended, textOf, split, part, linesFrom, First}
+use Rattle.text.specs.Text.{Bytes, Line, ended, textOf, split, part, linesFrom}
 use Rattle.text.proofs.Texts.{Ended, glue-split, ended-glue}
 use Rattle.text.proofs.Places.{lines-next, lines-open, lines-end}
 use Rattle.algebra.specs.bridge.Table.{Sort, Below, Row, table, rowIn}
@@ -131,10 +131,6 @@ going-done s from at k low high g h = record {
   high = high;
   copied = λ n v. let z : k ≡ 0 = omega arith in g n .1 v ∙ ap (λ (m : ℕ). part from at s ++ textOf (copying (linesFrom s at) m v)) z ∙ ap (λ (ls : List Line). part from at s ++ textOf ls) (none-copied (linesFrom s at) v);
 }
-
--- the end that the cursor finds
-pub line-there : (s : Bytes) (at end : ℕ) → First 10 s at (length s) end → LineEnd s at end
-line-there s at end f = record { high = f .high; ends = λ _. f; none = λ _ _. f }
 
 module _ (s : Bytes) (from at end k : ℕ) (low : from ≤ at) (high : at ≤ length s) (g : Going s from at k) (l : LineEnd s at end) where
   -- no line is left: there is none that isn't ended

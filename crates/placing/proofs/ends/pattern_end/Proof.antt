@@ -5,6 +5,7 @@ use mathlib.Core.Path.{ap, _∙_}
 use native.Mathlib.Omega.{arith}
 use lib.ListN.{length}
 use Rattle.cursor.specs.declared.Cursor.{Cursor}
+use Rattle.cursor.proofs.Laws.{line-there}
 use Rattle.placing.proofs.Copied as C
 use Rattle.placing.proofs.ends.pattern_end.Statement.{statement}
 use Rattle.placing.proofs.ends.pattern_end.Tie as tie
@@ -31,7 +32,7 @@ pattern-end-spec =
     μ-loop
     (λ c. let c1 = c .before in (omega arith, c1 .pre .0, omega arith, C.going-start _ _))
     (λ c κs. let c2 = c .before .before in c2 .loop .inv .1)
-    (λ c. let c2 = c .before .before in let c5 = c2 .before .before .before in let v = c5 .loop .inv in C.going-stop _ _ _ _ _ (v .0) (v .1) (v .3) (C.line-there _ _ _ (c2 .next-line .ensures .1)) (c .if2 .taken))
+    (λ c. let c2 = c .before .before in let c5 = c2 .before .before .before in let v = c5 .loop .inv in C.going-stop _ _ _ _ _ (v .0) (v .1) (v .3) (line-there _ _ _ (c2 .next-line .ensures .1)) (c .if2 .taken))
     (λ c κs. let c2 = c .before .before in let c7 = c2 .before .before .before .before .before in let n = c2 .next-line .ensures .1 in let low = n .low in let high = n .high in let h = c .if2 .left in (omega arith, omega arith, c7 .pre .2))
     (λ c κs. let c3 = c .before .before .before in let c8 = c3 .before .before .before .before .before in let high = c3 .next-line .ensures .1 .high in let z = c8 .pre .1 in omega (arith, high, z))
     (λ c. let c6 = c .before .before .before .before .before .before in let t = c6 .if1 .taken in omega (arith, t))
@@ -42,6 +43,6 @@ pattern-end-spec =
       omega (arith, e, f, low),
       omega (arith, e, high, h),
       omega (arith, e, i, k, low, b),
-      C.going-child _ _ _ _ _ (v .0) (v .1) (v .3) (C.line-there _ _ _ n) (c7 .if1 .taken) (c4 .if2 .left) _ (c3 .lines-below .ensures .0) (c2 .line-done .result) _ d w,
+      C.going-child _ _ _ _ _ (v .0) (v .1) (v .3) (line-there _ _ _ n) (c7 .if1 .taken) (c4 .if2 .left) _ (c3 .lines-below .ensures .0) (c2 .line-done .result) _ d w,
     ))
     (λ c. let c2 = c .before .before in let v = c2 .loop .inv in C.going-done _ _ _ _ (v .0) (v .1) (v .3) (c .if1 .left)))
