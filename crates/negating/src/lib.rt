@@ -1,11 +1,11 @@
 // The call negate: a query that asks for what its pattern doesn't match.
 use algebra::Answer as Check;
 use answers::Answer;
+use cursor::Cursor;
 use emit::put_all;
 use heads::copy;
 use heads::is_select_or_ask;
 use heads::tree_start;
-use reader::line_end;
 use reading::check_query;
 use words::keys;
 use words::table::all_words;
@@ -48,20 +48,21 @@ pub enum Outermost {
 pub fn outermost_projection(text: &[u8], from: usize) -> Outermost
     ensures { λ r. ⌜ Finds (now (text .entry)) from r ⌝ }
 {
-    let mut at = from;
-    while at < text.len() {
-        let end = line_end(text, at);
-        if end == text.len() {
+    let mut c = Cursor::new(0).moved_to(from);
+    while c.at < text.len() {
+        let line = c.next_line(text);
+        if line.end == text.len() {
             return Outermost::None;
         }
-        let w = word_at(text, at, end);
+        let w = word_at(text, c.at, line.end);
+        let next = line.line_done();
         if w.key == keys::PROJECT {
-            return Outermost::At(at, end + 1);
+            return Outermost::At(c.at, next.at);
         }
         if !is_passed(w.key) {
             return Outermost::None;
         }
-        at = end + 1;
+        c = next;
     }
     Outermost::None
 }
