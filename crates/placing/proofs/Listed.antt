@@ -8,40 +8,47 @@ use native.Mathlib.Omega.{arith}
 use lib.ListN.{length, getD, set, drop, List·getD-eq-default}
 use lib.Seq.{getD-set-same}
 use Rattle.text.specs.Text.{Bytes, Line, part, piece, linesFrom, First}
-use Rattle.text.proofs.Places.{lines-next}
+use Rattle.text.proofs.Places.{lines-next, lines-end}
 use Rattle.names.specs.bridge.Names.{listing, namesIn, startsOf, sizesOf}
 use Rattle.names.proofs.Columns.{column-length, column-set, column-is}
 use Rattle.names.proofs.Laws.{listing-below, listing-long, listing-at}
 use Rattle.cursor.specs.bridge.Cursor.{left}
-use Rattle.cursor.proofs.Laws.{left-none}
+use Rattle.cursor.specs.declared.Cursor.{Cursor}
+use Rattle.cursor.proofs.Laws.{left-none, left-next, Next}
 use Rattle.reader.specs.bridge.Lines.{LineEnd}
 use Rattle.reader.proofs.Laws.{nothing-here}
 use Rattle.walking.proofs.Laws.{line-split}
-use Rattle.placing.specs.declared.field.Field.{Field}
-use Rattle.placing.specs.bridge.Fields.{FieldIs, columnsOn}
+use Rattle.placing.specs.bridge.Fields.{columnsOn}
 
 pub columns-start : (s : Bytes) (a l : List ℕ) (cs : List Bytes) → listing s a l 0 ++ cs ≡ cs
 unfolding listing
 columns-start s a l cs = refl
 
-module _ (s : Bytes) (n next end : ℕ) where
-  module _ (k : next ≤ end) (f : Field) (w : FieldIs s next end f) (c : ℕ) (h : n + length (left s next end) ≡ c) where
+-- one column more: the field from a cursor on
+module _ (s : Bytes) (c : Cursor) (to : ℕ) (d : Cursor) (g : Next s c to d) (inside : c .end < length s) where
+  column-here : left s (c .at) (c .end) ≡ part (c .at) to s ∷ left s (d .at) (d .end)
+  column-here =
+      let low = g .first .low in
+      let high = g .first .high in
+      left-next s (c .at) (c .end) to (omega arith) (omega arith) (g .first) ∙ ap₂ (λ (i j : ℕ). part (c .at) to s ∷ left s i j) (sym (g .at)) (sym (g .end))
+
+  module _ (n k : ℕ) (h : n + length (left s (c .at) (c .end)) ≡ k) where
     -- there is room for it, and its place is small
-    pub columns-fit : c ≤ 64 → end ≤ length s → length s ≤ 16384 → (n < 64) × (next ≤ f .to) × (f .to ≤ 16385)
-    columns-fit r t m = let e = ap length (w .here k) in let low = w .low in let high = w .high in (omega arith, low, omega arith)
+    pub columns-fit : k ≤ 64 → length s ≤ 16384 → (n < 64) × (c .at ≤ to) × (to ≤ 16384)
+    columns-fit r m = let e = ap length column-here in let low = g .first .low in let high = g .first .high in (omega arith, low, omega arith)
 
-    pub columns-less : n + 1 + length (left s (f .next) end) ≡ c
-    columns-less = let e = ap length (w .here k) in omega arith
+    pub columns-less : n + 1 + length (left s (d .at) (d .end)) ≡ k
+    columns-less = let e = ap length column-here in omega arith
 
-  -- one column more
-  pub columns-next : (k : next ≤ end) (f : Field) (w : FieldIs s next end f) (t : List (List ℕ)) (cs : List Bytes) → n < length t → namesIn s t n ++ left s next end ≡ cs
-      → namesIn s (set t n (next ∷ (f .to - next) ∷ [])) (n + 1) ++ left s (f .next) end ≡ cs
+  pub columns-next : (n : ℕ) (t : List (List ℕ)) (cs : List Bytes) → n < length t → namesIn s t n ++ left s (c .at) (c .end) ≡ cs
+      → namesIn s (set t n (c .at ∷ (to - c .at) ∷ [])) (n + 1) ++ left s (d .at) (d .end) ≡ cs
   unfolding listing
-  columns-next k f w t cs i h =
-      let e = next ∷ (f .to - next) ∷ [] in
-      rw (column-set 0 t n e, column-set 1 t n e, add-one, listing-below s (startsOf t) (sizesOf t) n next (f .to - next) n (omega arith), getD-set-same (startsOf t) n next 0 (rw (column-length 0 t) i), getD-set-same (sizesOf t) n (f .to - next) 0 (rw (column-length 1 t) i))
-      (append-assoc (namesIn s t n) (part next (f .to) s ∷ []) (left s (f .next) end) ∙ ap (λ (r : List Bytes). namesIn s t n ++ r) (sym (w .here k)) ∙ h)
+  columns-next n t cs i h =
+      let e = c .at ∷ (to - c .at) ∷ [] in
+      rw (column-set 0 t n e, column-set 1 t n e, add-one, listing-below s (startsOf t) (sizesOf t) n (c .at) (to - c .at) n (omega arith), getD-set-same (startsOf t) n (c .at) 0 (rw (column-length 0 t) i), getD-set-same (sizesOf t) n (to - c .at) 0 (rw (column-length 1 t) i))
+      (append-assoc (namesIn s t n) (part (c .at) to s ∷ []) (left s (d .at) (d .end)) ∙ ap (λ (r : List Bytes). namesIn s t n ++ r) (sym column-here) ∙ h)
 
+module _ (s : Bytes) (n next end : ℕ) where
   pub columns-done : (t : List (List ℕ)) (cs : List Bytes) → end < next → namesIn s t n ++ left s next end ≡ cs → namesIn s t n ≡ cs
   columns-done t cs h e = sym (append-nil (namesIn s t n)) ∙ ap (λ (r : List Bytes). namesIn s t n ++ r) (sym (left-none s next end h)) ∙ e
 
@@ -54,6 +61,11 @@ column-none s a l n k h = sym (List·getD-eq-default (listing s a l n) [] (let z
 
 pub column-at-is : (s : Bytes) (t : List (List ℕ)) (n k x y : ℕ) → k < n → x ≡ getD (getD t k []) 0 0 → y ≡ getD (getD t k []) 1 0 → (r : Bytes) → r ≡ piece x y s → r ≡ getD (namesIn s t n) k []
 column-at-is s t n k x y h p q r e = e ∙ ap₂ (λ (i j : ℕ). piece i j s) (column-is 0 t k x p) (column-is 1 t k y q) ∙ sym (listing-at s (startsOf t) (sizesOf t) k n h)
+
+-- no line starts here
+pub none-there : (s : Bytes) (line : ℕ) (a b : List ℕ) → length s ≤ line → listing s a b 0 ≡ columnsOn s line
+unfolding listing
+none-there s line a b h = rw (lines-end s line h)
 
 -- the columns stand behind the word of the projection's line
 module _ (s : Bytes) (line end : ℕ) (l : LineEnd s line end) where

@@ -1,9 +1,9 @@
 // A projection's columns, as places in its text.
-use crate::field::field_at;
+use cursor::Cursor;
+use cursor::Field;
 use cursor::field_end;
 use names::Entry;
 use names::wide;
-use reader::line_end;
 use text::piece;
 ghost use mathlib.Core.Path.{_≡_};
 ghost use Prim.Native.Nat.{_≤_};
@@ -18,18 +18,23 @@ pub fn read_columns(tree: &[u8], line: usize, columns: &mut [Entry; 64]) -> usiz
     ensures { λ r. ⌜ (r ≤ 64) × (namesIn (now (tree .entry)) (now (columns .exit)) r ≡ columnsOn (now (tree .entry)) line) ⌝ }
 {
     let mut n = 0;
-    let end = line_end(tree, line);
-    if end == tree.len() {
+    if tree.len() <= line {
         return n;
     }
-    let mut next = field_end(tree, line, end) + 1;
-    while next <= end {
-        let field = field_at(tree, next, end);
-        columns[n] = [next as u16, (field.to - next) as u16];
-        n += 1;
-        next = field.next;
+    let l = Cursor::new(0).moved_to(line).next_line(tree);
+    if l.end == tree.len() {
+        return n;
     }
-    n
+    let mut c = l.behind(field_end(tree, line, l.end));
+    loop {
+        let from = c.at;
+        let Field::At(to, behind) = c.next_field(tree) else {
+            return n;
+        };
+        columns[n] = [from as u16, (to - from) as u16];
+        n += 1;
+        c = behind;
+    }
 }
 
 // The column at a position, a part of the tree's text; nothing where there is none.

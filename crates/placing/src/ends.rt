@@ -1,7 +1,6 @@
 // Where a pattern ends: line by line while something is to come, by the one table of words.
 use cursor::Cursor;
 use lines::below::amount;
-use reader::line_end;
 use walking::line::count_at;
 use words::Found;
 use words::Row;
@@ -107,20 +106,20 @@ fn is_bare(key: u64) -> bool
 fn is_bare_down(text: &[u8]) -> bool
     ensures { λ r. ⌜ r ≡ bareDown (linesFrom (now (text .entry)) 0) ⌝ }
 {
-    let mut at = 0;
-    while at < text.len() {
-        let end = line_end(text, at);
-        if end == text.len() {
+    let mut c = Cursor::new(0);
+    while c.at < text.len() {
+        let line = c.next_line(text);
+        if line.end == text.len() {
             return false;
         }
-        let w = word_at(text, at, end);
+        let w = word_at(text, c.at, line.end);
         if w.key == keys::PROJECT {
             return true;
         }
         if !is_bare(w.key) {
             return false;
         }
-        at = end + 1;
+        c = line.line_done();
     }
     false
 }
