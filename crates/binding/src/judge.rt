@@ -1,9 +1,9 @@
 // What the lines of checked binding sets ask for: positions that are all inside, values that all become cells, and how many sets.
+use cursor::Cursor;
 use placing::field::field_at;
 use placing::field::position_of;
 use placing::steps::both;
 use placing::term::form_of;
-use reader::line_end;
 use words::keys;
 use words::word_at;
 ghost use mathlib.Core.Path.{_≡_};
@@ -92,14 +92,14 @@ pub fn judge(sets: &[u8], width: usize) -> Judged
         usable: true,
         sets: 0,
     };
-    let mut from = 0;
-    while from < sets.len() {
-        let end = line_end(sets, from);
-        if end == sets.len() {
+    let mut c = Cursor::new(0);
+    while c.at < sets.len() {
+        let line = c.next_line(sets);
+        if line.end == sets.len() {
             return judged;
         }
-        judged = judge_line(sets, from, end, width, judged);
-        from = end + 1;
+        judged = judge_line(sets, c.at, line.end, width, judged);
+        c = line.line_done();
     }
     judged
 }

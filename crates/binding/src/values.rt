@@ -1,4 +1,5 @@
 // The lines of the Values, each from one line of the sets.
+use cursor::Cursor;
 use emit::put;
 use emit::put_all;
 use names::Entry;
@@ -7,7 +8,6 @@ use placing::field::field_at;
 use placing::field::position_of;
 use placing::term::form_of;
 use placing::term::put_term;
-use reader::line_end;
 use words::keys;
 use words::word_at;
 ghost use mathlib.Core.Path.{_≡_};
@@ -128,15 +128,15 @@ pub fn put_values(
     ensures { λ r. ⌜ em r (now (out .exit)) ≡ puts (textOf (map (valuesLine (namesIn (now (tree .entry)) (now (columns .entry)) n)) (linesFrom (now (sets .entry)) 0))) (em at (now (out .entry))) ⌝ }
 {
     let mut to = at;
-    let mut from = 0;
-    while from < sets.len() {
-        let end = line_end(sets, from);
-        if end == sets.len() {
+    let mut c = Cursor::new(0);
+    while c.at < sets.len() {
+        let line = c.next_line(sets);
+        if line.end == sets.len() {
             return to;
         }
-        to = put_fields(tree, columns, n, sets, from, end, out, to);
+        to = put_fields(tree, columns, n, sets, c.at, line.end, out, to);
         to = put(out, to, 10);
-        from = end + 1;
+        c = line.line_done();
     }
     to
 }
