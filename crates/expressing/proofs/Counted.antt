@@ -29,9 +29,8 @@ use Rattle.filtering.specs.bridge.FilterLines.{isTrueLine, partsBelow, expressi
 use Rattle.placing.specs.declared.field.Field.{Field}
 use Rattle.placing.specs.bridge.Fields.{FieldIs}
 use Rattle.expressing.specs.declared.express.Walked.{Walked as Went}
-use Rattle.expressing.specs.declared.place.Placed.{Placed as Said}
 use Rattle.expressing.specs.declared.place.Measured.{Measured}
-use Rattle.expressing.specs.bridge.Walks.{Walks, Places, allPlaced, Measures}
+use Rattle.expressing.specs.bridge.Walks.{Walks, allPlaced, Measures}
 use Rattle.expressing.specs.bridge.Filtered.{refBelow}
 
 -- ---- how many lines
@@ -129,29 +128,34 @@ pub record Going (cs : List Bytes) (s : Bytes) (k from many : ℕ) (e : Em) (who
   pub count : many + placedFilters cs k (linesFrom s from) .many ≡ whole .many
   pub lines : puts (textOf (placedFilters cs k (linesFrom s from) .lines)) e ≡ puts (textOf (whole .lines)) start
 
+-- how many were placed, and what was written of them
+pub record Done (whole : Placed) (start e : Em) (many : ℕ) : Type 0 where
+  pub count : many ≡ whole .many
+  pub lines : e ≡ puts (textOf (whole .lines)) start
+
 pub going-start : (cs : List Bytes) (s : Bytes) (k : ℕ) (e : Em) → Going cs s k 0 0 e (placedFilters cs k (linesFrom s 0)) e
 going-start cs s k e = record { count = omega arith; lines = refl }
 
 module _ (cs : List Bytes) (s : Bytes) (k from many : ℕ) (e : Em) (whole : Placed) (start : Em) (g : Going cs s k from many e whole start) where
   -- none is left
-  nothing : placedFilters cs k (linesFrom s from) ≡ record { many = 0; lines = [] } → (r : Said) → r .many ≡ many → Places whole start e r
+  nothing : placedFilters cs k (linesFrom s from) ≡ record { many = 0; lines = [] } → Done whole start e many
   unfolding textOf
-  nothing z r q = record {
-    many = q ∙ (let a = g .count in let b = ap (λ (x : Placed). x .many) z in omega arith);
+  nothing z = record {
+    count = (let a = g .count in let b = ap (λ (x : Placed). x .many) z in omega arith);
     lines = sym (puts-nil e) ∙ ap (λ (x : Placed). puts (textOf (x .lines)) e) (sym z) ∙ g .lines;
   }
 
-  pub going-done : k ≤ 0 → (r : Said) → r .many ≡ many → Places whole start e r
+  pub going-done : k ≤ 0 → Done whole start e many
   unfolding placedFilters
-  going-done h r q = let z : k ≡ 0 = omega arith in nothing (ap (λ (n : ℕ). placedFilters cs n (linesFrom s from)) z) r q
+  going-done h = let z : k ≡ 0 = omega arith in nothing (ap (λ (n : ℕ). placedFilters cs n (linesFrom s from)) z)
 
-  pub going-end : length s ≤ from → (r : Said) → r .many ≡ many → Places whole start e r
-  going-end h r q = nothing (ap (placedFilters cs k) (lines-end s from h) ∙ no-lines cs k) r q
+  pub going-end : length s ≤ from → Done whole start e many
+  going-end h = nothing (ap (placedFilters cs k) (lines-end s from h) ∙ no-lines cs k)
 
   module _ (more : 0 < k) (end : ℕ) (l : LineEnd s from end) where
-    pub going-stop : end ≡ length s → (r : Said) → r .many ≡ many → Places whole start e r
+    pub going-stop : end ≡ length s → Done whole start e many
     unfolding placedFilters treeToExpression expressionLines partsBelow severalParts isTrueLine same
-    going-stop q r p = nothing (⊎-elim (λ (z : linesFrom s from ≡ []). none z) (λ (z : linesFrom s from ≡ [] ∷ []). open-line z) (nothing-here s from end l q)) r p
+    going-stop q = nothing (⊎-elim (λ (z : linesFrom s from ≡ []). none z) (λ (z : linesFrom s from ≡ [] ∷ []). open-line z) (nothing-here s from end l q))
       where
         none : linesFrom s from ≡ [] → placedFilters cs k (linesFrom s from) ≡ record { many = 0; lines = [] }
         none z = ap (placedFilters cs k) z ∙ no-lines cs k
@@ -245,8 +249,8 @@ pub end-is : (b : Bool) (x : Bytes) (a k m : ℕ) → em k [] ≡ puts x (em a [
 end-is true x a k m e h = ap (λ (n : ℕ). em n []) h ∙ e
 end-is false x a k m e h = ap (λ (n : ℕ). em n []) h
 
-pub measured : (cs : List Bytes) (s : Bytes) (n : ℕ) (r : Measured) → Places (placedFilters cs n (linesFrom s 0)) (em 0 []) (em (r .size) []) (record { many = r .many; at = r .size }) → (r .all ≡ true → allPlaced cs n (linesFrom s 0) ≡ true) → r .many ≤ n → Measures cs s n r
-measured cs s n r p a f = record { many = p .many; size = p .lines; all = a; few = f }
+pub measured : (cs : List Bytes) (s : Bytes) (n : ℕ) (r : Measured) → Done (placedFilters cs n (linesFrom s 0)) (em 0 []) (em (r .size) []) (r .many) → (r .all ≡ true → allPlaced cs n (linesFrom s 0) ≡ true) → r .many ≤ n → Measures cs s n r
+measured cs s n r p a f = record { many = p .count; size = p .lines; all = a; few = f }
 
 -- ---- each is placed
 

@@ -42,6 +42,10 @@ module _ (cs : List Bytes) (s : Bytes) (from left : ℕ) (e : Em) (r : Said) (no
       (λ (z : linesFrom s from ≡ [] ∷ []). rw (z, j) (record { expressed = no; lines = no-text e; left = ap (linesFrom s) p ∙ lines-end s end (omega arith) }))
       (nothing-here s from end l q)
 
+-- no line starts here, and the text's end is where one would end
+pub no-start : (s : Bytes) (from end : ℕ) → length s ≤ from → end ≡ length s → LineEnd s from end
+no-start s from end h e = record { high = omega arith; ends = λ l. absurd (omega arith); none = λ q n. absurd (n h) }
+
 -- ---- part by part
 
 -- so many parts are left, and what is made of them in front of what was made is the whole

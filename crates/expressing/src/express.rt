@@ -1,13 +1,14 @@
 // From a filter to an expression: a filter calls itself on its parts, the lines left falling.
 use crate::head::parts_below;
 use crate::head::put_head;
+use cursor::Cursor;
 use names::Entry;
 use placing::steps::both;
-use reader::line_end;
 use words::table::WordRow;
 use words::word_at;
 ghost use Prim.Native.Nat.{_≤_};
 ghost use Rattle.text.specs.Text.{linesFrom};
+ghost use Rattle.reader.specs.bridge.Lines.{LineEnd};
 ghost use Rattle.words.specs.bridge.Words.{Worded};
 ghost use Rattle.emit.specs.bridge.Emit.{em};
 ghost use Rattle.names.specs.bridge.Names.{namesIn};
@@ -19,6 +20,17 @@ pub struct Walked {
     pub expressed: bool,
     pub from: usize,
     pub at: usize,
+}
+
+// The line that starts here; where none does, one that ends with the text.
+fn line_from(filters: &[u8], from: usize) -> Cursor
+    ensures { λ r. ⌜ LineEnd (now (filters .entry)) from (r .end) ⌝ }
+{
+    let c = Cursor::new(0);
+    if filters.len() <= from {
+        return c.moved_to(filters.len()).next_line(filters);
+    }
+    c.moved_to(from).next_line(filters)
 }
 
 // try_expression_from_tree: the filter that starts here, of which at most so many lines are left.
@@ -43,7 +55,8 @@ pub fn tree_to_expression(
             at,
         };
     }
-    let end = line_end(filters, from);
+    let line = line_from(filters, from);
+    let end = line.end;
     if end == filters.len() {
         return Walked {
             expressed: false,
@@ -56,18 +69,17 @@ pub fn tree_to_expression(
     let head = put_head(tree, columns, n, filters, w.key, first, end, out, at);
     let mut expressed = head.expressed;
     let mut to = head.at;
-    let mut next = end + 1;
-    let mut parts = parts_below(filters, words, w.key, first, end);
-    while 0 < parts {
-        let part = tree_to_expression(tree, columns, n, filters, words, next, left - 1, out, to);
+    let parts = parts_below(filters, words, w.key, first, end);
+    let mut c = line.line_done().awaiting(parts);
+    while 0 < c.awaited {
+        let part = tree_to_expression(tree, columns, n, filters, words, c.at, left - 1, out, to);
         expressed = both(expressed, part.expressed);
         to = part.at;
-        next = part.from;
-        parts -= 1;
+        c = c.child_done(c.moved_to(part.from));
     }
     Walked {
         expressed,
-        from: next,
+        from: c.at,
         at: to,
     }
 }

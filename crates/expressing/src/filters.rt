@@ -4,6 +4,7 @@ use crate::place::measure_filters;
 use crate::place::put_expressions;
 use algebra::Answer as Check;
 use answers::Answer;
+use cursor::Cursor;
 use emit::put_all;
 use heads::copy;
 use names::Entry;
@@ -15,7 +16,6 @@ use placing::ends::inner_end;
 use placing::field::field_at;
 use placing::field::position_of;
 use placing::steps::put_repeated;
-use reader::line_end;
 use reading::check_filters;
 use reading::check_tree;
 use words::keys;
@@ -65,16 +65,16 @@ fn is_inside(filters: &[u8], from: usize, end: usize, width: usize) -> bool
 fn are_inside(filters: &[u8], width: usize) -> bool
     ensures { λ r. ⌜ r ≡ all (refBelow width) (linesFrom (now (filters .entry)) 0) ⌝ }
 {
-    let mut from = 0;
-    while from < filters.len() {
-        let end = line_end(filters, from);
-        if end == filters.len() {
+    let mut c = Cursor::new(0);
+    while c.at < filters.len() {
+        let line = c.next_line(filters);
+        if line.end == filters.len() {
             return true;
         }
-        if !is_inside(filters, from, end, width) {
+        if !is_inside(filters, c.at, line.end, width) {
             return false;
         }
-        from = end + 1;
+        c = line.line_done();
     }
     true
 }

@@ -215,20 +215,14 @@ pub fn put_head(
 }
 
 // How many parts stand below such a line, by the row of its word.
-pub fn parts_below(
-    filters: &[u8],
-    words: &[WordRow; 56],
-    key: u64,
-    first: usize,
-    end: usize,
-) -> usize
+pub fn parts_below(filters: &[u8], words: &[WordRow; 56], key: u64, first: usize, end: usize) -> u64
     requires { ⌜ (end < length (now filters)) × Worded (now words) ⌝ }
     ensures { λ r. ⌜ ((f : Bytes) → Keyed f key → r ≡ partsBelow (f ∷ left (now (filters .entry)) first end)) ⌝ }
 {
     let Found::Is(row) = row_at(words, word_by(words, 11, key)) else {
         return 0;
     };
-    lines_asked(filters, row.below, first, end) as usize
+    lines_asked(filters, row.below, first, end)
 }
 
 // is_constant_true, of the filter whose first line goes from here to its end.

@@ -2,9 +2,9 @@
 use crate::express::Walked;
 use crate::express::tree_to_expression;
 use crate::head::is_constant_true;
+use cursor::Cursor;
 use names::Entry;
 use placing::steps::both;
-use reader::line_end;
 use words::table::WordRow;
 ghost use mathlib.Core.Path.{_≡_};
 ghost use Prim.Native.Nat.{_+_, _≤_, _<_};
@@ -16,16 +16,16 @@ ghost use Rattle.words.specs.bridge.Words.{Worded};
 ghost use Rattle.emit.specs.bridge.Emit.{em, puts};
 ghost use Rattle.names.specs.bridge.Names.{namesIn};
 ghost use Rattle.filtering.specs.bridge.FilterLines.{treeToExpression, placedFilters};
-ghost use Rattle.expressing.specs.bridge.Walks.{Walks, Places, allPlaced, Measures};
+ghost use Rattle.expressing.specs.bridge.Walks.{Walks, allPlaced, Measures};
 
 // How many lines a text has.
 pub fn lines_in(text: &[u8]) -> usize
     ensures { λ r. ⌜ r ≡ length (linesFrom (now (text .entry)) 0) ⌝ }
 {
     let mut lines = 0;
-    let mut from = 0;
-    while from < text.len() {
-        from = line_end(text, from) + 1;
+    let mut c = Cursor::new(0);
+    while c.at < text.len() {
+        c = c.next_line(text).line_done();
         lines += 1;
     }
     lines
@@ -82,11 +82,6 @@ fn one_more(many: usize, placed: bool) -> usize
     many
 }
 
-pub struct Placed {
-    pub many: usize,
-    pub at: usize,
-}
-
 // All filters, one after the other; so many lines are left.
 fn put_filters(
     tree: &[u8],
@@ -97,21 +92,23 @@ fn put_filters(
     lines: usize,
     out: &mut [u8],
     at: usize,
-) -> Placed
+) -> usize
     requires { ⌜ (n ≤ 64) × Worded (now words) ⌝ }
-    ensures { λ r. ⌜ Places (placedFilters (namesIn (now (tree .entry)) (now (columns .entry)) n) lines (linesFrom (now (filters .entry)) 0)) (em at (now (out .entry))) (em (r .at) (now (out .exit))) r ⌝ }
+    ensures { λ r. ⌜ em r (now (out .exit)) ≡ puts (textOf (placedFilters (namesIn (now (tree .entry)) (now (columns .entry)) n) lines (linesFrom (now (filters .entry)) 0) .lines)) (em at (now (out .entry))) ⌝ }
 {
-    let mut many = 0;
     let mut to = at;
-    let mut from = 0;
+    let mut c = Cursor::new(0);
     let mut left = lines;
     while 0 < left {
-        let end = line_end(filters, from);
-        if end == filters.len() {
-            return Placed { many, at: to };
+        if filters.len() <= c.at {
+            return to;
         }
-        let tried = try_filter(tree, columns, n, filters, words, from, left, 0);
-        let placed = both(!is_constant_true(filters, from, end), tried.expressed);
+        let line = c.next_line(filters);
+        if line.end == filters.len() {
+            return to;
+        }
+        let tried = try_filter(tree, columns, n, filters, words, c.at, left, 0);
+        let placed = both(!is_constant_true(filters, c.at, line.end), tried.expressed);
         to = put_placed(
             placed,
             tree,
@@ -119,16 +116,15 @@ fn put_filters(
             n,
             filters,
             words,
-            from,
+            c.at,
             left,
             out,
             to,
         );
-        many = one_more(many, placed);
-        from = tried.from;
+        c = line.moved_to(tried.from);
         left -= 1;
     }
-    Placed { many, at: to }
+    to
 }
 
 // How many filters are placed, how long their expressions' lines are, and whether that is all filters.
@@ -162,26 +158,26 @@ pub fn measure_filters(
     let mut many = 0;
     let mut size = 0;
     let mut all = true;
-    let mut from = 0;
+    let mut c = Cursor::new(0);
     let mut left = lines;
     while 0 < left {
-        if filters.len() <= from {
+        if filters.len() <= c.at {
             return Measured { many, size, all };
         }
-        let end = line_end(filters, from);
-        if end == filters.len() {
+        let line = c.next_line(filters);
+        if line.end == filters.len() {
             return Measured {
                 many,
                 size,
                 all: false,
             };
         }
-        let tried = try_filter(tree, columns, n, filters, words, from, left, size);
-        let placed = both(!is_constant_true(filters, from, end), tried.expressed);
+        let tried = try_filter(tree, columns, n, filters, words, c.at, left, size);
+        let placed = both(!is_constant_true(filters, c.at, line.end), tried.expressed);
         size = placed_end(placed, tried.at, size);
         many = one_more(many, placed);
         all = both(all, placed);
-        from = tried.from;
+        c = line.moved_to(tried.from);
         left -= 1;
     }
     Measured { many, size, all }
@@ -234,6 +230,5 @@ pub fn put_expressions(
     if all {
         return put_every(tree, columns, n, filters, words, lines, out, at);
     }
-    let placed = put_filters(tree, columns, n, filters, words, lines, out, at);
-    placed.at
+    put_filters(tree, columns, n, filters, words, lines, out, at)
 }

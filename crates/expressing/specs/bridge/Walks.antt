@@ -3,13 +3,11 @@ use Prim.Native.Nat.{ℕ, zero, suc, _≤_}
 use mathlib.Core.Path.{_≡_}
 use mathlib.Core.Bool.{Bool, true, not, _&&_}
 use mathlib.Core.List.{List, [], _∷_}
-use lib.ListN.{length}
 use Rattle.text.specs.Text.{Bytes, Line, textOf, linesFrom}
 use Rattle.emit.specs.bridge.Emit.{Em, em, puts}
 use Rattle.filtering.specs.bridge.FilterLines as Lines
 use Rattle.filtering.specs.bridge.FilterLines.{isTrueLine, treeToExpression, placedFilters}
 use Rattle.expressing.specs.declared.express.Walked.{Walked}
-use Rattle.expressing.specs.declared.place.Placed.{Placed}
 use Rattle.expressing.specs.declared.place.Measured.{Measured}
 
 -- whether all of it is expressed, what was written, and where the lines behind it start
@@ -17,11 +15,6 @@ pub record Walks (s : Bytes) (w : Lines.Walked) (before after : Em) (r : Walked)
   pub expressed : r .expressed ≡ w .expressed
   pub lines : after ≡ puts (textOf (w .lines)) before
   pub left : linesFrom s (r .from) ≡ w .left
-
--- how many are placed, and what was written of them
-pub record Places (x : Lines.Placed) (before after : Em) (r : Placed) : Type 0 where
-  pub many : r .many ≡ x .many
-  pub lines : after ≡ puts (textOf (x .lines)) before
 
 -- each filter is placed; n lines are left
 unfoldable pub allPlaced : List Bytes → ℕ → List Line → Bool

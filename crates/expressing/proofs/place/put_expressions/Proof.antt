@@ -12,4 +12,4 @@ put-expressions-spec =
     (λ c. search needs)
     (λ c κs. search needs)
     (λ c. search needs)
-    (λ c. c .before .before .put-filters .ensures .lines))
+    (λ c. search needs))
