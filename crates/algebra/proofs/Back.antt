@@ -11,7 +11,7 @@ use Rattle.text.specs.Word.{bytes, spelled}
 use Rattle.text.specs.Field.{Kind, variable, cell, fits, allFit}
 use Rattle.text.proofs.Basics.{and-left, and-right, deeper, same-refl}
 use Rattle.text.proofs.Numbers.{number-back}
-use Rattle.algebra.specs.Tree.{Triple, Op, OR, AND, EQ, SAME, GT, GE, LT, LE, ADD, SUB, MUL, DIV, IN, PLUS, NEG, NOT, IF, COALESCE, Direction, ASC, DESC, Pattern, bgp, path, join, union, minus, leftjoin, filter, graph, extend, values, orderby, project, distinct, reduced, slice, group, service, Expression, term, bound, exists, apply, call, Condition, always, provided, Expressions, eend, econs, Orders, oend, ocons, Aggregates, aend, agg, aggall, count, ocount, acount}
+use Rattle.algebra.specs.Tree.{Triple, Op, OR, AND, EQ, SAME, GT, GE, LT, LE, ADD, SUB, MUL, DIV, IN, PLUS, NEG, NOT, IF, COALESCE, Direction, ASC, DESC, Pattern, bgp, path, join, union, minus, leftjoin, filter, graph, extend, values, orderby, project, distinct, reduced, slice, group, service, Expression, term, bound, exists, apply, call, Condition, always, provided, Expressions, eend, econs, Orders, oend, ocons, Aggregates, aend, agg, aggall, ecount, ocount, acount}
 use Rattle.algebra.specs.Word.{spellO, spellE, spellD, OP, expressionWords, directions, Arity, exactly, counted, arity}
 use Rattle.algebra.specs.Layout.{putTriples, putRows, putArity, put, putE, putC, putEs, putOs, putAs, putFlag}
 use Rattle.algebra.specs.Valid.{AllFit, Triples, Rows, Takes, Valid, ValidE, ValidC, ValidEs, ValidOs, ValidAs}
@@ -113,14 +113,14 @@ module _ (β : Limits) where
     backE (term x) t m d v h o = deeper _ d h (ReadsE (term x) t m) λ k i. rw (v, o)
     backE (bound x) t m d v h o = deeper _ d h (ReadsE (bound x) t m) λ k i. rw (v, o)
     backE (exists p) t m d v h o = deeper _ d h (ReadsE (exists p) t m) λ k i. rw (grow β p _ o, back p t _ k v (omega arith) o)
-    backE (apply f es) t m d v h o = deeper _ d h (ReadsE (apply f es) t m) λ k i. rw (op-back f, taken-back (arity f) (count es) (putEs es t) m (v .0), growEs β es _ o, backEs es t _ k (v .1) (omega arith) o)
-    backE (call n es) t m d v h o = deeper _ d h (ReadsE (call n es) t m) λ k i. rw (v .0, number-back (count es) (v .1), growEs β es _ o, backEs es t _ k (v .2) (omega arith) o)
+    backE (apply f es) t m d v h o = deeper _ d h (ReadsE (apply f es) t m) λ k i. rw (op-back f, taken-back (arity f) (ecount es) (putEs es t) m (v .0), growEs β es _ o, backEs es t _ k (v .1) (omega arith) o)
+    backE (call n es) t m d v h o = deeper _ d h (ReadsE (call n es) t m) λ k i. rw (v .0, number-back (ecount es) (v .1), growEs β es _ o, backEs es t _ k (v .2) (omega arith) o)
 
     pub backC : (c : Condition) (t : List Line) (m : Tally) (d : ℕ) → ValidC c → depthC c ≤ d → In β (tallyC c m) → condition (conditional c) (expressionIn β (inside β d)) (putC c t) m ≡ got c t (tallyC c m)
     backC always t m d v h o = refl
     backC (provided e) t m d v h o = rw (backE e t m d v h o)
 
-    pub backEs : (es : Expressions) (t : List Line) (m : Tally) (d : ℕ) → ValidEs es → depthEs es ≤ d → In β (tallyEs es m) → expressions (count es) (expressionIn β (inside β d)) (putEs es t) m ≡ got es t (tallyEs es m)
+    pub backEs : (es : Expressions) (t : List Line) (m : Tally) (d : ℕ) → ValidEs es → depthEs es ≤ d → In β (tallyEs es m) → expressions (ecount es) (expressionIn β (inside β d)) (putEs es t) m ≡ got es t (tallyEs es m)
     backEs eend t m d v h o = refl
     backEs (econs e es) t m d v h o = rw (backE e (putEs es t) m d (v .0) (omega arith) (growEs β es _ o), backEs es t _ d (v .1) (omega arith) o)
 

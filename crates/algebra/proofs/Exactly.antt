@@ -11,7 +11,8 @@ use borrow.Author.Tests.{ltb-false, le-ltb}
 use Rattle.text.specs.Text.{Bytes, Line, textOf, linesOf}
 use Rattle.text.proofs.Texts.{Neat, Ended, neat-ended, lines-back, text-back}
 use Rattle.algebra.specs.Tally.{Limits, Tally, start}
-use Rattle.algebra.specs.Bounded.{Within, Just}
+use Rattle.algebra.specs.Bounded.{Within}
+use Rattle.algebra.specs.bridge.Just.{Just}
 use Rattle.algebra.specs.Reader.{malformed, overBound, Got, got, refused, Reader, Outcome, reads, refuses, number-of, outcome, readText}
 use Rattle.algebra.specs.bridge.Machine.{Want, good, bad, checkNumber, resume, More, done, run, checkText}
 use Rattle.algebra.specs.bridge.Verdict.{checked}

@@ -14,7 +14,7 @@ use Rattle.algebra.specs.Query.{Query, PairList, Pair, unique, BindingSe
 use Rattle.algebra.specs.Layout.{put, layout, putQuery, putPairs, putSets, putFilters}
 use Rattle.algebra.specs.Valid.{mem, different, Valid}
 use Rattle.algebra.specs.Tally.{Tally, start, notes, noted, headed, paired, tally, tallyQuery, tallyPair, tallyPairs, tallySets, tallyFilters}
-use Rattle.algebra.specs.Bounded.{Variables}
+use Rattle.algebra.specs.bridge.Just.{Variables}
 use Rattle.algebra.proofs.Walk.{Keeps, walk, walk-query, walk-sets, walk-filters}
 use Rattle.algebra.proofs.Neat.{neat}
 

@@ -7,7 +7,7 @@ use lib.ListN.{length}
 use Rattle.text.specs.Text.{Bytes, Line}
 use Rattle.text.specs.Field.{clean, variable, node, plain, name, cell, integer, limit, flag, opaque, lexical, form}
 use Rattle.text.proofs.Texts.{AllClean, Neat, fits-clean, all-clean, decimal-clean}
-use Rattle.algebra.specs.Tree.{Triple, Op, OR, AND, EQ, SAME, GT, GE, LT, LE, ADD, SUB, MUL, DIV, IN, PLUS, NEG, NOT, IF, COALESCE, Direction, ASC, DESC, Pattern, bgp, path, join, union, minus, leftjoin, filter, graph, extend, values, orderby, project, distinct, reduced, slice, group, service, Expression, term, bound, exists, apply, call, Condition, always, provided, Expressions, eend, econs, Orders, oend, ocons, Aggregates, aend, agg, aggall, count, ocount, acount}
+use Rattle.algebra.specs.Tree.{Triple, Op, OR, AND, EQ, SAME, GT, GE, LT, LE, ADD, SUB, MUL, DIV, IN, PLUS, NEG, NOT, IF, COALESCE, Direction, ASC, DESC, Pattern, bgp, path, join, union, minus, leftjoin, filter, graph, extend, values, orderby, project, distinct, reduced, slice, group, service, Expression, term, bound, exists, apply, call, Condition, always, provided, Expressions, eend, econs, Orders, oend, ocons, Aggregates, aend, agg, aggall, ecount, ocount, acount}
 use Rattle.algebra.specs.Query.{Query, PairList, Pair, firstKind, secondKind, Domain, PlainString, LanguageTaggedString, Iri, Float, Double, UnsignedLong, NonNegativeLong, UnsignedInt, NonNegativeInt, Long, Int, Boolean, Null, Tuple, Map, Other, Value, extraKind, BindingSet, FilterWord, UN, BIN, TERN, NARY, Filter, leaf, ref, function, Filters, fend, fcons, fcount}
 use Rattle.algebra.specs.Word.{spellO, spellD, spellV, spellF, Arity, exactly, counted, arity, filterArity}
 use Rattle.algebra.specs.Layout.{putTriples, putRows, putArity, put, putE, putC, putEs, putOs, putAs, putFlag, putQuery, putPairs, putValues, putValueRows, putSets, putFilter, putParts, putFilters}
@@ -87,8 +87,8 @@ mutual
   neatE (term x) t v n = ((refl, (fits-clean plain x v, tt)), n)
   neatE (bound x) t v n = ((refl, (fits-clean variable x v, tt)), n)
   neatE (exists p) t v n = ((refl, tt), neat p t v n)
-  neatE (apply o es) t v n = ((op-clean o, arity-clean (arity o) (count es)), neatEs es t (v .1) n)
-  neatE (call x es) t v n = ((refl, (fits-clean opaque x (v .0), (decimal-clean (count es), tt))), neatEs es t (v .2) n)
+  neatE (apply o es) t v n = ((op-clean o, arity-clean (arity o) (ecount es)), neatEs es t (v .1) n)
+  neatE (call x es) t v n = ((refl, (fits-clean opaque x (v .0), (decimal-clean (ecount es), tt))), neatEs es t (v .2) n)
 
   pub neatC : (c : Condition) (t : List Line) → ValidC c → Neat t → Neat (putC c t)
   neatC always t v n = n

@@ -8,7 +8,7 @@ use lib.ListN.{length}
 use Rattle.text.specs.Text.{Bytes, Line}
 use Rattle.text.specs.Word.{bytes}
 use Rattle.text.specs.Field.{Kind, variable, node, name, cell, flag, opaque}
-use Rattle.algebra.specs.Tree.{Condition, Expressions, Orders, Aggregates, count, ocount, acount}
+use Rattle.algebra.specs.Tree.{Condition, Expressions, Orders, Aggregates, ecount, ocount, acount}
 use Rattle.algebra.specs.Word.{spellD, spellA, AggregateWord, AGG, AGGALL, directions, aggregateWords}
 use Rattle.algebra.specs.Layout.{putTriples, putRows, put, putE, putC, putEs, putOs, putAs, putFlag}
 use Rattle.algebra.specs.Valid.{Fits, AllFit, Triples, Rows, Valid, ValidE, ValidC, ValidEs, ValidOs, ValidAs}
@@ -72,9 +72,9 @@ pub record Level (β : Limits) (d : ℕ) (r : Inside) : Type 0 where
 
 module _ (β : Limits) (d : ℕ) (r : Inside) (ok : Level β d r) where
   abbrev GoodEs : ℕ → List Line → Tally → Expressions → List Line → Tally → Type 0
-  GoodEs n s m c u l = (l ≡ tallyEs c m) × In β (tallyEs c m) × ((s ≡ putEs c u) × ValidEs c × (suc (depthEs c) ≤ d) × (count c ≡ n))
+  GoodEs n s m c u l = (l ≡ tallyEs c m) × In β (tallyEs c m) × ((s ≡ putEs c u) × ValidEs c × (suc (depthEs c) ≤ d) × (ecount c ≡ n))
 
-  pub expressions-sound : (n : ℕ) → 1 ≤ d → Exact β (expressions n (r .expression)) tallyEs (λ c s u. (s ≡ putEs c u) × ValidEs c × (suc (depthEs c) ≤ d) × (count c ≡ n))
+  pub expressions-sound : (n : ℕ) → 1 ≤ d → Exact β (expressions n (r .expression)) tallyEs (λ c s u. (s ≡ putEs c u) × ValidEs c × (suc (depthEs c) ≤ d) × (ecount c ≡ n))
   unfolding expressions put Valid depth tally
   expressions-sound zero g s t m l es o e = done (GoodEs 0 s m) e (refl, o, (refl, tt, g, refl))
   expressions-sound (suc n) g s t m l es o e =

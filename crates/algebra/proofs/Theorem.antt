@@ -15,7 +15,8 @@ use Rattle.algebra.specs.Reader.{reads, number-of, readText}
 use Rattle.algebra.specs.Reading.{inside, tree}
 use Rattle.algebra.specs.ListReading.{query, pairs, bindingSets, filters}
 use Rattle.algebra.specs.Texts.{readTree, readQuery, readPairs, readSets, readFilters}
-use Rattle.algebra.specs.Bounded.{layoutQuery, layoutPairs, layoutSets, layoutFilters, depthFilters, IsTree, IsQuery, IsPairs, IsSets, IsFilters, Just}
+use Rattle.algebra.specs.Bounded.{layoutQuery, layoutPairs, layoutSets, layoutFilters, depthFilters, IsTree, IsQuery, IsPairs, IsSets, IsFilters}
+use Rattle.algebra.specs.bridge.Just.{Just}
 use Rattle.algebra.proofs.Grow.{start-in}
 use Rattle.algebra.proofs.Neat.{neat, query-neat, pairs-neat, sets-neat, filters-neat}
 use Rattle.algebra.proofs.Back.{back}

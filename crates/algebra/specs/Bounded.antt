@@ -2,10 +2,8 @@
 use Prim.Native.Nat.{ℕ, _≤_, max}
 use mathlib.Core.Path.{_≡_}
 use mathlib.Core.List.{List, [], _∷_}
-use mathlib.Core.Bool.{true}
 use lib.ListN.{length}
 use Rattle.text.specs.Text.{Bytes, textOf}
-use Rattle.text.specs.Field.{isVar}
 use Rattle.algebra.specs.Tree.{Pattern}
 use Rattle.algebra.specs.Query.{Query, PairList, Pair, BindingSet, Filter}
 use Rattle.algebra.specs.Layout.{layout, putQuery, putPairs, putSets, putFilters}
@@ -78,15 +76,3 @@ IsSets β s xs = (layoutSets xs ≡ s) × ValidSets xs × BoundedSets β xs
 
 abbrev pub IsFilters : Limits → Bytes → List Filter → Type 0
 IsFilters β s fs = (layoutFilters fs ≡ s) × ValidFilters fs × BoundedFilters β fs
-
--- there is exactly one
-pub record Just {A : Type 0} (P : A → Type 0) : Type 0 where
-  pub it : A
-  pub holds : P it
-  pub only : (a : A) → P a → a ≡ it
-
--- each is a variable
-unfoldable pub Variables : List Bytes → Type 0
-unfolding isVar
-Variables [] = Unit {0}
-Variables (x ∷ xs) = (isVar x ≡ true) × Variables xs

@@ -5,7 +5,7 @@ use lib.ListN.{length}
 use Rattle.text.specs.Text.{Bytes, Line, textOf}
 use Rattle.text.specs.Word.{bytes}
 use Rattle.text.specs.Field.{decimal}
-use Rattle.algebra.specs.Tree.{Triple, Op, Direction, Pattern, bgp, path, join, union, minus, leftjoin, filter, graph, extend, values, orderby, project, distinct, reduced, slice, group, service, Expression, term, bound, exists, apply, call, Condition, always, provided, Expressions, eend, econs, Orders, oend, ocons, Aggregates, aend, agg, aggall, count, ocount, acount}
+use Rattle.algebra.specs.Tree.{Triple, Op, Direction, Pattern, bgp, path, join, union, minus, leftjoin, filter, graph, extend, values, orderby, project, distinct, reduced, slice, group, service, Expression, term, bound, exists, apply, call, Condition, always, provided, Expressions, eend, econs, Orders, oend, ocons, Aggregates, aend, agg, aggall, ecount, ocount, acount}
 use Rattle.algebra.specs.Query.{Query, Pair, Value, BindingSet, Filter, leaf, ref, function, Filters, fend, fcons, fcount}
 use Rattle.algebra.specs.Word.{spellO, spellD, spellF, spellV, Arity, exactly, counted, arity, filterArity}
 
@@ -58,8 +58,8 @@ unfoldable mutual
   putE (term x) t = (bytes "term" ∷ x ∷ []) ∷ t
   putE (bound v) t = (bytes "bound" ∷ v ∷ []) ∷ t
   putE (exists p) t = (bytes "exists" ∷ []) ∷ put p t
-  putE (apply o es) t = (spellO o ∷ putArity (arity o) (count es)) ∷ putEs es t
-  putE (call n es) t = (bytes "call" ∷ n ∷ decimal (count es) ∷ []) ∷ putEs es t
+  putE (apply o es) t = (spellO o ∷ putArity (arity o) (ecount es)) ∷ putEs es t
+  putE (call n es) t = (bytes "call" ∷ n ∷ decimal (ecount es) ∷ []) ∷ putEs es t
 
   pub putC : Condition → List Line → List Line
   putC always t = t

@@ -59,9 +59,9 @@ mutual
     agg : Bytes → Bytes → Bytes → Expression → Aggregates → Aggregates
     aggall : Bytes → Bytes → Aggregates → Aggregates
 
-abbrev pub count : Expressions → ℕ
-count eend = 0
-count (econs e es) = suc (count es)
+abbrev pub ecount : Expressions → ℕ
+ecount eend = 0
+ecount (econs e es) = suc (ecount es)
 
 abbrev pub ocount : Orders → ℕ
 ocount oend = 0

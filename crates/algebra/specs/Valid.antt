@@ -6,7 +6,7 @@ use mathlib.Core.Bool.{Bool, true, false, cond, not, _||_, _&&_}
 use lib.ListN.{length}
 use Rattle.text.specs.Text.{Bytes, same}
 use Rattle.text.specs.Field.{most, Kind, variable, node, plain, name, cell, integer, limit, flag, opaque, lexical, form, fits, allFit}
-use Rattle.algebra.specs.Tree.{Triple, Pattern, bgp, path, join, union, minus, leftjoin, filter, graph, extend, values, orderby, project, distinct, reduced, slice, group, service, Expression, term, bound, exists, apply, call, Condition, always, provided, Expressions, eend, econs, Orders, oend, ocons, Aggregates, aend, agg, aggall, count, ocount, acount}
+use Rattle.algebra.specs.Tree.{Triple, Pattern, bgp, path, join, union, minus, leftjoin, filter, graph, extend, values, orderby, project, distinct, reduced, slice, group, service, Expression, term, bound, exists, apply, call, Condition, always, provided, Expressions, eend, econs, Orders, oend, ocons, Aggregates, aend, agg, aggall, ecount, ocount, acount}
 use Rattle.algebra.specs.Query.{Query, PairList, Pair, firstKind, secondKind, unique, Value, extraKind, BindingSet, Filter, leaf, ref, function, Filters, fend, fcons, fcount}
 use Rattle.algebra.specs.Word.{Arity, exactly, counted, arity, filterArity}
 
@@ -57,8 +57,8 @@ unfoldable mutual
   ValidE (term x) = Fits plain x
   ValidE (bound v) = Fits variable v
   ValidE (exists p) = Valid p
-  ValidE (apply o es) = Takes (arity o) (count es) × ValidEs es
-  ValidE (call n es) = Fits opaque n × (count es ≤ most) × ValidEs es
+  ValidE (apply o es) = Takes (arity o) (ecount es) × ValidEs es
+  ValidE (call n es) = Fits opaque n × (ecount es ≤ most) × ValidEs es
 
   pub ValidC : Condition → Type 0
   ValidC always = Unit {0}

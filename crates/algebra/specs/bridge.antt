@@ -2,3 +2,4 @@ pub mod Table
 pub mod Machine
 pub mod Answers
 pub mod Verdict
+pub mod Just

@@ -23,7 +23,7 @@ use Rattle.merging.specs.Request.{Projection, asProject, readConstants, positio
 use Rattle.merging.specs.Merge.{isSelectOrAsk}
 use Rattle.merging.specs.Push.{pushed, pushConstants, pushConstantsOutcome}
 use Rattle.merging.specs.Negate.{negateOutcome}
-use Rattle.merging.proofs.Returned.{merge-patterns-numbered, merge-queries-numbered}
+use Rattle.merging.proofs.Numbered.{merge-patterns-numbered, merge-queries-numbered}
 use Rattle.negating.specs.Projections.{outermostProjection}
 use Rattle.filtering.specs.IfFound.{ifFound}
 use Rattle.filtering.specs.Bindings.{positionsInside, valuesUsable, bindingsOutcome}

@@ -55,3 +55,7 @@ answered o q before after r e h = subst (λ (x : Outcome). Answered x before aft
 -- what is reported of an answer's number and size
 pub reported : (o : Outcome) (before after : Bytes) (r : Answer) (n s : ℕ) → Answered o before after r → n ≡ number r → s ≡ size r → Reported o before after n s
 reported o before after r n s h p q = rw (p, q) h
+
+-- two answers that are the same have the same bytes
+pub bytes-of : (a b : Bytes) → written a ≡ written b → a ≡ b
+bytes-of a b e = cc

@@ -14,7 +14,7 @@ use Rattle.words.specs.bridge.Key.{keyOf, Keyed}
 use Rattle.words.proofs.ByKey.{small, tells, same-key, other-key}
 use Rattle.cursor.specs.bridge.Cursor.{left}
 use Rattle.cursor.proofs.Laws.{left-none}
-use Rattle.parted.proofs.Laws.{part-join}
+use Rattle.text.proofs.Parts.{part-join}
 use Rattle.emit.specs.bridge.Emit.{Em, puts}
 use Rattle.emit.proofs.Laws.{puts-append, puts-nil}
 use Rattle.walking.specs.bridge.Walk.{tabbed}

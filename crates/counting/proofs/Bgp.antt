@@ -10,13 +10,14 @@ use Rattle.text.specs.Field.{isVar}
 use Rattle.text.proofs.Basics.{and-left, and-right, and-both, same-refl, same-eq}
 use Rattle.algebra.specs.Tree.{Triple, bgp}
 use Rattle.algebra.specs.Valid.{mem}
-use Rattle.scoping.specs.Sets.{all, any, variablesOf, tripleVariables}
+use Rattle.scoping.specs.Sets.{all, any, variablesOf, tripleVariables, each}
 use Rattle.scoping.specs.Variables.{variablesInPattern, scopeOf}
-use Rattle.counting.specs.Bag.{Sub, each, once, total, tick, count}
+use Rattle.scoping.specs.bridge.Sets.{Sub}
+use Rattle.counting.specs.Bag.{once, total, tick, count}
 use Rattle.counting.specs.Row.{Cell, sameCell, Row, bind, cells, sameOn, sameRow}
-use Rattle.counting.specs.Condition.{value}
+use Rattle.counting.specs.Condition.{valueIn}
 use Rattle.counting.specs.Answer.{ways, isIn, terms, bgpRows, eval, answer}
-use Rattle.counting.proofs.Basics.{clash, not-true, both-ways, or-cases, either, mem-nil, mem-here, mem-there, mem-cases, mem-left, mem-right, mem-append-cases, mem-variables, variables-mem, all-cong, all-at, all-of}
+use Rattle.scoping.proofs.Basics.{clash, not-true, both-ways, or-cases, either, mem-nil, mem-here, mem-there, mem-cases, mem-left, mem-right, mem-append-cases, mem-variables, variables-mem, all-cong, all-at, all-of}
 use Rattle.counting.proofs.Sums.{cond-zero, total-cong, total-zero, total-map, total-each, total-keep, total-cond, total-mul, cond-tick, count-any, sameCell-eq}
 use Rattle.counting.proofs.Columns.{count-rows}
 
@@ -111,15 +112,15 @@ three-in c d e (x ∷ g) h = either
     (cell-more c (terms g) (terms (x ∷ g)) s (t .0), cell-more d (terms g) (terms (x ∷ g)) s (t .1), cell-more e (terms g) (terms (x ∷ g)) s (t .2)))
     (or-cases (sameCell c (some (x .subj)) && (sameCell d (some (x .pred)) && sameCell e (some (x .obj)))) _ h)
 
-field-bound : (ts : List Bytes) (r : Row) (v x : Bytes) → cellIn ts (value x r) ≡ true → isVar v ≡ true → v ≡ x → cellIn ts (r v) ≡ true
-unfolding value
+field-bound : (ts : List Bytes) (r : Row) (v x : Bytes) → cellIn ts (valueIn x r) ≡ true → isVar v ≡ true → v ≡ x → cellIn ts (r v) ≡ true
+unfolding valueIn
 field-bound ts r v x h m e = ap (λ (y : Bytes). cellIn ts (r y)) e ∙ sym (ap (λ (t : Bool). cellIn ts (cond t (r x) (some x))) (ap isVar (sym e) ∙ m)) ∙ h
 
 -- where a row makes every `t` line a triple, it binds each of their names to a term
 triple-bound : (g : List Triple) (r : Row) (t : Triple) → isIn g r t ≡ true → (v : Bytes) → mem v (variablesOf (t .subj ∷ t .pred ∷ t .obj ∷ [])) ≡ true → cellIn (terms g) (r v) ≡ true
 unfolding isIn Three
 triple-bound g r t h v m =
-    let k = three-in (value (t .subj) r) (value (t .pred) r) (value (t .obj) r) g h in
+    let k = three-in (valueIn (t .subj) r) (valueIn (t .pred) r) (valueIn (t .obj) r) g h in
     let w = variables-mem v (t .subj ∷ t .pred ∷ t .obj ∷ []) m in
     either (field-bound (terms g) r v (t .subj) (k .0) (w .0))
     (λ b. either (field-bound (terms g) r v (t .pred) (k .1) (w .0))
@@ -131,8 +132,8 @@ all-bound g r [] h v m = mem-nil v m
 all-bound g r (t ∷ ts) h v m = either (triple-bound g r t (and-left (isIn g r t) (all (isIn g r) ts) h) v) (all-bound g r ts (and-right (isIn g r t) (all (isIn g r) ts) h) v) (mem-append-cases v (variablesOf (t .subj ∷ t .pred ∷ t .obj ∷ [])) (tripleVariables ts) m)
 
 -- rows that are the same on a pattern's names make it alike
-value-same : (x : Bytes) (r s : Row) → (isVar x ≡ true → r x ≡ s x) → value x r ≡ value x s
-unfolding value
+value-same : (x : Bytes) (r s : Row) → (isVar x ≡ true → r x ≡ s x) → valueIn x r ≡ valueIn x s
+unfolding valueIn
 value-same x r s h = go (isVar x) h
   where
     go : (t : Bool) → (t ≡ true → r x ≡ s x) → cond t (r x) (some x) ≡ cond t (s x) (some x)
@@ -143,7 +144,7 @@ isIn-same : (g : List Triple) (r x : Row) (t : Triple) → ((v : Bytes) → mem 
 unfolding isIn
 isIn-same g r x t h = λ i. any (λ y. sameCell (at (t .subj) (mem-here (t .subj) _) i) (some (y .subj)) && (sameCell (at (t .pred) (mem-there (t .pred) (t .subj) _ (mem-here (t .pred) _)) i) (some (y .pred)) && sameCell (at (t .obj) (mem-there (t .obj) (t .subj) _ (mem-there (t .obj) (t .pred) _ (mem-here (t .obj) []))) i) (some (y .obj)))) g
   where
-    at : (v : Bytes) → mem v (t .subj ∷ t .pred ∷ t .obj ∷ []) ≡ true → value v r ≡ value v x
+    at : (v : Bytes) → mem v (t .subj ∷ t .pred ∷ t .obj ∷ []) ≡ true → valueIn v r ≡ valueIn v x
     at v m = value-same v r x (λ e. h v (mem-variables v (t .subj ∷ t .pred ∷ t .obj ∷ []) e m))
 
 allIn-same : (g : List Triple) (r x : Row) (ts : List Triple) → ((v : Bytes) → mem v (tripleVariables ts) ≡ true → r v ≡ x v) → all (isIn g r) ts ≡ all (isIn g x) ts
@@ -207,4 +208,4 @@ three-lists g h k (some a) (some b) (some c) = k (record { subj = a; pred = b; o
 -- bgp: two lists of the same triples, in whatever order and repetition, give each row the same count
 pub bgp-any-order : (g h ts : List Triple) → ((t : Triple) → hasTriple g t ≡ hasTriple h t) → (r : Row) → count sameRow (cells (scopeOf (bgp ts)) r) (answer (scopeOf (bgp ts)) g (bgp ts)) ≡ count sameRow (cells (scopeOf (bgp ts)) r) (answer (scopeOf (bgp ts)) h (bgp ts))
 unfolding isIn three-test
-bgp-any-order g h ts k r = bgp-count g ts r ∙ (ap (λ f. tick (all f ts)) (fun-ext (λ t. three-lists g h k (value (t .subj) r) (value (t .pred) r) (value (t .obj) r))) ∙ sym (bgp-count h ts r))
+bgp-any-order g h ts k r = bgp-count g ts r ∙ (ap (λ f. tick (all f ts)) (fun-ext (λ t. three-lists g h k (valueIn (t .subj) r) (valueIn (t .pred) r) (valueIn (t .obj) r))) ∙ sym (bgp-count h ts r))

@@ -10,11 +10,12 @@ use Rattle.algebra.specs.Tree.{Triple, Pattern}
 use Rattle.algebra.specs.Valid.{mem}
 use Rattle.scoping.specs.Variables.{scopeOf}
 use Rattle.scoping.specs.Rename.{renameInGraphPattern}
-use Rattle.counting.specs.Bag.{Sub, Inj, total, tick, count}
+use Rattle.scoping.specs.bridge.Sets.{Sub, Inj}
+use Rattle.counting.specs.Bag.{total, tick, count}
 use Rattle.counting.specs.Row.{Cell, Row, bind, named, cells, cut, sameRow}
 use Rattle.counting.specs.Scope.{names}
 use Rattle.counting.specs.Answer.{eval, answer}
-use Rattle.counting.proofs.Basics.{split, either, mem-here, mem-there, mem-left, mem-right, map-map}
+use Rattle.scoping.proofs.Basics.{split, either, mem-here, mem-there, mem-left, mem-right, map-map}
 use Rattle.counting.proofs.Every.{map-every}
 use Rattle.counting.proofs.Sums.{total-map}
 use Rattle.counting.proofs.Only.{Only, only-in}

@@ -2,8 +2,8 @@
 use mathlib.Core.Path.{_≡_, refl, sym, _∙_, ap, ap₂, subst}
 use mathlib.Core.Bool.{Bool, true, false, cond, not, _||_}
 use mathlib.Core.List.{List, [], _∷_, _++_, map}
-use Rattle.scoping.specs.Sets.{any, keep}
-use Rattle.counting.specs.Bag.{each, when, once}
+use Rattle.scoping.specs.Sets.{any, keep, each}
+use Rattle.counting.specs.Bag.{when, once}
 use Rattle.counting.proofs.Basics.{keep-each}
 
 -- every element of a list has P

@@ -7,18 +7,20 @@ use Prim.Native.Nat.{ℕ, _+_, _*_}
 use native.Mathlib.Nat.{add-zero, add-comm, mul-one, mul-zero}
 use Rattle.text.specs.Text.{Bytes}
 use Rattle.algebra.specs.Tree.{Triple, Pattern, join, union, minus, leftjoin, filter, extend, values, project, distinct, Expression, Condition, always, provided}
-use Rattle.scoping.specs.Sets.{any, keep}
+use Rattle.scoping.specs.Sets.{any, keep, each}
 use Rattle.scoping.specs.Variables.{scopeOf}
-use Rattle.counting.specs.Bag.{Sub, each, when, once, total, tick, count}
+use Rattle.scoping.specs.bridge.Sets.{Sub}
+use Rattle.counting.specs.Bag.{when, once, total, tick, count}
 use Rattle.counting.specs.Row.{Cell, Row, merge, cut, agree, sameOn, cells, named, oneTerm, cell, sameRow}
 use Rattle.counting.specs.Condition.{termOf, passes}
-use Rattle.counting.specs.Answer.{pairs, orElse, extendBy, lineRows, removed, eval, answer}
-use Rattle.counting.proofs.Basics.{sub-left, sub-right, keep-map}
+use Rattle.counting.specs.Answer.{unions, orElse, extendBy, lineRows, removed, eval, answer}
+use Rattle.scoping.proofs.Basics.{sub-left, sub-right}
+use Rattle.counting.proofs.Basics.{keep-map}
 use Rattle.counting.proofs.Every.{Every, done, more, every-imp, every-once, every-two, keep-every}
 use Rattle.counting.proofs.Sums.{cond-zero, total-cong, total-every, total-append, total-map, total-each, total-when, total-keep, total-cond, total-add, cond-tick, count-any, sum-once, sum-pairs, sameRow-refl, sameRow-eq}
 use Rattle.counting.proofs.Only.{Only, eval-only, only-in}
 use Rattle.counting.proofs.Columns.{cells-cut, row-of-cells, count-rows}
-use Rattle.counting.proofs.Wider.{agree-both, sameOn-wider, pairs-wider, removed-wider}
+use Rattle.counting.proofs.Wider.{agree-both, sameOn-wider, unions-wider, removed-wider}
 use Rattle.counting.proofs.Bgp.{sameRow-cells}
 
 -- ---- rows that a test keeps
@@ -118,9 +120,9 @@ meets U c m x y = pass U c (named U x) (named U y) && sameRow m (cells U (merge 
 unfoldable pub products : List Bytes → List Triple → Pattern → Pattern → Condition → List Cell → ℕ
 products U g p q c m = total (λ x. total (λ y. cond (meets U c m x y) (count sameRow x (answer U g p) * count sameRow y (answer U g q)) 0) (once sameRow (answer U g q))) (once sameRow (answer U g p))
 
-pub pairs-sum : (F : Row → ℕ) (vs : List Bytes) (c : Condition) (a : Row) (bs : List Row) → total F (pairs vs c a bs) ≡ total (λ b. cond (pass vs c a b) (F (merge a b)) 0) bs
-unfolding pairs
-pairs-sum F vs c a bs = total-each F (λ b. when (pass vs c a b) (merge a b)) bs ∙ total-cong _ _ bs (λ b. total-when F (pass vs c a b) (merge a b))
+pub unions-sum : (F : Row → ℕ) (vs : List Bytes) (c : Condition) (a : Row) (bs : List Row) → total F (unions vs c a bs) ≡ total (λ b. cond (pass vs c a b) (F (merge a b)) 0) bs
+unfolding unions
+unions-sum F vs c a bs = total-each F (λ b. when (pass vs c a b) (merge a b)) bs ∙ total-cong _ _ bs (λ b. total-when F (pass vs c a b) (merge a b))
 
 products-total : (U : List Bytes) (g : List Triple) (p q : Pattern) (c : Condition) (m : List Cell) → products U g p q c m ≡ total (λ a. total (λ b. tick (meets U c m (cells U a) (cells U b))) (eval g q)) (eval g p)
 unfolding answer products
@@ -129,11 +131,11 @@ products-total U g p q c m = sum-pairs (meets U c m) (map (cells U) (eval g p)) 
     inner : Row → List Cell → ℕ
     inner a y = tick (meets U c m (cells U a) y)
 
-pairs-products : (U : List Bytes) (g : List Triple) (p q : Pattern) (c : Condition) → Sub (scopeOf p ++ scopeOf q) U → (m : List Cell) → total (λ a. total (λ x. tick (sameRow m (cells U x))) (pairs (scopeOf p ++ scopeOf q) c a (eval g q))) (eval g p) ≡ products U g p q c m
+pairs-products : (U : List Bytes) (g : List Triple) (p q : Pattern) (c : Condition) → Sub (scopeOf p ++ scopeOf q) U → (m : List Cell) → total (λ a. total (λ x. tick (sameRow m (cells U x))) (unions (scopeOf p ++ scopeOf q) c a (eval g q))) (eval g p) ≡ products U g p q c m
 unfolding meets
 pairs-products U g p q c s m =
     total-every _ _ (every-two (λ a oa ou.
-    pairs-sum (λ x. tick (sameRow m (cells U x))) (scopeOf p ++ scopeOf q) c a (eval g q)
+    unions-sum (λ x. tick (sameRow m (cells U x))) (scopeOf p ++ scopeOf q) c a (eval g q)
     ∙ total-every _ _ (every-imp (λ b ob.
     cond-tick (pass (scopeOf p ++ scopeOf q) c a b) (sameRow m (cells U (merge a b)))
     ∙ ap tick (ap (λ t. (t && passes c (merge a b)) && sameRow m (cells U (merge a b))) (sym (agree-both U (scopeOf p) (scopeOf q) a b s oa))
@@ -145,7 +147,7 @@ pub join-count : (U : List Bytes) (g : List Triple) (p q : Pattern) → Sub (sco
 unfolding eval
 join-count U g p q s m =
     count-rows U m g (join p q)
-    ∙ (total-each (λ a. tick (sameRow m (cells U a))) (λ a. pairs (scopeOf p ++ scopeOf q) always a (eval g q)) (eval g p) ∙ pairs-products U g p q always s m)
+    ∙ (total-each (λ a. tick (sameRow m (cells U a))) (λ a. unions (scopeOf p ++ scopeOf q) always a (eval g q)) (eval g p) ∙ pairs-products U g p q always s m)
 
 -- ---- rows without a pair
 
@@ -167,10 +169,10 @@ unfolding filled when
 filled-when true x ys = refl
 filled-when false x ys = refl
 
-filled-pairs : (vs : List Bytes) (c : Condition) (a : Row) (bs : List Row) → filled (pairs vs c a bs) ≡ paired vs c bs a
-unfolding pairs each any filled paired
-filled-pairs vs c a [] = refl
-filled-pairs vs c a (b ∷ bs) = filled-when (pass vs c a b) (merge a b) (pairs vs c a bs) ∙ ap (λ t. pass vs c a b || t) (filled-pairs vs c a bs)
+filled-unions : (vs : List Bytes) (c : Condition) (a : Row) (bs : List Row) → filled (unions vs c a bs) ≡ paired vs c bs a
+unfolding unions each any filled paired
+filled-unions vs c a [] = refl
+filled-unions vs c a (b ∷ bs) = filled-when (pass vs c a b) (merge a b) (unions vs c a bs) ∙ ap (λ t. pass vs c a b || t) (filled-unions vs c a bs)
 
 -- leftjoin: the pairs of a join that pass the expression, if any, and the left rows that are in no such pair
 pub leftjoin-count : (U : List Bytes) (g : List Triple) (p q : Pattern) (c : Condition) → Sub (scopeOf p ++ scopeOf q) U → (m : List Cell) → count sameRow m (answer U g (leftjoin p q c)) ≡ products U g p q c m + cond (not (paired U c (eval g q) (named U m))) (count sameRow m (answer U g p)) 0
@@ -181,11 +183,11 @@ leftjoin-count U g p q c s m =
     ∙ (total-cong _ _ (eval g p) (λ a. or-else-sum hits a (some-pairs a))
     ∙ (total-add (λ a. total hits (some-pairs a)) (λ a. cond (not (filled (some-pairs a))) (hits a) 0) (eval g p)
     ∙ ap₂ _+_ (pairs-products U g p q c s m)
-    (total-every _ _ (every-imp (λ a oa. ap (λ t. cond (not t) (hits a) 0) (ap filled (sym (pairs-wider U (scopeOf p) (scopeOf q) c a (eval g q) s oa)) ∙ filled-pairs U c a (eval g q))) (eval-only g p))
+    (total-every _ _ (every-imp (λ a oa. ap (λ t. cond (not t) (hits a) 0) (ap filled (sym (unions-wider U (scopeOf p) (scopeOf q) c a (eval g q) s oa)) ∙ filled-unions U c a (eval g q))) (eval-only g p))
     ∙ kept-count U m (λ a. not (paired U c (eval g q) a)) g p (sub-left (scopeOf p) (scopeOf q) U s)))))
   where
     hits : Row → ℕ
     hits a = tick (sameRow m (cells U a))
 
     some-pairs : Row → List Row
-    some-pairs a = pairs (scopeOf p ++ scopeOf q) c a (eval g q)
+    some-pairs a = unions (scopeOf p ++ scopeOf q) c a (eval g q)

@@ -5,16 +5,16 @@ use mathlib.Core.List.{List, [], _∷_, _++_, map}
 use mathlib.Core.Option.{none, some}
 use Rattle.text.specs.Text.{Bytes, same}
 use Rattle.text.proofs.Basics.{same-eq}
-use Rattle.algebra.specs.Tree.{Triple, Pattern, bgp, path, join, union, minus, leftjoin, filter, graph, extend, values, orderby, project, distinct, reduced, slice, group, service}
-use Rattle.algebra.specs.Tree.{Condition, always, provided}
+use Rattle.algebra.specs.Tree.{Triple, Pattern, bgp, path, join, union, minus, leftjoin, filter, graph, extend, values, orderby, project, distinct, reduced, slice, group, service, Condition, always, provided}
 use Rattle.algebra.specs.Valid.{mem}
 use Rattle.scoping.specs.Sets.{all, tripleVariables}
 use Rattle.scoping.specs.Variables.{variablesInPattern, scopeOf}
-use Rattle.counting.specs.Bag.{Sub, each, when, once}
-use Rattle.counting.specs.Row.{Cell, fits, orCell, Row, bind, merge, cut, agree, sameOn, named, oneTerm, cell}
+use Rattle.scoping.specs.bridge.Sets.{Sub}
+use Rattle.counting.specs.Bag.{when, once}
+use Rattle.counting.specs.Row.{Cell, compatible, orCell, Row, bind, merge, cut, agree, sameOn, named, oneTerm, cell}
 use Rattle.counting.specs.Condition.{termOf, passes}
-use Rattle.counting.specs.Answer.{ways, isIn, terms, bgpRows, pairs, orElse, extendBy, lineRows, removed, eval}
-use Rattle.counting.proofs.Basics.{split, clash, not-true, both-ways, either, mem-there, mem-eq, mem-left, mem-right, all-at, all-of}
+use Rattle.counting.specs.Answer.{ways, isIn, terms, bgpRows, unions, orElse, extendBy, lineRows, removed, eval}
+use Rattle.scoping.proofs.Basics.{split, clash, not-true, both-ways, either, mem-there, mem-eq, mem-left, mem-right, all-at, all-of}
 use Rattle.counting.proofs.Every.{Every, done, more, every-imp, every-append, every-map, every-each, every-when, every-keep, every-once, every-all, every-cond}
 
 -- the row binds no other names
@@ -70,9 +70,9 @@ only-extend : (v : Bytes) (x : Cell) (vs : List Bytes) (r : Row) → Only vs r �
 only-extend v none vs r h w n = h w (not-there w v vs n)
 only-extend v (some t) vs r h w n = only-bind v t vs r h w n
 
-only-pairs : (xs ys vs : List Bytes) (c : Condition) (a : Row) {bs : List Row} → Only xs a → Every (Only ys) bs → Every (Only (xs ++ ys)) (pairs vs c a bs)
-unfolding pairs
-only-pairs xs ys vs c a h k = every-each (λ b. when (agree vs a b && passes c (merge a b)) (merge a b)) (λ b hb. every-when (agree vs a b && passes c (merge a b)) (merge a b) (only-merge xs ys a b h hb)) k
+only-unions : (xs ys vs : List Bytes) (c : Condition) (a : Row) {bs : List Row} → Only xs a → Every (Only ys) bs → Every (Only (xs ++ ys)) (unions vs c a bs)
+unfolding unions
+only-unions xs ys vs c a h k = every-each (λ b. when (agree vs a b && passes c (merge a b)) (merge a b)) (λ b hb. every-when (agree vs a b && passes c (merge a b)) (merge a b) (only-merge xs ys a b h hb)) k
 
 every-orElse : {A : Type 0} {P : A → Type 0} (a : A) {xs : List A} → P a → Every P xs → Every P (orElse a xs)
 every-orElse a p done = more p done
@@ -90,8 +90,8 @@ only-line cs xs = every-when (oneTerm cs (map cell xs)) (named cs (map cell xs))
 pub eval-only : (g : List Triple) (p : Pattern) → Every (Only (scopeOf p)) (eval g p)
 unfolding eval variablesInPattern
 eval-only g (bgp ts) = only-bgp g ts
-eval-only g (join p q) = every-each (λ a. pairs (scopeOf p ++ scopeOf q) always a (eval g q)) (λ a h. only-pairs (scopeOf p) (scopeOf q) (scopeOf p ++ scopeOf q) always a h (eval-only g q)) (eval-only g p)
-eval-only g (leftjoin p q c) = every-each (λ a. orElse a (pairs (scopeOf p ++ scopeOf q) c a (eval g q))) (λ a h. every-orElse a (only-left (scopeOf p) (scopeOf q) a h) (only-pairs (scopeOf p) (scopeOf q) (scopeOf p ++ scopeOf q) c a h (eval-only g q))) (eval-only g p)
+eval-only g (join p q) = every-each (λ a. unions (scopeOf p ++ scopeOf q) always a (eval g q)) (λ a h. only-unions (scopeOf p) (scopeOf q) (scopeOf p ++ scopeOf q) always a h (eval-only g q)) (eval-only g p)
+eval-only g (leftjoin p q c) = every-each (λ a. orElse a (unions (scopeOf p ++ scopeOf q) c a (eval g q))) (λ a h. every-orElse a (only-left (scopeOf p) (scopeOf q) a h) (only-unions (scopeOf p) (scopeOf q) (scopeOf p ++ scopeOf q) c a h (eval-only g q))) (eval-only g p)
 eval-only g (filter p e) = every-keep (passes (provided e)) (eval-only g p)
 eval-only g (union p q) = every-append (every-imp (λ r h. only-left (scopeOf p) (scopeOf q) r h) (eval-only g p)) (every-imp (λ r h. only-right (scopeOf p) (scopeOf q) r h) (eval-only g q))
 eval-only g (minus p q) = every-keep (λ a. not (removed (scopeOf p ++ scopeOf q) (eval g q) a)) (eval-only g p)
@@ -113,32 +113,32 @@ only-in U g p s = every-imp (λ r o. only-sub (scopeOf p) U r s o) (eval-only g 
 
 -- ---- what a test over a list of names says of every name
 
-pub fits-none : (x : Cell) → fits x none ≡ true
-unfolding fits
-fits-none none = refl
-fits-none (some a) = refl
+pub compatible-none : (x : Cell) → compatible x none ≡ true
+unfolding compatible
+compatible-none none = refl
+compatible-none (some a) = refl
 
-pub none-fits : (x : Cell) → fits none x ≡ true
-unfolding fits
-none-fits x = refl
+pub none-compatible : (x : Cell) → compatible none x ≡ true
+unfolding compatible
+none-compatible x = refl
 
 -- the names that are not in vs fit anyway
 abbrev pub Cover : List Bytes → Row → Row → Type 0
-Cover vs a b = (w : Bytes) → mem w vs ≡ false → fits (a w) (b w) ≡ true
+Cover vs a b = (w : Bytes) → mem w vs ≡ false → compatible (a w) (b w) ≡ true
 
 pub cover-left : (vs : List Bytes) (a b : Row) → Only vs a → Cover vs a b
-cover-left vs a b h w n = ap (λ x. fits x (b w)) (h w n) ∙ none-fits (b w)
+cover-left vs a b h w n = ap (λ x. compatible x (b w)) (h w n) ∙ none-compatible (b w)
 
 pub cover-right : (vs : List Bytes) (a b : Row) → Only vs b → Cover vs a b
-cover-right vs a b h w n = ap (λ x. fits (a w) x) (h w n) ∙ fits-none (a w)
+cover-right vs a b h w n = ap (λ x. compatible (a w) x) (h w n) ∙ compatible-none (a w)
 
-pub agree-at : (vs : List Bytes) (a b : Row) → Cover vs a b → agree vs a b ≡ true → (w : Bytes) → fits (a w) (b w) ≡ true
+pub agree-at : (vs : List Bytes) (a b : Row) → Cover vs a b → agree vs a b ≡ true → (w : Bytes) → compatible (a w) (b w) ≡ true
 unfolding agree
-agree-at vs a b c h w = either (λ m. all-at (λ v. fits (a v) (b v)) vs h w m) (λ n. c w n) (split (mem w vs))
+agree-at vs a b c h w = either (λ m. all-at (λ v. compatible (a v) (b v)) vs h w m) (λ n. c w n) (split (mem w vs))
 
-pub agree-of : (vs : List Bytes) (a b : Row) → ((w : Bytes) → fits (a w) (b w) ≡ true) → agree vs a b ≡ true
+pub agree-of : (vs : List Bytes) (a b : Row) → ((w : Bytes) → compatible (a w) (b w) ≡ true) → agree vs a b ≡ true
 unfolding agree
-agree-of vs a b h = all-of (λ v. fits (a v) (b v)) vs (λ v m. h v)
+agree-of vs a b h = all-of (λ v. compatible (a v) (b v)) vs (λ v m. h v)
 
 -- two rows agree over a longer list exactly if they do over one that has the names of one of them
 pub agree-wider : (us vs : List Bytes) (a b : Row) → Sub vs us → Cover vs a b → agree us a b ≡ agree vs a b

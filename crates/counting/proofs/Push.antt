@@ -8,10 +8,10 @@ use Rattle.text.specs.Text.{Bytes, same}
 use Rattle.text.proofs.Basics.{same-eq}
 use Rattle.algebra.specs.Valid.{mem}
 use Rattle.scoping.proofs.Sets.{eq-same, same-sym}
-use Rattle.counting.specs.Bag.{Sub, Inj}
-use Rattle.counting.specs.Row.{Cell, sameCell, fits, isBound, orCell, Row, empty, bind, merge, cut, agree, shares, sameOn, named, oneTerm}
+use Rattle.scoping.specs.bridge.Sets.{Sub, Inj}
+use Rattle.counting.specs.Row.{Cell, sameCell, compatible, isBound, orCell, Row, empty, bind, merge, cut, agree, shares, sameOn, named, oneTerm}
 use Rattle.counting.specs.Answer.{extendBy}
-use Rattle.counting.proofs.Basics.{split, clash, both-ways, either, mem-nil, mem-here, mem-there, mem-cases, all-cong, any-cong, all-map, any-map}
+use Rattle.scoping.proofs.Basics.{split, clash, both-ways, either, mem-nil, mem-here, mem-there, mem-cases, all-cong, any-cong, all-map, any-map}
 
 -- the row that binds f u as r binds u, for each u of U
 unfoldable pub push : List Bytes → (Bytes → Bytes) → Row → Row
@@ -101,7 +101,7 @@ module _ (U : List Bytes) (f : Bytes → Bytes) (inj : Inj U f) where
   oneTerm-push (c ∷ cs) [] s = refl
   oneTerm-push (c ∷ cs) (x ∷ xs) s =
       let t : Sub cs U = λ v m. s v (mem-there v c cs m) in
-      ap₂ (λ y b. fits x y && b) (ap (λ r. r (f c)) (sym (push-named cs xs t)) ∙ at (named cs xs) c (s c (mem-here c cs))) (oneTerm-push cs xs t)
+      ap₂ (λ y b. compatible x y && b) (ap (λ r. r (f c)) (sym (push-named cs xs t)) ∙ at (named cs xs) c (s c (mem-here c cs))) (oneTerm-push cs xs t)
 
   pub push-extend : (v : Bytes) (x : Cell) (r : Row) → mem v U ≡ true → push U f (extendBy v x r) ≡ extendBy (f v) x (push U f r)
   push-extend v none r p = refl
@@ -109,7 +109,7 @@ module _ (U : List Bytes) (f : Bytes → Bytes) (inj : Inj U f) where
 
   pub agree-push : (vs : List Bytes) (a b : Row) → Sub vs U → agree (map f vs) (push U f a) (push U f b) ≡ agree vs a b
   unfolding agree
-  agree-push vs a b s = all-map _ f vs ∙ all-cong _ _ vs (λ v m. ap₂ fits (at a v (s v m)) (at b v (s v m)))
+  agree-push vs a b s = all-map _ f vs ∙ all-cong _ _ vs (λ v m. ap₂ compatible (at a v (s v m)) (at b v (s v m)))
 
   pub shares-push : (vs : List Bytes) (a b : Row) → Sub vs U → shares (map f vs) (push U f a) (push U f b) ≡ shares vs a b
   unfolding shares

@@ -5,20 +5,21 @@ use mathlib.Core.List.{List, [], _∷_, _++_, map}
 use mathlib.Core.Option.{some}
 use Rattle.text.specs.Text.{Bytes, same}
 use Rattle.text.specs.Field.{isVar}
-use Rattle.algebra.specs.Tree.{Triple, Pattern, bgp, path, join, union, minus, leftjoin, filter, graph, extend, values, orderby, project, distinct, reduced, slice, group, service}
-use Rattle.algebra.specs.Tree.{Expression, term, bound, exists, apply, call, Condition, always, provided, Expressions, eend, econs}
+use Rattle.algebra.specs.Tree.{Triple, Pattern, bgp, path, join, union, minus, leftjoin, filter, graph, extend, values, orderby, project, distinct, reduced, slice, group, service, Expression, term, bound, exists, apply, call, Condition, always, provided, Expressions, eend, econs}
 use Rattle.algebra.specs.Valid.{mem}
-use Rattle.scoping.specs.Sets.{all, any, keep, variablesOf, tripleVariables, aggregateVariables}
+use Rattle.scoping.specs.Sets.{all, any, keep, variablesOf, tripleVariables, aggregateVariables, each}
 use Rattle.scoping.specs.Variables.{variablesInPattern, scopeOf}
 use Rattle.scoping.specs.ScopedOrHidden.{conditionVars, namesWith}
 use Rattle.scoping.specs.Rename.{renameInTerm, renameInTriple, renameInGraphPattern, renameInExpression, renameInCondition, renameInExpressions}
 use Rattle.scoping.proofs.Renamed.{aggregates-renamed}
-use Rattle.counting.specs.Bag.{Sub, Inj, each, when, once}
+use Rattle.scoping.specs.bridge.Sets.{Sub, Inj}
+use Rattle.counting.specs.Bag.{when, once}
 use Rattle.counting.specs.Row.{sameCell, isBound, Row, bind, merge, cut, agree, sameOn, named, oneTerm, cell}
-use Rattle.counting.specs.Condition.{truth, connective, wordTruth, value, termOf, termsOf, truthOf, truthsOf, isTrue, passes}
+use Rattle.counting.specs.Condition.{truth, connective, wordTruth, valueIn, termOf, termsOf, truthOf, truthsOf, isTrue, passes}
 use Rattle.counting.specs.Scope.{expressionVars, expressionsVars, names}
-use Rattle.counting.specs.Answer.{ways, isIn, terms, bgpRows, pairs, orElse, extendBy, lineRows, removed, eval}
-use Rattle.counting.proofs.Basics.{either, mem-nil, mem-here, mem-there, mem-cases, mem-variables, variables-mem, sub-left, sub-right, sub-append, sub-rest, any-map, map-append, map-map, map-cong, each-cong, each-map, map-each, map-when, keep-map, once-map}
+use Rattle.counting.specs.Answer.{ways, isIn, terms, bgpRows, unions, orElse, extendBy, lineRows, removed, eval}
+use Rattle.scoping.proofs.Basics.{either, mem-nil, mem-here, mem-there, mem-cases, mem-variables, variables-mem, sub-left, sub-right, sub-append, sub-rest, any-map, map-append, map-map, map-cong, each-cong, each-map, map-each}
+use Rattle.counting.proofs.Basics.{map-when, keep-map, once-map}
 use Rattle.counting.proofs.Push.{push, push-at, mem-inj, push-empty, push-bind, push-merge, push-cut, push-named, oneTerm-push, push-extend, agree-push, shares-push, sameOn-push}
 
 two-renamed : (f : Bytes → Bytes) {xs′ ys′ : List Bytes} (xs ys : List Bytes) → xs′ ≡ map f xs → ys′ ≡ map f ys → xs′ ++ ys′ ≡ map f (xs ++ ys)
@@ -113,8 +114,8 @@ module _ (U : List Bytes) (f : Bytes → Bytes) (inj : Inj U f) (new : (v : Byte
 
   -- ---- expressions
 
-  value-push : (x : Bytes) (r : Row) → Known x → value (renameInTerm f x) (push U f r) ≡ value x r
-  unfolding value
+  value-push : (x : Bytes) (r : Row) → Known x → valueIn (renameInTerm f x) (push U f r) ≡ valueIn x r
+  unfolding valueIn
   value-push x r s = field-cases x (push U f r) some (r x) (some x) s (λ m. push-at U f inj r x m) refl
 
   term-push : (e : Expression) (r : Row) → Sub (expressionVars e) U → termOf (renameInExpression f e) (push U f r) ≡ termOf e r
@@ -180,9 +181,9 @@ module _ (U : List Bytes) (f : Bytes → Bytes) (inj : Inj U f) (new : (v : Byte
       ap (keep (λ r. all (isIn g r) (map (renameInTriple f) ts))) (ap (λ l. ways l (once same (terms g))) (bgpVars-renamed ts s) ∙ ways-push (tripleVariables ts) (once same (terms g)) s)
       ∙ keep-map (λ r. all (isIn g r) (map (renameInTriple f) ts)) (λ r. all (isIn g r) ts) (push U f) (ways (tripleVariables ts) (once same (terms g))) (λ r. allIn-push g r ts s)
 
-  pairs-push : (vs : List Bytes) (c : Condition) (a : Row) (bs : List Row) → Sub vs U → Sub (conditionVars expressionVars c) U → pairs (map f vs) (renameInCondition f c) (push U f a) (map (push U f) bs) ≡ map (push U f) (pairs vs c a bs)
-  unfolding pairs
-  pairs-push vs c a bs s k = each-map _ (push U f) bs ∙ (each-cong _ _ bs one ∙ sym (map-each (push U f) _ bs))
+  unions-push : (vs : List Bytes) (c : Condition) (a : Row) (bs : List Row) → Sub vs U → Sub (conditionVars expressionVars c) U → unions (map f vs) (renameInCondition f c) (push U f a) (map (push U f) bs) ≡ map (push U f) (unions vs c a bs)
+  unfolding unions
+  unions-push vs c a bs s k = each-map _ (push U f) bs ∙ (each-cong _ _ bs one ∙ sym (map-each (push U f) _ bs))
     where
       one : (b : Row) → when (agree (map f vs) (push U f a) (push U f b) && passes (renameInCondition f c) (merge (push U f a) (push U f b))) (merge (push U f a) (push U f b)) ≡ map (push U f) (when (agree vs a b && passes c (merge a b)) (merge a b))
       one b = ap₂ (λ t m. when (t && passes (renameInCondition f c) m) m) (agree-push U f inj vs a b s) (sym (push-merge U f inj a b)) ∙ (ap (λ t. when (agree vs a b && t) (push U f (merge a b))) (passes-push c (merge a b) k) ∙ sym (map-when (push U f) (agree vs a b && passes c (merge a b)) (merge a b)))
@@ -208,12 +209,12 @@ module _ (U : List Bytes) (f : Bytes → Bytes) (inj : Inj U f) (new : (v : Byte
   unfolding eval renameInGraphPattern namesWith conditionVars
   eval-renamed g (bgp ts) s = bgp-push g ts s
   eval-renamed g (join p q) s =
-      two-push p q s g (eval-renamed g p (sub-left (names p) (names q) U s)) (eval-renamed g q (sub-right (names p) (names q) U s)) (λ vs xs bs. each (λ a. pairs vs always a bs) xs)
-      ∙ (each-map _ (push U f) (eval g p) ∙ (each-cong _ _ (eval g p) (λ a. pairs-push (scopeOf p ++ scopeOf q) always a (eval g q) (both-in U p q s) (λ v m. mem-nil v m)) ∙ sym (map-each (push U f) _ (eval g p))))
+      two-push p q s g (eval-renamed g p (sub-left (names p) (names q) U s)) (eval-renamed g q (sub-right (names p) (names q) U s)) (λ vs xs bs. each (λ a. unions vs always a bs) xs)
+      ∙ (each-map _ (push U f) (eval g p) ∙ (each-cong _ _ (eval g p) (λ a. unions-push (scopeOf p ++ scopeOf q) always a (eval g q) (both-in U p q s) (λ v m. mem-nil v m)) ∙ sym (map-each (push U f) _ (eval g p))))
   eval-renamed g (leftjoin p q c) s =
       let t : Sub (names p ++ names q) U = sub-left (names p ++ names q) (conditionVars expressionVars c) U s in
-      two-push p q t g (eval-renamed g p (sub-left (names p) (names q) U t)) (eval-renamed g q (sub-right (names p) (names q) U t)) (λ vs xs bs. each (λ a. orElse a (pairs vs (renameInCondition f c) a bs)) xs)
-      ∙ (each-map _ (push U f) (eval g p) ∙ (each-cong _ _ (eval g p) (λ a. ap (orElse (push U f a)) (pairs-push (scopeOf p ++ scopeOf q) c a (eval g q) (both-in U p q t) (sub-right (names p ++ names q) (conditionVars expressionVars c) U s)) ∙ orElse-push a (pairs (scopeOf p ++ scopeOf q) c a (eval g q))) ∙ sym (map-each (push U f) _ (eval g p))))
+      two-push p q t g (eval-renamed g p (sub-left (names p) (names q) U t)) (eval-renamed g q (sub-right (names p) (names q) U t)) (λ vs xs bs. each (λ a. orElse a (unions vs (renameInCondition f c) a bs)) xs)
+      ∙ (each-map _ (push U f) (eval g p) ∙ (each-cong _ _ (eval g p) (λ a. ap (orElse (push U f a)) (unions-push (scopeOf p ++ scopeOf q) c a (eval g q) (both-in U p q t) (sub-right (names p ++ names q) (conditionVars expressionVars c) U s)) ∙ orElse-push a (unions (scopeOf p ++ scopeOf q) c a (eval g q))) ∙ sym (map-each (push U f) _ (eval g p))))
   eval-renamed g (filter p e) s =
       ap (keep (passes (provided (renameInExpression f e)))) (eval-renamed g p (sub-left (names p) (expressionVars e) U s))
       ∙ keep-map (passes (provided (renameInExpression f e))) (passes (provided e)) (push U f) (eval g p) (λ r. passes-push (provided e) r (sub-right (names p) (expressionVars e) U s))

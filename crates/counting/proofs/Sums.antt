@@ -7,11 +7,12 @@ use Prim.Native.Nat.{ℕ, _+_, _*_}
 use native.Mathlib.Nat.{add-zero, zero-add, add-assoc, mul-comm, mul-one, mul-add, add-mul, zero-mul, mul-zero}
 use native.Mathlib.Omega.{arith}
 use Rattle.text.proofs.Basics.{same-refl, same-eq, and-left, and-right, and-both}
-use Rattle.scoping.specs.Sets.{any, keep}
-use Rattle.counting.specs.Bag.{each, when, once, total, tick, count}
+use Rattle.scoping.specs.Sets.{any, keep, each}
+use Rattle.counting.specs.Bag.{when, once, total, tick, count}
 use Rattle.counting.specs.Row.{Cell, sameCell, sameRow}
 use Rattle.counting.proofs.Every.{Every, done, more, every-imp}
-use Rattle.counting.proofs.Basics.{clash, both-ways, keep-each}
+use Rattle.scoping.proofs.Basics.{clash, both-ways}
+use Rattle.counting.proofs.Basics.{keep-each}
 
 -- ---- sums
 

@@ -4,18 +4,18 @@ use mathlib.Core.Bool.{Bool, true, not, _&&_, false≢true}
 use mathlib.Core.List.{List, [], _∷_, _++_, map}
 use mathlib.Core.Option.{none}
 use Rattle.text.specs.Text.{Bytes}
-use Rattle.algebra.specs.Tree.{Triple, Pattern, bgp, path, join, union, minus, leftjoin, filter, graph, extend, values, orderby, project, distinct, reduced, slice, group, service}
-use Rattle.algebra.specs.Tree.{Condition, always, provided}
+use Rattle.algebra.specs.Tree.{Triple, Pattern, bgp, path, join, union, minus, leftjoin, filter, graph, extend, values, orderby, project, distinct, reduced, slice, group, service, Condition, always, provided}
 use Rattle.algebra.specs.Valid.{mem}
-use Rattle.scoping.specs.Sets.{all, any, keep}
+use Rattle.scoping.specs.Sets.{all, any, keep, each}
 use Rattle.scoping.specs.Variables.{scopeOf}
 use Rattle.scoping.specs.ScopedOrHidden.{conditionVars, namesWith}
-use Rattle.counting.specs.Bag.{Sub, each, when, once}
+use Rattle.scoping.specs.bridge.Sets.{Sub}
+use Rattle.counting.specs.Bag.{when, once}
 use Rattle.counting.specs.Row.{sameCell, isBound, Row, merge, cut, agree, shares, sameOn}
 use Rattle.counting.specs.Condition.{termOf, passes}
 use Rattle.counting.specs.Scope.{expressionVars, names}
-use Rattle.counting.specs.Answer.{bgpRows, pairs, orElse, extendBy, lineRows, removed, eval}
-use Rattle.counting.proofs.Basics.{split, both-ways, either, or-cases, or-inl, or-inr, mem-nil, mem-here, mem-there, mem-cases, sub-left, sub-right, sub-rest, all-at, all-of, each-cong}
+use Rattle.counting.specs.Answer.{bgpRows, unions, orElse, extendBy, lineRows, removed, eval}
+use Rattle.scoping.proofs.Basics.{split, both-ways, either, or-cases, or-inl, or-inr, mem-nil, mem-here, mem-there, mem-cases, sub-left, sub-right, sub-rest, all-at, all-of, each-cong}
 use Rattle.counting.proofs.Every.{each-every, keep-every, once-every}
 use Rattle.counting.proofs.Sums.{sameCell-refl}
 use Rattle.counting.proofs.Only.{Only, only-left, eval-only, cover-left, agree-wider}
@@ -58,9 +58,9 @@ sameOn-wider us vs a b s oa ob = both-ways (all t us) (all t vs)
 pub agree-both : (U xs ys : List Bytes) (a b : Row) → Sub (xs ++ ys) U → Only xs a → agree U a b ≡ agree (xs ++ ys) a b
 agree-both U xs ys a b s oa = agree-wider U (xs ++ ys) a b s (cover-left (xs ++ ys) a b (only-left xs ys a oa))
 
-pub pairs-wider : (U xs ys : List Bytes) (c : Condition) (a : Row) (bs : List Row) → Sub (xs ++ ys) U → Only xs a → pairs U c a bs ≡ pairs (xs ++ ys) c a bs
-unfolding pairs
-pairs-wider U xs ys c a bs s oa = each-cong _ _ bs (λ b. ap (λ t. when (t && passes c (merge a b)) (merge a b)) (agree-both U xs ys a b s oa))
+pub unions-wider : (U xs ys : List Bytes) (c : Condition) (a : Row) (bs : List Row) → Sub (xs ++ ys) U → Only xs a → unions U c a bs ≡ unions (xs ++ ys) c a bs
+unfolding unions
+unions-wider U xs ys c a bs s oa = each-cong _ _ bs (λ b. ap (λ t. when (t && passes c (merge a b)) (merge a b)) (agree-both U xs ys a b s oa))
 
 pub removed-wider : (U xs ys : List Bytes) (a : Row) (bs : List Row) → Sub (xs ++ ys) U → Only xs a → removed U bs a ≡ removed (xs ++ ys) bs a
 unfolding removed
@@ -70,8 +70,8 @@ removed-wider U xs ys a bs s oa = ap (λ k. any k bs) (fun-ext (λ b. ap₂ _&&_
 
 unfoldable pub evalIn : List Bytes → List Triple → Pattern → List Row
 evalIn U g (bgp ts) = bgpRows g ts
-evalIn U g (join p q) = each (λ a. pairs U always a (evalIn U g q)) (evalIn U g p)
-evalIn U g (leftjoin p q c) = each (λ a. orElse a (pairs U c a (evalIn U g q))) (evalIn U g p)
+evalIn U g (join p q) = each (λ a. unions U always a (evalIn U g q)) (evalIn U g p)
+evalIn U g (leftjoin p q c) = each (λ a. orElse a (unions U c a (evalIn U g q))) (evalIn U g p)
 evalIn U g (filter p e) = keep (passes (provided e)) (evalIn U g p)
 evalIn U g (union p q) = evalIn U g p ++ evalIn U g q
 evalIn U g (minus p q) = keep (λ a. not (removed U (evalIn U g q) a)) (evalIn U g p)
@@ -92,12 +92,12 @@ pub eval-wider : (U : List Bytes) (g : List Triple) (p : Pattern) → Sub (names
 unfolding evalIn eval namesWith
 eval-wider U g (bgp ts) s = refl
 eval-wider U g (join p q) s =
-    ap₂ (λ xs ys. each (λ a. pairs U always a ys) xs) (eval-wider U g p (sub-left (names p) (names q) U s)) (eval-wider U g q (sub-right (names p) (names q) U s))
-    ∙ each-every _ _ (eval-only g p) (λ a oa. pairs-wider U (scopeOf p) (scopeOf q) always a (eval g q) (both-in U p q s) oa)
+    ap₂ (λ xs ys. each (λ a. unions U always a ys) xs) (eval-wider U g p (sub-left (names p) (names q) U s)) (eval-wider U g q (sub-right (names p) (names q) U s))
+    ∙ each-every _ _ (eval-only g p) (λ a oa. unions-wider U (scopeOf p) (scopeOf q) always a (eval g q) (both-in U p q s) oa)
 eval-wider U g (leftjoin p q c) s =
     let t : Sub (names p ++ names q) U = sub-left (names p ++ names q) (conditionVars expressionVars c) U s in
-    ap₂ (λ xs ys. each (λ a. orElse a (pairs U c a ys)) xs) (eval-wider U g p (sub-left (names p) (names q) U t)) (eval-wider U g q (sub-right (names p) (names q) U t))
-    ∙ each-every _ _ (eval-only g p) (λ a oa. ap (orElse a) (pairs-wider U (scopeOf p) (scopeOf q) c a (eval g q) (both-in U p q t) oa))
+    ap₂ (λ xs ys. each (λ a. orElse a (unions U c a ys)) xs) (eval-wider U g p (sub-left (names p) (names q) U t)) (eval-wider U g q (sub-right (names p) (names q) U t))
+    ∙ each-every _ _ (eval-only g p) (λ a oa. ap (orElse a) (unions-wider U (scopeOf p) (scopeOf q) c a (eval g q) (both-in U p q t) oa))
 eval-wider U g (filter p e) s = ap (keep (passes (provided e))) (eval-wider U g p (sub-left (names p) (expressionVars e) U s))
 eval-wider U g (union p q) s = ap₂ _++_ (eval-wider U g p (sub-left (names p) (names q) U s)) (eval-wider U g q (sub-right (names p) (names q) U s))
 eval-wider U g (minus p q) s =

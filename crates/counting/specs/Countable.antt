@@ -79,7 +79,7 @@ unfoldable mutual
   isCondition (term x) = false
   isCondition (bound v) = true
   isCondition (exists p) = false
-  isCondition (apply o es) = wordCounts (connective o) (Tree.count es) (allTerms es) (areConditions es)
+  isCondition (apply o es) = wordCounts (connective o) (Tree.ecount es) (allTerms es) (areConditions es)
   isCondition (call n es) = false
 
   pub areConditions : Expressions → Bool

@@ -12,7 +12,7 @@ use Rattle.text.specs.Word.{bytes}
 use Rattle.text.specs.Field.{digits, decimal, given}
 use Rattle.text.proofs.Basics.{deeper}
 use Rattle.text.proofs.Numbers.{number-back}
-use Rattle.algebra.specs.Tree.{EQ, NOT, filter, Expression, term, apply, call, Expressions, eend, econs, count}
+use Rattle.algebra.specs.Tree.{EQ, NOT, filter, Expression, term, apply, call, Expressions, eend, econs, ecount}
 use Rattle.algebra.specs.Query.{Domain, PlainString, LanguageTaggedString, Iri, Float, Double, UnsignedLong, NonNegativeLong, UnsignedInt, NonNegativeInt, Long, Int, Boolean, Null, Tuple, Map, Other, Value, FilterWord, UN, BIN, TERN, NARY, Filter, leaf, ref, function, Filters, fend, fcons, fcount}
 use Rattle.algebra.specs.Word.{spellV, spellF, filterArity}
 use Rattle.algebra.specs.Valid.{Takes, ValidFilter, ValidParts}
@@ -148,7 +148,7 @@ abbrev inFrontOf : Option (List Line) → List Line → List Line
 inFrontOf none u = u
 inFrontOf (some w) u = w ++ u
 
-function-put : (w : FilterWord) (n : Bytes) (es : Expressions) (e : Expression) (u : List Line) → Takes (filterArity w) (count es) → tryExpressionFromFunction w n es ≡ some e → inFrontOf (functionLines w n) (putEs es u) ≡ putE e u
+function-put : (w : FilterWord) (n : Bytes) (es : Expressions) (e : Expression) (u : List Line) → Takes (filterArity w) (ecount es) → tryExpressionFromFunction w n es ≡ some e → inFrontOf (functionLines w n) (putEs es u) ≡ putE e u
 unfolding tryExpressionFromFunction tryExpressionFromUnary tryExpressionFromBinary functionLines unaryLines binaryLines Takes putE putArity
 function-put UN n es e u t h = go (same n (bytes "Datatype")) (same n (bytes "LanguageTag")) h
   where
@@ -171,17 +171,17 @@ function-put TERN n es e u t h = let z : _≡_ {A = ℕ} 0 1 = cc in absurd (ome
 function-put NARY n es e u t h = let z : _≡_ {A = ℕ} 0 1 = cc in absurd (omega arith)
 
 -- where all parts are expressed there are as many expressions
-parts-count : (cs : List Bytes) (fs : Filters) (es : Expressions) → tryExpressionsFromParts cs fs ≡ some es → count es ≡ fcount fs
+parts-count : (cs : List Bytes) (fs : Filters) (es : Expressions) → tryExpressionsFromParts cs fs ≡ some es → ecount es ≡ fcount fs
 unfolding tryExpressionsFromParts
-parts-count cs fend es h = let x : eend ≡ es = cc in ap count (sym x)
+parts-count cs fend es h = let x : eend ≡ es = cc in ap ecount (sym x)
 parts-count cs (fcons f fs) es h =
     let x = if-some-gives (tryExpressionFromTree cs f) _ es h in
     let y = if-some-gives (tryExpressionsFromParts cs fs) (λ ds. some (econs (x .0) ds)) es (x .2) in
     let z : econs (x .0) (y .0) ≡ es = cc in
-    ap count (sym z) ∙ ap suc (parts-count cs fs (y .0) (y .1))
+    ap ecount (sym z) ∙ ap suc (parts-count cs fs (y .0) (y .1))
 
 -- a function over its parts
-function-made : (w : FilterWord) (n : Bytes) (k : ℕ) (y : Walked) (o : Option Expressions) (t : List Line) → Takes (filterArity w) k → ((es : Expressions) → o ≡ some es → count es ≡ k) → MadeAll y o t
+function-made : (w : FilterWord) (n : Bytes) (k : ℕ) (y : Walked) (o : Option Expressions) (t : List Line) → Takes (filterArity w) k → ((es : Expressions) → o ≡ some es → ecount es ≡ k) → MadeAll y o t
     → Made (inFront (functionLines w n) y) (if-some o (tryExpressionFromFunction w n)) t
 function-made w n k y o t a c m = go (functionLines w n) refl o refl m
   where

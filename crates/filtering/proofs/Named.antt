@@ -15,14 +15,13 @@ use Rattle.text.proofs.Basics.{same-eq, so→T, and-left, and-right}
 use Rattle.algebra.specs.Tree.{Expression, term, apply, Expressions, eend, econs, EQ}
 use Rattle.algebra.specs.Query.{BindingSet, FilterWord, UN, BIN, TERN, NARY, Filter, leaf, ref, function, Filters, fend, fcons}
 use Rattle.algebra.specs.Valid.{Fits, mem, ValidFilter, ValidParts, ValidFilters}
-use Rattle.scoping.specs.Sets.{variablesOf, keep, all}
+use Rattle.scoping.specs.Sets.{variablesOf, keep, all, each}
 use Rattle.scoping.specs.bridge.Places.{Mark, silent, Place, namesOf, marked, placesE, placesEs}
 use Rattle.scoping.specs.Premises.{columnsAt, inside}
 use Rattle.scoping.proofs.Sets.{and-none, mem-append, mem-keep}
 use Rattle.scoping.proofs.Index.{mem-at}
 use Rattle.scoping.proofs.Positions.{inside-first}
-use Rattle.counting.specs.Bag.{each}
-use Rattle.counting.proofs.Basics.{either, or-cases}
+use Rattle.scoping.proofs.Basics.{either, or-cases}
 use Rattle.merging.specs.Request.{position}
 use Rattle.filtering.specs.Values.{expressionTerm}
 use Rattle.filtering.specs.Bindings.{positionsOf, boundVariables, positionsInside}

@@ -8,10 +8,9 @@ use Rattle.text.specs.Text.{Bytes, same}
 use Rattle.algebra.specs.Tree.{Pattern, join, Expression}
 use Rattle.algebra.specs.Query.{BindingSet, Filter}
 use Rattle.algebra.specs.Valid.{mem}
-use Rattle.scoping.specs.Sets.{Alike, aggregateVariables, all}
+use Rattle.scoping.specs.Sets.{Alike, aggregateVariables, all, each}
 use Rattle.scoping.specs.Variables.{PatternVariables, projectOnto, variablesInPattern}
 use Rattle.scoping.proofs.Sets.{mem-append}
-use Rattle.counting.specs.Bag.{each}
 use Rattle.merging.specs.Request.{Projection}
 use Rattle.merging.specs.Negate.{modifyOutermostProjection}
 use Rattle.negating.specs.Projections.{outermostProjection}

@@ -15,8 +15,8 @@ use Rattle.text.proofs.Basics.{and-left, and-right, and-both}
 use Rattle.algebra.specs.Query.{Domain, PlainString, LanguageTaggedString, Iri, Float, Double, UnsignedLong, NonNegativeLong, UnsignedInt, NonNegativeInt, Long, Int, Boolean, Null, Tuple, Map, Other, Value, extraKind}
 use Rattle.algebra.specs.Valid.{Fits, AllFit, ValidValue, ValidValues}
 use Rattle.scoping.specs.Sets.{all}
-use Rattle.counting.proofs.Basics.{or-inl, or-inr}
-use Rattle.filtering.specs.Values.{quoted, simple, tagged, typed, named, groundTerm, groundTermFromDatavalue, expressionTerm}
+use Rattle.scoping.proofs.Basics.{or-inl, or-inr}
+use Rattle.filtering.specs.Values.{quoted, simple, tagged, typed, bracketed, groundTerm, groundTermFromDatavalue, expressionTerm}
 use Rattle.filtering.specs.Bindings.{orNone, cellOf}
 
 clean-append : (a b : Bytes) → clean a ≡ true → clean b ≡ true → clean (a ++ b) ≡ true
@@ -35,17 +35,17 @@ quoted-fits l after h k =
     and-both (clean (quoted l after)) (isConstant (quoted l after)) (clean-append l (34 ∷ after) h k)
     (or-inr (isIri (quoted l after)) (isLiteral (quoted l after)) (and-both (leb 1 (length (quoted l after))) true (le-leb 1 (length (quoted l after)) (omega arith)) refl))
 
-last-byte : (l : Bytes) → getD (named l) (length (named l) - 1) 0 ≡ 62
+last-byte : (l : Bytes) → getD (bracketed l) (length (bracketed l) - 1) 0 ≡ 62
 last-byte l =
-    let n : length (named l) - 1 ≡ suc (length l) = omega (arith, length-append l (62 ∷ [])) in
-    ap (λ (i : ℕ). getD (named l) i 0) n ∙ getD-append-seam l 62 [] 0
+    let n : length (bracketed l) - 1 ≡ suc (length l) = omega (arith, length-append l (62 ∷ [])) in
+    ap (λ (i : ℕ). getD (bracketed l) i 0) n ∙ getD-append-seam l 62 [] 0
 
-named-fits : (l : Bytes) → clean l ≡ true → Fits constant (named l)
+named-fits : (l : Bytes) → clean l ≡ true → Fits constant (bracketed l)
 unfolding fits isKind isIri clean
 named-fits l h =
-    and-both (clean (named l)) (isConstant (named l)) (clean-append l (62 ∷ []) h refl)
-    (or-inl (isIri (named l)) (isLiteral (named l))
-    (and-both (leb 2 (length (named l))) (true && eqb (getD (named l) (length (named l) - 1) 0) 62) (le-leb 2 (length (named l)) (omega (arith, length-append l (62 ∷ [])))) (eq-eqb _ 62 (last-byte l))))
+    and-both (clean (bracketed l)) (isConstant (bracketed l)) (clean-append l (62 ∷ []) h refl)
+    (or-inl (isIri (bracketed l)) (isLiteral (bracketed l))
+    (and-both (leb 2 (length (bracketed l))) (true && eqb (getD (bracketed l) (length (bracketed l) - 1) 0) 62) (le-leb 2 (length (bracketed l)) (omega (arith, length-append l (62 ∷ [])))) (eq-eqb _ 62 (last-byte l))))
 
 simple-fits : (l : Bytes) → clean l ≡ true → Fits constant (simple l)
 unfolding clean
@@ -82,7 +82,7 @@ pub ground-fits : (d : Domain) (l x : Bytes) → clean l ≡ true → clean x �
 unfolding groundTerm
 ground-fits PlainString l x h k = constant-cell (simple l) (simple-fits l h)
 ground-fits LanguageTaggedString l x h k = constant-cell (tagged l x) (tagged-fits l x h k)
-ground-fits Iri l x h k = constant-cell (named l) (named-fits l h)
+ground-fits Iri l x h k = constant-cell (bracketed l) (named-fits l h)
 ground-fits Float l x h k = constant-cell (typed l x) (typed-fits l x h k)
 ground-fits Double l x h k = constant-cell (typed l x) (typed-fits l x h k)
 ground-fits UnsignedLong l x h k = constant-cell (typed l x) (typed-fits l x h k)

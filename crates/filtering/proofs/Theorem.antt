@@ -19,7 +19,7 @@ use Rattle.scoping.specs.Sets.{all}
 use Rattle.merging.specs.Request.{Projection}
 use Rattle.merging.specs.Negate.{modifyOutermostProjection}
 use Rattle.merging.proofs.Given.{then-written, test-written}
-use Rattle.merging.proofs.Theorem.{bytes-of}
+use Rattle.answers.proofs.Answers.{bytes-of}
 use Rattle.negating.specs.Projections.{outermostProjection}
 use Rattle.negating.proofs.Found.{Outermost, here, under-distinct, under-reduced, under-slice, under-orderby, under-group, found, not-found}
 use Rattle.filtering.specs.IfFound.{ifFound}

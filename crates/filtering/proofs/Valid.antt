@@ -11,16 +11,16 @@ use Rattle.text.specs.Text.{Bytes, same}
 use Rattle.text.specs.Word.{bytes}
 use Rattle.text.specs.Field.{most, clean, isVar, isConstant, given, isKind, fits, allFit, variable, plain, opaque}
 use Rattle.text.proofs.Basics.{so→T, and-left, and-right, and-both}
-use Rattle.algebra.specs.Tree.{Pattern, join, Expression, term, Expressions, eend, econs, count}
+use Rattle.algebra.specs.Tree.{Pattern, join, Expression, term, Expressions, eend, econs, ecount}
 use Rattle.algebra.specs.Query.{Value, BindingSet, FilterWord, UN, BIN, TERN, NARY, Filter, leaf, ref, function, Filters, fend, fcons, fcount}
 use Rattle.algebra.specs.Word.{filterArity}
 use Rattle.algebra.specs.Valid.{Fits, AllFit, Rows, Takes, Valid, ValidE, ValidEs, ValueRows, ValidSets, ValidFilter, ValidParts, ValidFilters}
 use Rattle.scoping.specs.Premises.{columnsAt, inside}
 use Rattle.scoping.specs.Sets.{all}
 use Rattle.scoping.proofs.Positions.{inside-first}
-use Rattle.counting.proofs.Basics.{or-inl}
+use Rattle.scoping.proofs.Basics.{or-inl}
 use Rattle.merging.specs.Request.{position}
-use Rattle.merging.proofs.Side.{at-in}
+use Rattle.merging.proofs.Positions.{at-in}
 use Rattle.merging.proofs.Lists.{map-length}
 use Rattle.merging.proofs.Written.{fit-at}
 use Rattle.filtering.specs.Values.{groundTermFromDatavalue, expressionTerm}
@@ -105,7 +105,7 @@ variable-plain : (f : Bytes) → Fits variable f → Fits plain f
 unfolding fits isKind
 variable-plain f h = and-both (clean f) (isVar f || isConstant f) (and-left (clean f) (isVar f) h) (or-inl (isVar f) (isConstant f) (and-right (clean f) (isVar f) h))
 
-function-valid : (w : FilterWord) (n : Bytes) (k : ℕ) (es : Expressions) (e : Expression) → Takes (filterArity w) k → count es ≡ k → ValidEs es → tryExpressionFromFunction w n es ≡ some e → ValidE e
+function-valid : (w : FilterWord) (n : Bytes) (k : ℕ) (es : Expressions) (e : Expression) → Takes (filterArity w) k → ecount es ≡ k → ValidEs es → tryExpressionFromFunction w n es ≡ some e → ValidE e
 unfolding tryExpressionFromFunction tryExpressionFromUnary tryExpressionFromBinary Takes ValidE
 function-valid UN n k es e t c v h = choice-gives (same n (bytes "Datatype")) (same n (bytes "LanguageTag")) _ _ e ValidE (DATATYPE-opaque, omega arith, v) (LANG-opaque, omega arith, v) h
 function-valid BIN n k es e t c v h = choice-gives (same n (bytes "Equals")) (same n (bytes "Unequals")) _ _ e ValidE (c ∙ t, v) (refl, ((c ∙ t, v), tt)) h
@@ -128,14 +128,14 @@ module _ (cs : List Bytes) (a : AllFit variable cs) where
         let y = parts-valid fs (x .0) i (q .2) (x .1) in
         function-valid w n (fcount fs) (x .0) e (q .1) (y .0) (y .1) (x .2)
 
-    pub parts-valid : (fs : Filters) (es : Expressions) → partsInside cs fs ≡ true → ValidParts fs → tryExpressionsFromParts cs fs ≡ some es → (count es ≡ fcount fs) × ValidEs es
-    parts-valid fend es i w h = let x : eend ≡ es = cc in subst (λ (d : Expressions). (count d ≡ 0) × ValidEs d) x (refl, tt)
+    pub parts-valid : (fs : Filters) (es : Expressions) → partsInside cs fs ≡ true → ValidParts fs → tryExpressionsFromParts cs fs ≡ some es → (ecount es ≡ fcount fs) × ValidEs es
+    parts-valid fend es i w h = let x : eend ≡ es = cc in subst (λ (d : Expressions). (ecount d ≡ 0) × ValidEs d) x (refl, tt)
     parts-valid (fcons f fs) es i w h =
         let x = if-some-gives (tryExpressionFromTree cs f) _ es h in
         let y = if-some-gives (tryExpressionsFromParts cs fs) (λ ds. some (econs (x .0) ds)) es (x .2) in
         let z : econs (x .0) (y .0) ≡ es = cc in
         let r = parts-valid fs (y .0) (and-right (referencesInside cs f) (partsInside cs fs) i) (w .1) (y .1) in
-        subst (λ (d : Expressions). (count d ≡ suc (fcount fs)) × ValidEs d) z (ap suc (r .0), (tree-valid f (x .0) (and-left (referencesInside cs f) (partsInside cs fs) i) (w .0) (x .1), r .1))
+        subst (λ (d : Expressions). (ecount d ≡ suc (fcount fs)) × ValidEs d) z (ap suc (r .0), (tree-valid f (x .0) (and-left (referencesInside cs f) (partsInside cs fs) i) (w .0) (x .1), r .1))
 
   -- all of a list
   abbrev AllE : List Expression → Type 0

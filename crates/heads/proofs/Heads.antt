@@ -20,7 +20,7 @@ use Rattle.algebra.proofs.Neat.{query-neat}
 use Rattle.algebra.proofs.Theorem.{query-exactly}
 use Rattle.cursor.specs.bridge.Cursor.{left}
 use Rattle.cursor.proofs.Laws.{left-none}
-use Rattle.counting.proofs.Basics.{both-ways}
+use Rattle.scoping.proofs.Basics.{both-ways}
 use Rattle.merging.specs.Merge.{isSelectOrAsk, mergeable}
 use Rattle.reader.specs.bridge.Lines.{LineEnd}
 use Rattle.reader.proofs.Laws.{nothing-here}

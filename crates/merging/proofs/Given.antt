@@ -12,7 +12,7 @@ use Rattle.answers.specs.Outcome.{Outcome, written, then, orRefused, refusedUnl
 use Rattle.merging.specs.Sides.{Pair, Constant}
 use Rattle.merging.specs.Request.{Projection, tree, asProject, made, readJoins, readConstants, request, allInside}
 use Rattle.merging.specs.Merge.{mergeProjectPatterns, lists, mergeTrees}
-use Rattle.merging.specs.Demand3.{Lists}
+use Rattle.merging.specs.Asked.{Lists}
 
 pub then-written : {A : Type 0} (o : Reading A) (k : A → Outcome) (b : Bytes) → then o k ≡ written b → (a : A) × (o ≡ reads a) × (k a ≡ written b)
 then-written (reads a) k b e = (a, refl, e)

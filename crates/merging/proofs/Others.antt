@@ -6,12 +6,12 @@ use mathlib.Core.Option.{Option, none, some}
 use Prim.Native.Nat.{ℕ, _≤_}
 use native.Mathlib.Omega.{arith}
 use lib.ListN.{length}
-use Rattle.text.specs.Text.{Bytes}
+use Rattle.text.specs.Text.{Bytes, textOf}
 use Rattle.text.specs.Field.{clean, variable}
 use Rattle.algebra.specs.Tree.{NOT, Pattern, bgp, path, join, union, minus, leftjoin, filter, graph, extend, values, orderby, project, distinct, reduced, slice, group, service, exists, apply, eend, econs}
 use Rattle.algebra.specs.Query.{Query}
 use Rattle.algebra.specs.Reader.{reads}
-use Rattle.algebra.specs.Layout.{layout}
+use Rattle.algebra.specs.Layout.{putQuery, layout}
 use Rattle.algebra.specs.Bounded.{layoutQuery}
 use Rattle.algebra.specs.Texts.{readQuery, readAnyTree}
 use Rattle.algebra.specs.Valid.{Triples, Takes, Valid, ValidQuery}
@@ -28,12 +28,17 @@ use Rattle.merging.specs.Request.{Projection, tree, asProject, readConst
 use Rattle.merging.specs.Merge.{isSelectOrAsk, over}
 use Rattle.merging.specs.Push.{onlySide, pushConstantsInProjectPattern, pushed, pushConstants, pushConstantsOutcome}
 use Rattle.merging.specs.Negate.{modifyOutermostProjection, negateProjectPattern, negateQuery, negateOutcome}
-use Rattle.merging.specs.Demand3.{behindHead}
+use Rattle.merging.specs.Asked.{behindHead}
 use Rattle.merging.proofs.Given.{then-written, test-written, project-of}
 use Rattle.merging.proofs.Lists.{Good, constants-good}
 use Rattle.merging.proofs.Names.{Letter}
 use Rattle.merging.proofs.Written.{Known, fit-of, side-valid, free-fits}
-use Rattle.merging.proofs.Theorem.{query-over, bytes-of}
+use Rattle.answers.proofs.Answers.{bytes-of}
+
+-- a query's text is its head line, then its tree's
+pub query-over : (a : Query) (t : Pattern) → layoutQuery (over a t) ≡ behindHead (a .kind) (a .dataset) (a .base) (layout t)
+unfolding layoutQuery putQuery textOf layout behindHead
+query-over a t = refl
 
 -- a query's head line, and the text of one tree
 pub record Asked (q : Query) (b : Bytes) : Type 0 where

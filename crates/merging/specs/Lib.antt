@@ -4,6 +4,5 @@ pub mod Merge
 pub mod Push
 pub mod Negate
 pub mod Names
-pub mod Expected
-pub mod Demand3
+pub mod Asked
 pub mod Cases

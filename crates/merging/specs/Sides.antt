@@ -39,10 +39,6 @@ pub record Side : Type 0 where
 abbrev pub standardized : ℕ → List Bytes → Pattern → List ℕ → List Constant → Side
 standardized prefix cs p is ks = record { columns = cs; inner = p; name = sideName prefix cs p is; constants = ks }
 
--- a side's tree
-abbrev pub whole : Side → Pattern
-whole s = project (s .columns) (s .inner)
-
 -- the column at a position; no name past the last
 abbrev pub columnAt : List Bytes → ℕ → Bytes
 columnAt cs i = getD cs i []
@@ -82,9 +78,6 @@ freeColumns s = withoutConstants 0 (renamedColumns s) (s .constants)
 -- left_join_variables and right_join_variables: the columns at the join positions
 abbrev pub leftJoinVariables : Side → List Pair → List Bytes
 leftJoinVariables l js = map (λ j. columnAt (l .columns) (j .left)) js
-
-abbrev pub rightJoinVariables : Side → List Pair → List Bytes
-rightJoinVariables r js = map (λ j. columnAt (r .columns) (j .right)) js
 
 -- the left columns, then the right ones that are no join variable
 unfoldable pub mergedColumns : Side → Side → List Pair → List Bytes

@@ -6,11 +6,12 @@ use mathlib.Core.Bool.{Bool, true, false, cond}
 use native.Mathlib.Nat.{le-refl, sub-zero}
 use native.Mathlib.Omega.{arith}
 use lib.ListN.{length, getD, take, drop, length-take, length-drop}
-use lib.Seq.{take-length, take-add, drop-drop, drop-cons}
+use lib.Seq.{take-length}
 use lib.Dec.{eqb}
 use borrow.Author.Tests.{lt-ltb, le-ltb}
 use Rattle.text.specs.Text.{Bytes, same, onto, split, part, First}
 use Rattle.text.proofs.Basics.{same-eq}
+use Rattle.text.proofs.Parts.{part-join, part-line}
 use Rattle.text.proofs.Lists.{split-here, split-last}
 use Rattle.parted.specs.Parted.{bar, before, textsIn, texts}
 use Rattle.parted.specs.bridge.Code.{textsFrom, after, Ends}
@@ -29,23 +30,6 @@ one-more p (x ∷ xs) = go (eqb x 10) (split 10 xs)
     go true ps = refl
     go false [] = refl
     go false (q ∷ ps) = refl
-
--- two parts, one behind the other
-pub part-join : (s : Bytes) (from at to : ℕ) → from ≤ at → at ≤ to → part from at s ++ part at to s ≡ part from to s
-part-join s from at to h k =
-    let e : from + (at - from) ≡ at = omega arith in
-    let f : (at - from) + (to - at) ≡ to - from = omega arith in
-    ap (λ (l : Bytes). part from at s ++ take (to - at) l) (ap (λ (n : ℕ). drop n s) (sym e) ∙ sym (drop-drop (at - from) from s))
-    ∙ sym (take-add (at - from) (to - at) (drop from s))
-    ∙ ap (λ (n : ℕ). take n (drop from s)) f
-
--- a line with its line end
-pub part-line : (s : Bytes) (at e : ℕ) → at ≤ e → e < length s → getD s e 0 ≡ 10 → part at e s ++ (10 ∷ []) ≡ part at (e + 1) s
-part-line s at e h k q =
-    let one : e + 1 - e ≡ 1 = omega arith in
-    ap (λ (l : Bytes). part at e s ++ l)
-    (ap (λ (x : ℕ). x ∷ []) (sym q) ∙ ap (take 1) (sym (drop-cons s e 0 k)) ∙ ap (λ (n : ℕ). take n (drop e s)) (sym one))
-    ∙ part-join s at e (e + 1) h (omega arith)
 
 pub before-join : (a b : Bytes) (ts : List Bytes) → before a (before b ts) ≡ before (a ++ b) ts
 unfolding before

@@ -16,7 +16,7 @@ use Rattle.words.specs.declared.Found.the-variants.{Is, None}
 use Rattle.words.specs.bridge.Code.{sortAt, groupOf, slotsIn, groupsIn, rowOf, rowFound, noCode}
 use Rattle.cursor.specs.bridge.Cursor.{left, awaitingMany}
 use Rattle.cursor.specs.declared.Cursor.{Cursor}
-use Rattle.parted.proofs.Laws.{part-join, part-line}
+use Rattle.text.proofs.Parts.{part-join, part-line}
 use Rattle.lines.specs.bridge.Below.{amountIn}
 use Rattle.scoping.specs.bridge.Walk.{rowOr, numberIn}
 use Rattle.reader.specs.bridge.Lines.{LineEnd}

@@ -8,7 +8,7 @@ use Rattle.text.specs.Text.{Bytes, same}
 use Rattle.text.specs.Word.{bytes}
 use Rattle.emit.specs.bridge.Emit.{Em, puts}
 use Rattle.emit.proofs.Laws.{puts-append}
-use Rattle.filtering.specs.Values.{simple, named}
+use Rattle.filtering.specs.Values.{simple, bracketed}
 use Rattle.filtering.specs.bridge.Terms.{formOf, termOf}
 
 -- a lexical form between two bytes
@@ -64,7 +64,7 @@ module _ (d : Bytes) where
 -- ---- the term of a form
 
 module _ (f : ℕ) (l x : Bytes) (e : Em) where
-  pub named-put : (r : Em) → f ≡ 2 → r ≡ puts (named l) e → r ≡ puts (termOf f l x) e
+  pub named-put : (r : Em) → f ≡ 2 → r ≡ puts (bracketed l) e → r ≡ puts (termOf f l x) e
   unfolding termOf
   named-put r h p = rw (eq-eqb f 2 h) p
 

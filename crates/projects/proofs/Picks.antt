@@ -19,7 +19,7 @@ use Rattle.merging.specs.Sides.{Constant, columnAt, constantColumns, constantTe
 use Rattle.merging.specs.Request.{position, positions, byPosition, constantsIn}
 use Rattle.merging.specs.Names.{from, isAt, placeIn}
 use Rattle.merging.proofs.Lists.{sorted-any}
-use Rattle.merging.proofs.MergedColumns.{at-sym}
+use Rattle.merging.proofs.Positions.{at-sym}
 use Rattle.merging.proofs.Rising.{termAt, constantAt, rising}
 use Rattle.sides.specs.bridge.Columns.{bitOf, maskOf, picked, goneBits}
 use Rattle.sides.specs.bridge.Listed.{positionsIn, secondOf, termsFrom}

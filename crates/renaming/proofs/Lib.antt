@@ -5,3 +5,4 @@ pub mod Scoped
 pub mod Targets
 pub mod Long
 pub mod Renamed
+pub mod Standard

@@ -12,7 +12,7 @@ use Rattle.emit.specs.bridge.Emit.{em, last, puts}
 use Rattle.names.specs.bridge.Names.{listing}
 use Rattle.scoping.specs.bridge.Places.{visible, places}
 use Rattle.scoping.specs.Numbering.{byPlace}
-use Rattle.scoping.specs.Sets.{Once}
+use Rattle.scoping.specs.bridge.Sets.{Once}
 use Rattle.scoping.specs.bridge.Spots.{Spot}
 use Rattle.lines.specs.bridge.Spotted.{spotsOf}
 use Rattle.scoping.specs.bridge.Becomes.{chosen}

@@ -29,7 +29,7 @@ use Rattle.reading.proofs.Said.{said-good, said-malformed, said-over, said-note
 use Rattle.reading.proofs.ChartLaw.{charted-checked}
 use Rattle.names.specs.bridge.Names.{listing, Hinted}
 use Rattle.names.specs.bridge.Checked.{Checked}
-use Rattle.scoping.specs.Sets.{Once}
+use Rattle.scoping.specs.bridge.Sets.{Once}
 use Rattle.scoping.specs.Numbering.{byPlace}
 use Rattle.scoping.proofs.FirstPlaces.{by-place-once}
 use Rattle.walking.specs.bridge.Code.{Named, Inside, Marked}

@@ -25,7 +25,7 @@ use Rattle.merging.specs.Sides.{Constant, columnAt, constantColumns, constantTe
 use Rattle.merging.specs.Request.{position, constantsIn, placed, byPosition, positions, readConstants}
 use Rattle.merging.proofs.Given.{made-reads}
 use Rattle.merging.proofs.Lists.{sorted-length, map-length}
-use Rattle.merging.proofs.MergedColumns.{at-sym}
+use Rattle.merging.proofs.Positions.{at-sym}
 use Rattle.walking.proofs.Sizes.{width, size, text-size}
 use Rattle.walking.proofs.Fields.{integer-some}
 

@@ -9,7 +9,7 @@ use lib.ListN.{length}
 use Rattle.text.specs.Text.{Bytes, Line, same}
 use Rattle.text.specs.Word.{bytes}
 use Rattle.text.specs.Field.{decimal, digits, variable}
-use Rattle.algebra.specs.Tree.{EQ, NOT, Expression, apply, call, Expressions, eend, econs, count}
+use Rattle.algebra.specs.Tree.{EQ, NOT, Expression, apply, call, Expressions, eend, econs, ecount}
 use Rattle.algebra.specs.Query.{Value, FilterWord, UN, BIN, TERN, NARY, Filter, leaf, ref, function, Filters, fend, fcons, fcount}
 use Rattle.algebra.specs.Word.{spellV, filterArity}
 use Rattle.algebra.specs.Layout.{putE, putEs, putArity, putValues, putFilter, putParts}
@@ -62,13 +62,13 @@ leaf-size v t n u h = go (expressionTerm (v .domain) (v .lexical) (v .extra)) (t
 
 -- the parts of a function, and how many they are
 abbrev Parts : ℕ → List Line → ℕ → ℕ → Expressions → Type 0
-Parts k t n m es = (count es ≡ k) × (size (putEs es t) + n ≤ m)
+Parts k t n m es = (ecount es ≡ k) × (size (putEs es t) + n ≤ m)
 
 unary-size : (x : Bytes) (t : List Line) (n m : ℕ) (es : Expressions) → Parts 1 t n m es → Given (tryExpressionFromUnary x es) λ e. size (putE e t) + n ≤ m + 16
 unfolding tryExpressionFromUnary putE decimal digits size width
 unary-size x t n m es h = go (same x (bytes "Datatype")) (same x (bytes "LanguageTag")) (ap (λ (j : ℕ). length (decimal j)) (h .0)) (h .1)
   where
-    go : (a b : Bool) → length (decimal (count es)) ≡ length (decimal 1) → size (putEs es t) + n ≤ m
+    go : (a b : Bool) → length (decimal (ecount es)) ≡ length (decimal 1) → size (putEs es t) + n ≤ m
         → Given (cond a (some (call (bytes "DATATYPE") es)) (cond b (some (call (bytes "LANG") es)) none)) λ e. size (putE e t) + n ≤ m + 16
     go true b d r = omega arith
     go false true d r = omega arith

@@ -23,11 +23,11 @@ use Rattle.scoping.specs.Sets.{keep}
 use Rattle.merging.specs.Sides.{Pair, Constant, lefts, rights, renamedPattern, freeColumns, leftJoinVariables, mergedColumns, merged}
 use Rattle.merging.specs.Request.{Projection, tree, asProject, readJoins, readConstants, Request, request, leftSide, rightSide, positions, allInside}
 use Rattle.merging.specs.Merge.{mergeProjectPatterns, lists, mergeTrees, mergePatternsOutcome, mergeable, over, mergeQueriesOutcome}
-use Rattle.merging.specs.Demand3.{Lists}
+use Rattle.merging.specs.Asked.{Lists}
 use Rattle.merging.proofs.Given.{project-of}
 use Rattle.merging.proofs.Lists.{map-length, joins-few}
 use Rattle.merging.proofs.Others.{tree-valid, tree-names}
-use Rattle.merging.proofs.Promise.{TreeRead, tree-read}
+use Rattle.merging.proofs.TreeRead.{TreeRead, tree-read}
 use Rattle.room.specs.Room.{mergeRoom}
 use Rattle.room.proofs.Enough.{Enough, then-enough, some-enough, test-enough}
 use Rattle.walking.proofs.Sizes.{width, width-append, size, tree-size, query-size}

@@ -9,9 +9,10 @@ use Rattle.text.specs.Text.{Bytes, same}
 use Rattle.text.proofs.Basics.{same-eq, and-both}
 use Rattle.algebra.specs.Valid.{mem}
 use Rattle.algebra.proofs.Lines.{different-head, different-tail}
-use Rattle.scoping.specs.Sets.{Once, keep}
+use Rattle.scoping.specs.bridge.Sets.{Once}
+use Rattle.scoping.specs.Sets.{keep}
 use Rattle.scoping.proofs.Sets.{mem-keep, not-same}
-use Rattle.counting.proofs.Basics.{mem-here, mem-there}
+use Rattle.scoping.proofs.Basics.{mem-here, mem-there}
 use Rattle.walking.proofs.Sizes.{width}
 
 pub keep-width : (f : Bytes → Bool) (vs : List Bytes) → width (keep f vs) ≤ width vs

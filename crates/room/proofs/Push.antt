@@ -22,7 +22,7 @@ use Rattle.merging.specs.Request.{Projection, tree, asProject, readConstants, p
 use Rattle.merging.specs.Merge.{isSelectOrAsk, over}
 use Rattle.merging.specs.Push.{pushConstantsInProjectPattern, pushed, pushConstants, pushConstantsOutcome}
 use Rattle.merging.proofs.Given.{project-of}
-use Rattle.merging.proofs.Promise.{TreeRead}
+use Rattle.merging.proofs.TreeRead.{TreeRead}
 use Rattle.room.specs.Room.{pushRoom}
 use Rattle.room.proofs.Enough.{Enough, then-enough, test-enough}
 use Rattle.walking.proofs.Sizes.{width, size, query-size}

@@ -8,11 +8,10 @@ use Rattle.text.proofs.Basics.{same-eq}
 use Rattle.algebra.specs.Valid.{mem}
 use Rattle.algebra.specs.Tally.{Tally, start, notes, noted, headed, tallyTriples, tallyRows, tally, tallyE, tallyC, tallyEs, tallyOs, tallyAs, tallyQuery}
 use Rattle.algebra.specs.Query.{Query}
-use Rattle.algebra.specs.Tree.{Triple}
-use Rattle.algebra.specs.Tree.{Pattern, bgp, path, join, union, minus, leftjoin, filter, graph, extend, values, orderby, project, distinct, reduced, slice, group, service}
-use Rattle.algebra.specs.Tree.{Expression, term, bound, exists, apply, call, Condition, always, provided, Expressions, eend, econs, Orders, oend, ocons, Aggregates, aend, agg, aggall}
+use Rattle.algebra.specs.Tree.{Triple, Pattern, bgp, path, join, union, minus, leftjoin, filter, graph, extend, values, orderby, project, distinct, reduced, slice, group, service, Expression, term, bound, exists, apply, call, Condition, always, provided, Expressions, eend, econs, Orders, oend, ocons, Aggregates, aend, agg, aggall}
 use Rattle.algebra.proofs.Lines.{names-different}
-use Rattle.scoping.specs.Sets.{Once, keep, variablesOf, tripleVariables}
+use Rattle.scoping.specs.bridge.Sets.{Once}
+use Rattle.scoping.specs.Sets.{keep, variablesOf, tripleVariables}
 use Rattle.scoping.specs.bridge.Places.{Mark, visible, silent, Place, under, marked, places, placesE, placesC, placesEs, placesOs, placesAs, namesOf}
 use Rattle.scoping.specs.Numbering.{byPlace}
 use Rattle.scoping.proofs.Sets.{mem-append}

@@ -9,8 +9,9 @@ use Rattle.text.specs.Text.{Bytes, same}
 use Rattle.text.proofs.Basics.{same-eq, same-refl, and-left, and-right, and-both}
 use Rattle.algebra.specs.Valid.{mem}
 use Rattle.algebra.proofs.Lines.{different-head, different-tail}
-use Rattle.scoping.specs.Sets.{Once, indexOf}
-use Rattle.scoping.specs.Premises.{isPair}
+use Rattle.scoping.specs.bridge.Sets.{Once}
+use Rattle.scoping.specs.Sets.{indexOf}
+use Rattle.scoping.specs.bridge.Premises.{isPair}
 use Rattle.scoping.proofs.Sets.{not-same, eq-same}
 
 pub at-index : (w : Bytes) (vs : List Bytes) → mem w vs ≡ true → getD vs (indexOf w vs) [] ≡ w

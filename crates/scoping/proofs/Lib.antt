@@ -1,7 +1,9 @@
 pub mod Sets
+pub mod Basics
 pub mod Positions
 pub mod Union
 pub mod Standard
+pub mod ServiceNames
 pub mod Walked
 pub mod FirstPlaces
 pub mod Named

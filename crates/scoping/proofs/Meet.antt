@@ -7,10 +7,11 @@ use native.Mathlib.Omega.{arith}
 use lib.ListN.{length, getD}
 use Rattle.text.specs.Text.{Bytes, same}
 use Rattle.algebra.specs.Valid.{mem}
-use Rattle.scoping.specs.Sets.{Once, indexOf}
+use Rattle.scoping.specs.bridge.Sets.{Once}
+use Rattle.scoping.specs.Sets.{indexOf}
 use Rattle.scoping.specs.Label.{generated, prefixJ, prefixL, prefixR}
 use Rattle.scoping.specs.bridge.Pushes.{allPushes, newName}
-use Rattle.scoping.specs.Premises.{isPair}
+use Rattle.scoping.specs.bridge.Premises.{isPair}
 use Rattle.scoping.proofs.Sets.{eq-same, not-same}
 use Rattle.scoping.proofs.Decimal.{generated-number, generated-prefix}
 use Rattle.scoping.proofs.Closed.{Plain, target, new-name-target}

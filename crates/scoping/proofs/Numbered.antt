@@ -6,7 +6,8 @@ use Rattle.text.specs.Text.{Bytes, same}
 use Rattle.text.specs.Field.{variable, isVar}
 use Rattle.algebra.specs.Valid.{mem, Valid}
 use Rattle.algebra.specs.Tree.{Pattern}
-use Rattle.scoping.specs.Sets.{Alike, Once}
+use Rattle.scoping.specs.Sets.{Alike}
+use Rattle.scoping.specs.bridge.Sets.{Once}
 use Rattle.scoping.specs.Variables.{variablesInPattern}
 use Rattle.scoping.specs.bridge.Places.{visible, Place, places, Scope, in-scope, hidden, counts, namesAt, namesOf, visibleNames, hiddenNames}
 use Rattle.scoping.specs.Numbering.{byPlace, inScopeByPlace, hiddenByPlace, numbered}

@@ -7,7 +7,8 @@ use Rattle.text.specs.Text.{Bytes, same}
 use Rattle.text.proofs.Basics.{same-eq, same-refl}
 use Rattle.algebra.specs.Valid.{mem}
 use Rattle.algebra.proofs.Lines.{different-head, different-tail, different-both}
-use Rattle.scoping.specs.Sets.{Alike, Once, keep}
+use Rattle.scoping.specs.Sets.{Alike, keep}
+use Rattle.scoping.specs.bridge.Sets.{Once}
 
 pub and-none : (t : Bool) → (t && false) ≡ false
 and-none true = refl

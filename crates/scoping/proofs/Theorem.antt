@@ -13,12 +13,14 @@ use Rattle.text.proofs.Basics.{and-left, and-right}
 use Rattle.algebra.specs.Valid.{mem, different}
 use Rattle.algebra.specs.Tree.{Pattern, project}
 use Rattle.algebra.proofs.Lines.{different-both, or-neither, not-no}
-use Rattle.scoping.specs.Sets.{all, any, Once, indexOf}
+use Rattle.scoping.specs.Sets.{all, any, indexOf}
+use Rattle.scoping.specs.bridge.Sets.{Once}
 use Rattle.scoping.specs.Variables.{variablesInPattern}
 use Rattle.scoping.specs.Label.{isLabel, prefixJ, prefixL, prefixR}
 use Rattle.scoping.specs.Numbering.{numbered}
 use Rattle.scoping.specs.bridge.Pushes.{allPushes, newName}
-use Rattle.scoping.specs.Premises.{columnsAt, inside, differentPositions, NamePremises, sideName, isPair}
+use Rattle.scoping.specs.Premises.{columnsAt, inside, differentPositions, sideName}
+use Rattle.scoping.specs.bridge.Premises.{NamePremises, isPair}
 use Rattle.scoping.proofs.Sets.{not-same}
 use Rattle.scoping.proofs.Positions.{inside-first, inside-rest, different-first, different-rest}
 use Rattle.scoping.proofs.Numbered.{numbered-mem}

@@ -1,6 +1,8 @@
--- The variables in scope by SPARQL 1.1, section 18.2.1, written from knowledge of the standard's table, whose page was not at hand; and the service names among them. Assumes nothing.
+-- The variables in scope by SPARQL 1.1, section 18.2.1, written from knowledge of the standard's table, whose page was not at hand; and a pattern whose services are named by IRIs. Assumes nothing.
+use mathlib.Core.Bool.{cond}
 use mathlib.Core.List.{List, [], _∷_, _++_}
 use Rattle.text.specs.Text.{Bytes}
+use Rattle.text.specs.Field.{isVar}
 use Rattle.algebra.specs.Tree.{Pattern, bgp, path, join, union, minus, leftjoin, filter, graph, extend, values, orderby, project, distinct, reduced, slice, group, service}
 use Rattle.scoping.specs.Sets.{variablesOf, tripleVariables, aggregateVariables}
 
@@ -25,23 +27,23 @@ inScope (distinct p) = inScope p
 inScope (reduced p) = inScope p
 inScope (slice s l p) = inScope p
 
--- the variables that are in scope there as names of services, which nemo leaves out: docs/SPECIFICATION.md, "Scope"
-unfoldable pub serviceNames : Pattern → List Bytes
-unfolding variablesOf
-serviceNames (bgp ts) = []
-serviceNames (path s t o) = []
-serviceNames (join p q) = serviceNames p ++ serviceNames q
-serviceNames (union p q) = serviceNames p ++ serviceNames q
-serviceNames (leftjoin p q c) = serviceNames p ++ serviceNames q
-serviceNames (graph n p) = serviceNames p
-serviceNames (service n s p) = variablesOf (n ∷ []) ++ serviceNames p
-serviceNames (extend v p e) = serviceNames p
-serviceNames (project cs p) = []
-serviceNames (group ks p rs) = []
-serviceNames (values cs rs) = []
-serviceNames (minus p q) = serviceNames p
-serviceNames (filter p e) = serviceNames p
-serviceNames (orderby p os) = serviceNames p
-serviceNames (distinct p) = serviceNames p
-serviceNames (reduced p) = serviceNames p
-serviceNames (slice s l p) = serviceNames p
+-- p with each service's name that is a variable replaced by the IRI i: nemo's set in scope is the standard's of this. Expressions put nothing in scope and stay
+unfoldable pub servicesNamed : Bytes → Pattern → Pattern
+unfolding isVar
+servicesNamed i (service n s p) = service (cond (isVar n) i n) s (servicesNamed i p)
+servicesNamed i (bgp ts) = bgp ts
+servicesNamed i (path s t o) = path s t o
+servicesNamed i (values cs rs) = values cs rs
+servicesNamed i (join p q) = join (servicesNamed i p) (servicesNamed i q)
+servicesNamed i (leftjoin p q c) = leftjoin (servicesNamed i p) (servicesNamed i q) c
+servicesNamed i (union p q) = union (servicesNamed i p) (servicesNamed i q)
+servicesNamed i (minus p q) = minus (servicesNamed i p) (servicesNamed i q)
+servicesNamed i (graph n p) = graph n (servicesNamed i p)
+servicesNamed i (extend v p e) = extend v (servicesNamed i p) e
+servicesNamed i (filter p e) = filter (servicesNamed i p) e
+servicesNamed i (project cs p) = project cs (servicesNamed i p)
+servicesNamed i (group ks p rs) = group ks (servicesNamed i p) rs
+servicesNamed i (orderby p os) = orderby (servicesNamed i p) os
+servicesNamed i (distinct p) = distinct (servicesNamed i p)
+servicesNamed i (reduced p) = reduced (servicesNamed i p)
+servicesNamed i (slice s l p) = slice s l (servicesNamed i p)

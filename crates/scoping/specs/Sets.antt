@@ -6,7 +6,7 @@ use mathlib.Core.List.{List, [], _∷_, _++_}
 use Rattle.text.specs.Text.{Bytes, same}
 use Rattle.text.specs.Field.{isVar}
 use Rattle.algebra.specs.Tree.{Triple, Aggregates, aend, agg, aggall}
-use Rattle.algebra.specs.Valid.{mem, different}
+use Rattle.algebra.specs.Valid.{mem}
 
 -- every element passes
 unfoldable pub all : {A : Type 0} → (A → Bool) → List A → Bool
@@ -23,13 +23,14 @@ unfoldable pub keep : {A : Type 0} → (A → Bool) → List A → List A
 keep f [] = []
 keep f (x ∷ xs) = cond (f x) (x ∷ keep f xs) (keep f xs)
 
+-- the lists of all elements, one after the other
+unfoldable pub each : {A B : Type 0} → (A → List B) → List A → List B
+each f [] = []
+each f (x ∷ xs) = f x ++ each f xs
+
 -- two lists are the same set
 abbrev pub Alike : List Bytes → List Bytes → Type 0
 Alike xs ys = (v : Bytes) → mem v xs ≡ mem v ys
-
--- no name twice
-abbrev pub Once : List Bytes → Type 0
-Once vs = different vs ≡ true
 
 -- the place of a name in a list: its first; behind all of them if it is not there
 unfoldable pub indexOf : Bytes → List Bytes → ℕ

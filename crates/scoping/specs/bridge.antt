@@ -5,3 +5,6 @@ pub mod Skip
 pub mod Services
 pub mod Pushes
 pub mod Becomes
+pub mod Sets
+pub mod Premises
+pub mod ServiceNames

@@ -14,7 +14,7 @@ use Rattle.algebra.specs.Layout.{put}
 use Rattle.names.specs.bridge.Names.{listing}
 use Rattle.names.proofs.Laws.{listing-long}
 use Rattle.emit.specs.bridge.Emit.{Em, puts}
-use Rattle.scoping.specs.Sets.{Once}
+use Rattle.scoping.specs.bridge.Sets.{Once}
 use Rattle.scoping.specs.bridge.Places.{visible, places, namesOf}
 use Rattle.scoping.specs.bridge.Spots.{Spot}
 use Rattle.scoping.specs.Numbering.{byPlace, numbered}
@@ -25,9 +25,8 @@ use Rattle.scoping.proofs.Named.{named}
 use Rattle.scoping.proofs.FirstPlaces.{by-place-mem, by-place-once}
 use Rattle.scoping.proofs.Alike.{rename-alike}
 use Rattle.lines.specs.bridge.Spotted.{spotsOf}
-use Rattle.scoping.specs.bridge.Becomes.{replacement}
+use Rattle.scoping.specs.bridge.Becomes.{replacement, chosen}
 use Rattle.walking.specs.bridge.Code.{renames, Inside, Marked}
-use Rattle.scoping.specs.bridge.Becomes.{chosen}
 use Rattle.walking.specs.bridge.Flags.{flagAll}
 use Rattle.walking.specs.bridge.Rewritten.{rewritten, flagSpots, Stands}
 use Rattle.walking.specs.bridge.Renamed.{Renamed}

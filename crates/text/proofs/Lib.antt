@@ -6,3 +6,4 @@ pub mod Lists
 pub mod Blocks
 pub mod FieldLaws
 pub mod Places
+pub mod Parts

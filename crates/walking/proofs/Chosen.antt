@@ -11,7 +11,8 @@ use Rattle.text.specs.Text.{Bytes, same}
 use Rattle.text.proofs.Basics.{same-eq}
 use Rattle.algebra.specs.Valid.{mem, Valid}
 use Rattle.algebra.specs.Tree.{Pattern}
-use Rattle.scoping.specs.Sets.{Once, indexOf, keep}
+use Rattle.scoping.specs.bridge.Sets.{Once}
+use Rattle.scoping.specs.Sets.{indexOf, keep}
 use Rattle.scoping.specs.bridge.Places.{Mark, visible, covered, silent, Place, places, Scope, in-scope, hidden, counts, namesAt, visibleNames, hiddenNames}
 use Rattle.scoping.specs.Variables.{variablesInPattern}
 use Rattle.scoping.specs.Numbering.{byPlace, inScopeByPlace, hiddenByPlace}

@@ -22,7 +22,8 @@ use Rattle.algebra.specs.bridge.Table.{Sort, patterns, rowIn, Row}
 use Rattle.algebra.proofs.Neat.{neat}
 use Rattle.emit.specs.bridge.Emit.{Em, puts}
 use Rattle.emit.proofs.Laws.{puts-nil}
-use Rattle.scoping.specs.Sets.{Once, indexOf}
+use Rattle.scoping.specs.bridge.Sets.{Once}
+use Rattle.scoping.specs.Sets.{indexOf}
 use Rattle.scoping.proofs.Index.{index-at}
 use Rattle.scoping.specs.bridge.Places.{Mark, visible, under, places}
 use Rattle.scoping.specs.Rename.{renameInGraphPattern}

@@ -10,7 +10,7 @@ use Rattle.text.specs.Text.{Bytes, Line, same}
 use Rattle.text.specs.Word.{bytes}
 use Rattle.text.specs.Field.{digitsOf, numberOf, isVar, node, name, cell}
 use Rattle.text.proofs.Numbers.{number-back}
-use Rattle.algebra.specs.Tree.{Triple, Op, OR, AND, EQ, SAME, GT, GE, LT, LE, ADD, SUB, MUL, DIV, IN, PLUS, NEG, NOT, IF, COALESCE, Direction, ASC, DESC, count, ocount, acount}
+use Rattle.algebra.specs.Tree.{Triple, Op, OR, AND, EQ, SAME, GT, GE, LT, LE, ADD, SUB, MUL, DIV, IN, PLUS, NEG, NOT, IF, COALESCE, Direction, ASC, DESC, ecount, ocount, acount}
 use Rattle.algebra.specs.Tree.{Condition, always, provided, Expressions, eend, econs, Orders, oend, ocons, Aggregates, aend, agg, aggall}
 use Rattle.algebra.specs.Word.{Arity, exactly, counted, arity, PatternWord}
 use Rattle.algebra.specs.Word.{ExpressionWord, AggregateWord, spellP, spellE, spellO, spellD, spellA}
@@ -31,7 +31,7 @@ pub length-map : {A B : Type 0} (f : A → B) (xs : List A) → length (map f xs
 length-map f [] = refl
 length-map f (x ∷ xs) = ap suc (length-map f xs)
 
-pub count-renamed : (f : Bytes → Bytes) (es : Expressions) → count (renameInExpressions f es) ≡ count es
+pub count-renamed : (f : Bytes → Bytes) (es : Expressions) → ecount (renameInExpressions f es) ≡ ecount es
 unfolding renameInExpressions
 count-renamed f eend = refl
 count-renamed f (econs e es) = ap suc (count-renamed f es)

@@ -12,17 +12,17 @@ use lib.Dec.{eqb}
 use borrow.Author.Tests.{ne-eqb, eqb-true, eqb-false}
 use Rattle.text.specs.Text.{Bytes, part, piece}
 use Rattle.names.specs.bridge.Names.{nameAt, listing}
-use Rattle.names.proofs.Laws.{listing-long}
+use Rattle.names.proofs.Laws.{listing-long, listing-at}
 use Rattle.emit.specs.bridge.Emit.{Em, puts}
 use Rattle.emit.proofs.Laws.{puts-append}
-use Rattle.scoping.specs.Sets.{Once, indexOf}
+use Rattle.scoping.specs.bridge.Sets.{Once}
+use Rattle.scoping.specs.Sets.{indexOf}
 use Rattle.scoping.proofs.Index.{index-at, mem-at}
 use Rattle.scoping.specs.bridge.Places.{silent}
 use Rattle.scoping.specs.bridge.Spots.{Spot, spot}
 use Rattle.lines.specs.bridge.Spotted.{markAt, spotAt, spotsOf}
 use Rattle.walking.specs.bridge.Walk.{flagged}
 use Rattle.walking.specs.bridge.Rewritten.{rewritten, flagSpots, Stands}
-use Rattle.names.proofs.Laws.{listing-at}
 use Rattle.walking.proofs.Stretches.{part-append, stands-lower, stands-high, copy-apart}
 use Rattle.walking.proofs.Noted.{spots-long, spots-at}
 use Rattle.scoping.specs.bridge.Becomes.{replacement}

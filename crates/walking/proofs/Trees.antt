@@ -9,7 +9,7 @@ use Rattle.text.specs.Text.{Bytes, Line, same, textOf}
 use Rattle.text.specs.Word.{bytes}
 use Rattle.text.proofs.Basics.{deeper}
 use Rattle.text.proofs.Numbers.{number-back}
-use Rattle.algebra.specs.Tree.{count, ocount, acount}
+use Rattle.algebra.specs.Tree.{ecount, ocount, acount}
 use Rattle.algebra.specs.Tree.{Pattern, bgp, path, join, union, minus, leftjoin, filter, graph, extend, values, orderby, project, distinct, reduced, slice, group, service}
 use Rattle.algebra.specs.Tree.{Expression, term, bound, exists, apply, call, Condition, always, provided, Expressions, eend, econs, Orders, oend, ocons, Aggregates, aend, agg, aggall}
 use Rattle.algebra.specs.Word.{arity, BGP, PATH, JOIN, UNION, MINUS, LEFTJOIN, FILTER, GRAPH, EXTEND, VALUES, ORDERBY, PROJECT, DISTINCT, REDUCED, SLICE, GROUP, SERVICE}
@@ -134,13 +134,13 @@ module _ (ns : List Bytes) (new : Bytes → Bytes) (keeps : (f : Bytes) → mem 
         then (P k silent) (line new silent (headingE EXISTS) _ o no-fields) λ o.
         walk p silent t o k v (omega arith)
     walkE (apply f es) t o d v h = deeper _ d h (GoesE (apply f es) t o) λ k i.
-        reached (by-row ns new (spellO f) (arityRow (arity f)) (putArity (arity f) (count es)) (putEs es t) o k (op-row f)
-        ∙ arity-below ns new (tree (λ s. putLine ns new) k) (hides (spellO f)) silent (arity f) (count es) _ _ (v .0))
-        (then (below (hides (spellO f)) silent expressions k (count es)) (line new silent (headingE (OP f)) _ o (arity-fields (arity f) (count es) _ (count-renamed new es) (v .0))) λ o.
+        reached (by-row ns new (spellO f) (arityRow (arity f)) (putArity (arity f) (ecount es)) (putEs es t) o k (op-row f)
+        ∙ arity-below ns new (tree (λ s. putLine ns new) k) (hides (spellO f)) silent (arity f) (ecount es) _ _ (v .0))
+        (then (below (hides (spellO f)) silent expressions k (ecount es)) (line new silent (headingE (OP f)) _ o (arity-fields (arity f) (ecount es) _ (count-renamed new es) (v .0))) λ o.
         walkEs es (hides (spellO f)) silent t o k (v .1) (omega arith))
     walkE (call n es) t o d v h = deeper _ d h (GoesE (call n es) t o) λ k i.
-        rw (number-back (count es) (v .1))
-        (then (below false silent expressions k (count es)) (line new silent (headingE CALL) _ o (shut-then n refl (number-then (count es) _ (count-renamed new es) (v .1) no-fields))) λ o.
+        rw (number-back (ecount es) (v .1))
+        (then (below false silent expressions k (ecount es)) (line new silent (headingE CALL) _ o (shut-then n refl (number-then (ecount es) _ (count-renamed new es) (v .1) no-fields))) λ o.
         walkEs es false silent t o k (v .2) (omega arith))
 
     walkC : (c : Condition) (hide : Bool) (m : Mark) (t : List Line) (o : Output) (d : ℕ) → ValidC c → depthC c ≤ d
@@ -149,10 +149,10 @@ module _ (ns : List Bytes) (new : Bytes → Bytes) (keeps : (f : Bytes) → mem 
     walkC (provided e) hide m t o d v h = walkE e t o d v h
 
     walkEs : (es : Expressions) (hide : Bool) (m : Mark) (t : List Line) (o : Output) (d : ℕ) → ValidEs es → depthEs es ≤ d
-        → After ns o (putEs (renameInExpressions new es)) (placesEs es) t (below hide m expressions d (count es) (state (putEs es t) o))
+        → After ns o (putEs (renameInExpressions new es)) (placesEs es) t (below hide m expressions d (ecount es) (state (putEs es t) o))
     walkEs eend hide m t o d v h = none-after
     walkEs (econs e es) hide m t o d v h =
-        then (below hide m expressions d (count es)) (walkE e (putEs es t) o d (v .0) (omega arith)) λ o.
+        then (below hide m expressions d (ecount es)) (walkE e (putEs es t) o d (v .0) (omega arith)) λ o.
         walkEs es hide m t o d (v .1) (omega arith)
 
     walkOs : (os : Orders) (hide : Bool) (m : Mark) (t : List Line) (o : Output) (d : ℕ) → ValidOs os → depthOs os ≤ d

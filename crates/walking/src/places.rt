@@ -11,7 +11,7 @@ ghost use lib.ListN.{length, getD, drop};
 ghost use Rattle.text.specs.Text.{Bytes, piece as pieceOf};
 ghost use Rattle.names.specs.bridge.Names.{startsOf, sizesOf, namesIn, nameIn};
 ghost use Rattle.emit.specs.bridge.Emit.{em, puts};
-ghost use Rattle.scoping.specs.Sets.{Once};
+ghost use Rattle.scoping.specs.bridge.Sets.{Once};
 ghost use Rattle.lines.specs.bridge.Spotted.{markAt, spotsOf};
 ghost use Rattle.walking.specs.bridge.Walk.{flagged};
 ghost use Rattle.walking.specs.bridge.Code.{renames, Inside, Marked, NextMarked};

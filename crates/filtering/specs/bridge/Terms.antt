@@ -5,7 +5,7 @@ use mathlib.Core.List.{[], _∷_}
 use lib.Dec.{eqb}
 use Rattle.text.specs.Text.{Bytes, same}
 use Rattle.text.specs.Word.{bytes}
-use Rattle.filtering.specs.Values.{simple, tagged, typed, named}
+use Rattle.filtering.specs.Values.{simple, tagged, typed, bracketed}
 
 -- 0 plain, 1 tagged, 2 an IRI, 3 unbound, 4 none, 5 typed but no expression, 6 typed
 unfoldable pub formOf : Bytes → ℕ
@@ -25,7 +25,7 @@ isExpressed f = not (eqb f 3 || (eqb f 4 || eqb f 5))
 -- the term, by its form
 unfoldable pub termOf : ℕ → Bytes → Bytes → Bytes
 termOf f l x =
-    cond (eqb f 2) (named l)
+    cond (eqb f 2) (bracketed l)
     (cond (eqb f 3) (45 ∷ [])
     (cond (eqb f 4) []
     (cond (eqb f 0) (simple l)

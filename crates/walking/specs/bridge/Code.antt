@@ -5,7 +5,7 @@ use mathlib.Core.List.{List, []}
 use lib.ListN.{length, getD}
 use Rattle.text.specs.Text.{Bytes}
 use Rattle.names.specs.bridge.Names.{listing, Hinted}
-use Rattle.scoping.specs.Sets.{Once}
+use Rattle.scoping.specs.bridge.Sets.{Once}
 use Rattle.scoping.specs.bridge.Becomes.{replacement}
 use Rattle.walking.specs.bridge.Renamed.{newMark}
 

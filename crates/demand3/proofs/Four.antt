@@ -8,65 +8,65 @@ use Rattle.text.proofs.Basics.{and-left, and-right, same-eq}
 use Rattle.algebra.specs.Valid.{mem}
 use Rattle.scoping.specs.Sets.{all}
 use Rattle.scoping.proofs.Sets.{eq-same, same-sym}
-use Rattle.counting.specs.Bag.{Sub}
-use Rattle.counting.specs.Row.{Cell, fits, orCell, Row, merge, agree, agreeAll}
-use Rattle.counting.proofs.Basics.{both-ways, all-cong, all-at, all-of}
+use Rattle.scoping.specs.bridge.Sets.{Sub}
+use Rattle.counting.specs.Row.{Cell, compatible, orCell, Row, merge, agree, agreeAll}
+use Rattle.scoping.proofs.Basics.{both-ways, all-cong, all-at, all-of}
 use Rattle.counting.proofs.Only.{Cover, agree-wider}
 
 -- ---- cells
 
-fits-flip : (a b : Cell) → fits a b ≡ true → fits b a ≡ true
-unfolding fits
-fits-flip none none h = refl
-fits-flip none (some b) h = refl
-fits-flip (some a) none h = refl
-fits-flip (some a) (some b) h = same-sym b a ∙ h
+compatible-flip : (a b : Cell) → compatible a b ≡ true → compatible b a ≡ true
+unfolding compatible
+compatible-flip none none h = refl
+compatible-flip none (some b) h = refl
+compatible-flip (some a) none h = refl
+compatible-flip (some a) (some b) h = same-sym b a ∙ h
 
-fits-or-first : (x k z : Cell) → fits (orCell x k) z ≡ true → fits x z ≡ true
-unfolding fits
-fits-or-first none k z h = refl
-fits-or-first (some a) k z h = h
+compatible-or-first : (x k z : Cell) → compatible (orCell x k) z ≡ true → compatible x z ≡ true
+unfolding compatible
+compatible-or-first none k z h = refl
+compatible-or-first (some a) k z h = h
 
-fits-or-second : (x k z : Cell) → fits x k ≡ true → fits (orCell x k) z ≡ true → fits k z ≡ true
-unfolding fits
-fits-or-second none k z e h = h
-fits-or-second (some a) none z e h = refl
-fits-or-second (some a) (some c) none e h = refl
-fits-or-second (some a) (some c) (some d) e h = eq-same c d (sym (same-eq a c e) ∙ same-eq a d h)
+compatible-or-second : (x k z : Cell) → compatible x k ≡ true → compatible (orCell x k) z ≡ true → compatible k z ≡ true
+unfolding compatible
+compatible-or-second none k z e h = h
+compatible-or-second (some a) none z e h = refl
+compatible-or-second (some a) (some c) none e h = refl
+compatible-or-second (some a) (some c) (some d) e h = eq-same c d (sym (same-eq a c e) ∙ same-eq a d h)
 
-fits-or : (x k z : Cell) → fits x z ≡ true → fits k z ≡ true → fits (orCell x k) z ≡ true
-fits-or none k z h e = e
-fits-or (some a) k z h e = h
+compatible-or : (x k z : Cell) → compatible x z ≡ true → compatible k z ≡ true → compatible (orCell x k) z ≡ true
+compatible-or none k z h e = e
+compatible-or (some a) k z h e = h
 
 -- ---- rows
 
-fits-at : (vs : List Bytes) (a b : Row) → agree vs a b ≡ true → (v : Bytes) → mem v vs ≡ true → fits (a v) (b v) ≡ true
+compatible-at : (vs : List Bytes) (a b : Row) → agree vs a b ≡ true → (v : Bytes) → mem v vs ≡ true → compatible (a v) (b v) ≡ true
 unfolding agree
-fits-at vs a b h = all-at (λ v. fits (a v) (b v)) vs h
+compatible-at vs a b h = all-at (λ v. compatible (a v) (b v)) vs h
 
-agree-from : (vs : List Bytes) (a b : Row) → ((v : Bytes) → mem v vs ≡ true → fits (a v) (b v) ≡ true) → agree vs a b ≡ true
+agree-from : (vs : List Bytes) (a b : Row) → ((v : Bytes) → mem v vs ≡ true → compatible (a v) (b v) ≡ true) → agree vs a b ≡ true
 unfolding agree
-agree-from vs a b h = all-of (λ v. fits (a v) (b v)) vs h
+agree-from vs a b h = all-of (λ v. compatible (a v) (b v)) vs h
 
 agree-cong : (vs : List Bytes) (a b a′ b′ : Row) → ((v : Bytes) → mem v vs ≡ true → a v ≡ a′ v) → ((v : Bytes) → mem v vs ≡ true → b v ≡ b′ v) → agree vs a b ≡ agree vs a′ b′
 unfolding agree
-agree-cong vs a b a′ b′ p q = all-cong _ _ vs (λ v m. ap₂ fits (p v m) (q v m))
+agree-cong vs a b a′ b′ p q = all-cong _ _ vs (λ v m. ap₂ compatible (p v m) (q v m))
 
 agree-flip : (vs : List Bytes) (a b : Row) → agree vs a b ≡ true → agree vs b a ≡ true
-agree-flip vs a b h = agree-from vs b a (λ v m. fits-flip (a v) (b v) (fits-at vs a b h v m))
+agree-flip vs a b h = agree-from vs b a (λ v m. compatible-flip (a v) (b v) (compatible-at vs a b h v m))
 
 -- what agrees with a union of two agrees with both; and the other way round
 agree-first : (vs : List Bytes) (a k z : Row) → agree vs (merge a k) z ≡ true → agree vs a z ≡ true
 unfolding merge
-agree-first vs a k z e = agree-from vs a z (λ v m. fits-or-first (a v) (k v) (z v) (fits-at vs (merge a k) z e v m))
+agree-first vs a k z e = agree-from vs a z (λ v m. compatible-or-first (a v) (k v) (z v) (compatible-at vs (merge a k) z e v m))
 
 agree-second : (vs : List Bytes) (a k z : Row) → agree vs a k ≡ true → agree vs (merge a k) z ≡ true → agree vs k z ≡ true
 unfolding merge
-agree-second vs a k z h e = agree-from vs k z (λ v m. fits-or-second (a v) (k v) (z v) (fits-at vs a k h v m) (fits-at vs (merge a k) z e v m))
+agree-second vs a k z h e = agree-from vs k z (λ v m. compatible-or-second (a v) (k v) (z v) (compatible-at vs a k h v m) (compatible-at vs (merge a k) z e v m))
 
 agree-both : (vs : List Bytes) (a k z : Row) → agree vs a z ≡ true → agree vs k z ≡ true → agree vs (merge a k) z ≡ true
 unfolding merge
-agree-both vs a k z h e = agree-from vs (merge a k) z (λ v m. fits-or (a v) (k v) (z v) (fits-at vs a z h v m) (fits-at vs k z e v m))
+agree-both vs a k z h e = agree-from vs (merge a k) z (λ v m. compatible-or (a v) (k v) (z v) (compatible-at vs a z h v m) (compatible-at vs k z e v m))
 
 -- the six tests of four rows, in the order of agreeAll
 sixTests : Bool → Bool → Bool → Bool → Bool → Bool → Bool

@@ -9,13 +9,15 @@ use Rattle.algebra.specs.Valid.{mem}
 use Rattle.algebra.proofs.Lines.{not-no}
 use Rattle.scoping.specs.Sets.{all}
 use Rattle.scoping.specs.ScopedOrHidden.{namesWith}
-use Rattle.scoping.specs.Premises.{isPair, inside}
+use Rattle.scoping.specs.bridge.Premises.{isPair}
+use Rattle.scoping.specs.Premises.{inside}
 use Rattle.scoping.proofs.Sets.{eq-same}
 use Rattle.counting.specs.Row.{cell, oneTerm}
 use Rattle.counting.specs.Scope.{names, expressionVars}
-use Rattle.counting.proofs.Basics.{all-at}
-use Rattle.merging.specs.Sides.{Pair, Side, whole, constantColumns, constantTerms, leftJoinVariables, rightJoinVariables}
-use Rattle.merging.proofs.Fit.{SideFit, Fit}
+use Rattle.scoping.proofs.Basics.{all-at}
+use Rattle.merging.specs.Sides.{Pair, Side, constantColumns, constantTerms, leftJoinVariables}
+use Rattle.demand3.specs.bridge.Sides.{whole, rightJoinVariables}
+use Rattle.demand3.proofs.Fit.{SideFit, Fit}
 
 -- no two names of the list become one
 unfoldable pub keepsApart : List Bytes → (Bytes → Bytes) → Bool

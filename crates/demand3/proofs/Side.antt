@@ -1,40 +1,41 @@
 -- One side of a merge: its columns and constants under the new names, and the rows of its renamed pattern. Assumes nothing.
 use mathlib.Core.Path.{_≡_, refl, sym, _∙_, ap, ap₂, subst, fun-ext}
 use mathlib.Core.Logic.{_⊎_, inl, inr}
-use mathlib.Core.Bool.{Bool, true, false, cond, and-true}
+use mathlib.Core.Bool.{true, cond, and-true}
 use mathlib.Core.List.{List, [], _∷_, _++_, map}
 use mathlib.Core.Option.{none, some}
 use Prim.Native.Nat.{ℕ, zero, suc, _<_}
 use native.Mathlib.Nat.{add-zero}
 use native.Mathlib.Omega.{arith}
 use lib.ListN.{length}
-use lib.Dec.{eqb}
 use Rattle.text.specs.Text.{Bytes}
 use Rattle.algebra.specs.Tree.{Triple, Pattern, join, values, always}
 use Rattle.algebra.specs.Valid.{mem}
-use Rattle.scoping.specs.Sets.{any}
 use Rattle.scoping.specs.Variables.{variablesInPattern, scopeOf}
 use Rattle.scoping.specs.ScopedOrHidden.{namesWith}
 use Rattle.scoping.specs.Rename.{renameInGraphPattern}
 use Rattle.scoping.specs.Premises.{inside}
 use Rattle.scoping.proofs.Positions.{inside-first, inside-rest}
-use Rattle.counting.specs.Bag.{Sub, total}
+use Rattle.scoping.specs.bridge.Sets.{Sub}
+use Rattle.counting.specs.Bag.{total}
 use Rattle.counting.specs.Row.{Cell, orCell, Row, empty, merge, cut, agree, cells, named, oneTerm, cell}
 use Rattle.counting.specs.Condition.{passes}
 use Rattle.counting.specs.Scope.{names}
-use Rattle.counting.specs.Answer.{pairs, lineRows, eval, answer}
-use Rattle.counting.proofs.Basics.{clash, either, mem-nil, mem-here, mem-there, mem-eq, mem-cases, mem-left, mem-right, sub-append, mem-map, mem-unmap, map-map}
+use Rattle.counting.specs.Answer.{unions, lineRows, eval, answer}
+use Rattle.scoping.proofs.Basics.{clash, either, mem-nil, mem-here, mem-there, mem-cases, mem-left, mem-right, sub-append, mem-map, mem-unmap, map-map}
 use Rattle.counting.proofs.Every.{every-imp}
 use Rattle.counting.proofs.Sums.{total-cong, total-every, total-map, total-each, total-when}
-use Rattle.counting.proofs.Only.{Only, only-sub, only-named, eval-only, fits-none, agree-of}
+use Rattle.counting.proofs.Only.{Only, only-sub, only-named, eval-only, compatible-none, agree-of}
 use Rattle.counting.proofs.Push.{push, push-named, push-cut-at, oneTerm-push}
 use Rattle.counting.proofs.Rename.{scope-in, scope-renamed, eval-renamed}
 use Rattle.counting.proofs.Columns.{cells-cut, named-cells}
 use Rattle.counting.proofs.Wider.{agree-both}
-use Rattle.counting.proofs.Laws.{pairs-sum}
-use Rattle.merging.specs.Sides.{Constant, Side, whole, columnAt, constantColumns, constantTerms, bindConstants, withoutConstants, renamedColumns, renamedPattern, freeColumns}
-use Rattle.merging.specs.Expected.{Single}
-use Rattle.merging.proofs.Fit.{SideFit}
+use Rattle.counting.proofs.Laws.{unions-sum}
+use Rattle.merging.specs.Sides.{Constant, Side, columnAt, constantColumns, constantTerms, bindConstants, renamedColumns, renamedPattern}
+use Rattle.merging.proofs.Positions.{positions-in}
+use Rattle.demand3.specs.bridge.Sides.{whole}
+use Rattle.demand3.specs.Expected.{Single}
+use Rattle.demand3.proofs.Fit.{SideFit}
 
 -- ---- a side's answer under its own new names
 
@@ -50,23 +51,10 @@ asSingle g s = record { rows = rows g s; names = renamedColumns s; constants = c
 
 -- ---- positions
 
-pub at-in : (cs : List Bytes) (i : ℕ) → i < length cs → mem (columnAt cs i) cs ≡ true
-at-in [] i h = absurd (omega arith)
-at-in (c ∷ cs) zero h = mem-here c cs
-at-in (c ∷ cs) (suc i) h = mem-there (columnAt cs i) c cs (at-in cs i (omega arith))
-
 at-map : (f : Bytes → Bytes) (cs : List Bytes) (i : ℕ) → i < length cs → columnAt (map f cs) i ≡ f (columnAt cs i)
 at-map f [] i h = absurd (omega arith)
 at-map f (c ∷ cs) zero h = refl
 at-map f (c ∷ cs) (suc i) h = at-map f cs i (omega arith)
-
--- the columns at positions that are inside are columns
-pub positions-in : {A : Type 0} (cs : List Bytes) (pos : A → ℕ) (js : List A) → inside cs (map pos js) ≡ true → Sub (map (λ j. columnAt cs (pos j)) js) cs
-positions-in cs pos [] h v m = mem-nil v m
-positions-in cs pos (j ∷ js) h v m = either
-    (λ e. ap (λ x. mem x cs) e ∙ at-in cs (pos j) (inside-first cs (pos j) (map pos js) h))
-    (positions-in cs pos js (inside-rest cs (pos j) (map pos js) h) v)
-    (mem-cases v (columnAt cs (pos j)) _ m)
 
 -- a column, or no name at all, stands at a position
 at-or : (cs : List Bytes) (i : ℕ) → (mem (columnAt cs i) cs ≡ true) ⊎ (columnAt cs i ≡ [])
@@ -89,28 +77,13 @@ positions-map f cs pos (j ∷ js) h = ap₂ _∷_ (at-map f cs (pos j) (inside-f
 pub map-sub : (f : Bytes → Bytes) (xs ys : List Bytes) → Sub xs ys → Sub (map f xs) (map f ys)
 map-sub f xs ys s w m = let t = mem-unmap f w xs m in subst (λ x. mem x (map f ys) ≡ true) (sym (t .2)) (mem-map f (t .0) ys (s (t .0) (t .1)))
 
--- ---- the columns without constants are columns
-
-without-case : (c : Bytes) (cs xs : List Bytes) → Sub xs cs → (b : Bool) → Sub (cond b xs (c ∷ xs)) (c ∷ cs)
-without-case c cs xs s true v m = mem-there v c cs (s v m)
-without-case c cs xs s false v m = either (λ e. mem-eq v c cs e) (λ k. mem-there v c cs (s v k)) (mem-cases v c xs m)
-
-without-sub : (i : ℕ) (cs : List Bytes) (ks : List Constant) → Sub (withoutConstants i cs ks) cs
-unfolding withoutConstants
-without-sub i [] ks = λ v m. m
-without-sub i (c ∷ cs) ks = without-case c cs (withoutConstants (suc i) cs ks) (without-sub (suc i) cs ks) (any (λ k. eqb (k .position) i) ks)
-
-pub free-sub : (s : Side) → Sub (freeColumns s) (renamedColumns s)
-unfolding freeColumns
-free-sub s = without-sub 0 (renamedColumns s) (s .constants)
-
 -- ---- sums over joined rows, over any list W that has the names in scope
 
 pub join-sum : (F : Row → ℕ) (W : List Bytes) (g : List Triple) (p q : Pattern) → Sub (scopeOf p ++ scopeOf q) W → total F (eval g (join p q)) ≡ total (λ a. total (λ b. cond (agree W a b) (F (merge a b)) 0) (eval g q)) (eval g p)
 unfolding eval passes
 join-sum F W g p q s =
-    total-each F (λ a. pairs (scopeOf p ++ scopeOf q) always a (eval g q)) (eval g p)
-    ∙ total-every _ _ (every-imp (λ a oa. pairs-sum F (scopeOf p ++ scopeOf q) always a (eval g q) ∙ total-cong _ _ (eval g q) (λ b. ap (λ c. cond c (F (merge a b)) 0) (and-true (agree (scopeOf p ++ scopeOf q) a b) ∙ sym (agree-both W (scopeOf p) (scopeOf q) a b s oa)))) (eval-only g p))
+    total-each F (λ a. unions (scopeOf p ++ scopeOf q) always a (eval g q)) (eval g p)
+    ∙ total-every _ _ (every-imp (λ a oa. unions-sum F (scopeOf p ++ scopeOf q) always a (eval g q) ∙ total-cong _ _ (eval g q) (λ b. ap (λ c. cond c (F (merge a b)) 0) (and-true (agree (scopeOf p ++ scopeOf q) a b) ∙ sym (agree-both W (scopeOf p) (scopeOf q) a b s oa)))) (eval-only g p))
 
 pub or-none : (x : Cell) → orCell x none ≡ x
 or-none none = refl
@@ -131,7 +104,7 @@ line-sum F g cs xs h =
 constants-sum : (F : Row → ℕ) (W : List Bytes) (g : List Triple) (p : Pattern) (cs : List Bytes) (ks : List Constant) → Sub (scopeOf p ++ constantColumns cs ks) W → oneTerm (constantColumns cs ks) (map cell (constantTerms ks)) ≡ true
     → total F (eval g (bindConstants p cs ks)) ≡ total (λ a. cond (agree W a (named (constantColumns cs ks) (map cell (constantTerms ks)))) (F (merge a (named (constantColumns cs ks) (map cell (constantTerms ks))))) 0) (eval g p)
 unfolding bindConstants named variablesInPattern
-constants-sum F W g p cs [] s h = total-cong F _ (eval g p) (λ a. sym (ap₂ (λ c r. cond c (F r) 0) (agree-of W a empty (λ w. fits-none (a w))) (merge-empty a)))
+constants-sum F W g p cs [] s h = total-cong F _ (eval g p) (λ a. sym (ap₂ (λ c r. cond c (F r) 0) (agree-of W a empty (λ w. compatible-none (a w))) (merge-empty a)))
 constants-sum F W g p cs (k ∷ ks) s h =
     join-sum F W g p (values (constantColumns cs (k ∷ ks)) (constantTerms (k ∷ ks) ∷ [])) s
     ∙ total-cong _ _ (eval g p) (λ a. line-sum (λ b. cond (agree W a b) (F (merge a b)) 0) g (constantColumns cs (k ∷ ks)) (constantTerms (k ∷ ks)) h)

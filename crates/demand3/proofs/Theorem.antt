@@ -2,23 +2,24 @@
 -- The statements cite specs/Merge.antt (the outcomes) and specs/Demand3.antt (what the texts ask for, the premises, the promise).
 use mathlib.Core.Path.{_≡_, refl, sym, ap, _∙_}
 use mathlib.Core.Bool.{true, _&&_}
-use Rattle.text.specs.Text.{Bytes, same, textOf}
+use Rattle.text.specs.Text.{Bytes, same}
 use Rattle.text.proofs.Basics.{same-eq, and-left, and-right}
 use Rattle.algebra.specs.Tree.{Pattern}
 use Rattle.algebra.specs.Query.{Query}
 use Rattle.algebra.specs.Reader.{reads}
-use Rattle.algebra.specs.Layout.{putQuery, layout}
+use Rattle.algebra.specs.Layout.{layout}
 use Rattle.algebra.specs.Bounded.{layoutQuery}
 use Rattle.algebra.specs.Texts.{readTree, readQuery}
 use Rattle.answers.specs.Outcome.{written}
+use Rattle.answers.proofs.Answers.{bytes-of}
 use Rattle.merging.specs.Request.{tree, Request, request}
 use Rattle.merging.specs.Merge.{mergeProjectPatterns, mergePatternsOutcome, isSelectOrAsk, mergeable, over, mergeQueriesOutcome}
-use Rattle.merging.specs.Demand3.{Lists, Trees, query, Queries, behindHead, Counted}
+use Rattle.merging.specs.Asked.{Lists, Trees, queryOf, Queries, behindHead}
+use Rattle.demand3.specs.Demand3.{Counted}
 use Rattle.merging.proofs.Given.{then-written, test-written, merge-written, lists-read}
-use Rattle.merging.proofs.Promise.{tree-read, query-read, all-promised}
-
-pub bytes-of : (a b : Bytes) → written a ≡ written b → a ≡ b
-bytes-of a b e = cc
+use Rattle.merging.proofs.Others.{query-over}
+use Rattle.merging.proofs.TreeRead.{tree-read, query-read}
+use Rattle.demand3.proofs.Promise.{all-promised}
 
 -- ---- demand 3
 
@@ -44,7 +45,7 @@ merge-patterns-counts left right pairs leftConstants rightConstants b e =
 
 -- ---- the same for queries
 
-head-is : (a b : Query) → mergeable a b ≡ true → b ≡ query (a .kind) (a .dataset) (a .base) (b .tree)
+head-is : (a b : Query) → mergeable a b ≡ true → b ≡ queryOf (a .kind) (a .dataset) (a .base) (b .tree)
 unfolding mergeable
 head-is a b h =
     let t = and-right (isSelectOrAsk (a .kind)) (same (a .kind) (b .kind) && (same (a .dataset) (b .dataset) && same (a .base) (b .base))) h in
@@ -52,11 +53,7 @@ head-is a b h =
     let k = same-eq (a .kind) (b .kind) (and-left (same (a .kind) (b .kind)) (same (a .dataset) (b .dataset) && same (a .base) (b .base)) t) in
     let d = same-eq (a .dataset) (b .dataset) (and-left (same (a .dataset) (b .dataset)) (same (a .base) (b .base)) u) in
     let e = same-eq (a .base) (b .base) (and-right (same (a .dataset) (b .dataset)) (same (a .base) (b .base)) u) in
-    λ i. query (sym k i) (sym d i) (sym e i) (b .tree)
-
-pub query-over : (a : Query) (t : Pattern) → layoutQuery (over a t) ≡ behindHead (a .kind) (a .dataset) (a .base) (layout t)
-unfolding layoutQuery putQuery textOf layout behindHead
-query-over a t = refl
+    λ i. queryOf (sym k i) (sym d i) (sym e i) (b .tree)
 
 -- where merge queries writes bytes, they are a head line and those of one tree, and under demand 3's premises each row stands in its answer as often as its sum says
 pub merge-queries-counts : (left right pairs leftConstants rightConstants b : Bytes)
@@ -72,8 +69,8 @@ merge-queries-counts left right pairs leftConstants rightConstants b e =
     let a : Query = x .0 in
     let w = merge-written (a .tree) (y .0 .tree) (z .joins) (z .left-constants) (z .right-constants) (λ t. written (layoutQuery (over a t))) b (h .1) in
     let m : Request = request (w .left) (w .right) (z .joins) (z .left-constants) (z .right-constants) in
-    let l : readQuery left ≡ reads (query (a .kind) (a .dataset) (a .base) (tree (w .left))) = x .1 ∙ ap (λ (p : Pattern). reads (over a p)) (w .left-is) in
-    let r : readQuery right ≡ reads (query (a .kind) (a .dataset) (a .base) (tree (w .right))) = y .1 ∙ ap reads (head-is a (y .0) (h .0)) ∙ ap (λ (p : Pattern). reads (over a p)) (w .right-is) in
+    let l : readQuery left ≡ reads (queryOf (a .kind) (a .dataset) (a .base) (tree (w .left))) = x .1 ∙ ap (λ (p : Pattern). reads (over a p)) (w .left-is) in
+    let r : readQuery right ≡ reads (queryOf (a .kind) (a .dataset) (a .base) (tree (w .right))) = y .1 ∙ ap reads (head-is a (y .0) (h .0)) ∙ ap (λ (p : Pattern). reads (over a p)) (w .right-is) in
     let t : b ≡ behindHead (a .kind) (a .dataset) (a .base) (layout (mergeProjectPatterns m)) = sym (bytes-of (layoutQuery (over a (mergeProjectPatterns m))) b (w .gives)) ∙ query-over a (mergeProjectPatterns m) in (
       m,
       a .kind,

@@ -14,24 +14,25 @@ use Rattle.algebra.proofs.Lines.{different-head, different-tail}
 use Rattle.scoping.specs.Sets.{any}
 use Rattle.scoping.specs.Label.{prefixJ, prefixL, prefixR}
 use Rattle.scoping.specs.Numbering.{numbered}
-use Rattle.scoping.specs.Premises.{columnsAt, inside, differentPositions, NamePremises, isPair}
+use Rattle.scoping.specs.Premises.{columnsAt, inside, differentPositions}
+use Rattle.scoping.specs.bridge.Premises.{NamePremises, isPair}
 use Rattle.scoping.specs.ScopedOrHidden.{scopedOrHidden}
 use Rattle.scoping.proofs.Positions.{inside-first, inside-rest, different-first, different-rest}
 use Rattle.scoping.proofs.Numbered.{numbered-variable}
 use Rattle.scoping.proofs.ScopedOrHidden.{numbered-scoped}
 use Rattle.scoping.proofs.NewVariables.{numbered-few}
 use Rattle.scoping.proofs.Theorem.{side-apart, side-variables, sides-meet}
-use Rattle.counting.specs.Row.{Cell, fits, named, oneTerm, cell}
+use Rattle.counting.specs.Row.{Cell, compatible, named, oneTerm, cell}
 use Rattle.counting.specs.Scope.{names}
 use Rattle.counting.specs.Countable.{expressionsKnown}
-use Rattle.counting.proofs.Basics.{clash, not-true, or-inl, or-inr, either, mem-nil, mem-cases, all-at}
-use Rattle.counting.proofs.Only.{only-named, fits-none}
+use Rattle.scoping.proofs.Basics.{clash, not-true, or-inl, or-inr, either, mem-nil, mem-cases, all-at}
+use Rattle.counting.proofs.Only.{only-named, compatible-none}
 use Rattle.merging.specs.Sides.{Pair, Constant, columnAt, constantColumns, constantTerms, lefts, rights, standardized}
 use Rattle.merging.specs.Request.{Projection, tree, Request, leftSide, rightSide}
-use Rattle.merging.specs.Demand3.{Supposed, Premises}
-use Rattle.merging.proofs.Fit.{SideFit, Fit}
-use Rattle.merging.proofs.Side.{at-in}
+use Rattle.demand3.specs.Demand3.{Supposed, Premises}
+use Rattle.demand3.proofs.Fit.{SideFit, Fit}
+use Rattle.merging.proofs.Positions.{at-in}
 use Rattle.merging.proofs.Written.{Known}
 
 -- ---- columns at different positions are different
 
@@ -67,8 +68,8 @@ pub one-term : (cs : List Bytes) (xs : List Cell) → different cs ≡ true → 
 unfolding oneTerm
 one-term [] xs d = refl
 one-term (c ∷ cs) [] d = refl
-one-term (c ∷ cs) (x ∷ xs) d = and-both (fits x (named cs xs c)) (oneTerm cs xs)
-    (ap (fits x) (only-named cs xs c (different-head c cs d)) ∙ fits-none x)
+one-term (c ∷ cs) (x ∷ xs) d = and-both (compatible x (named cs xs c)) (oneTerm cs xs)
+    (ap (compatible x) (only-named cs xs c (different-head c cs d)) ∙ compatible-none x)
     (one-term cs xs (different-tail c cs d))
 
 -- ---- one side

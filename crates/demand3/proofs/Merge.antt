@@ -9,22 +9,25 @@ use Rattle.text.proofs.Basics.{and-left, and-right, same-eq}
 use Rattle.algebra.specs.Tree.{Triple, join, project}
 use Rattle.algebra.specs.Valid.{mem}
 use Rattle.scoping.specs.Variables.{scopeOf}
-use Rattle.scoping.specs.Premises.{isPair}
+use Rattle.scoping.specs.bridge.Premises.{isPair}
 use Rattle.scoping.proofs.Sets.{eq-same}
-use Rattle.counting.specs.Bag.{Sub, total, tick, count}
-use Rattle.counting.specs.Row.{Cell, fits, orCell, Row, merge, cut, agree, agreeAll, mergeAll, cells, named, sameRow}
+use Rattle.scoping.specs.bridge.Sets.{Sub}
+use Rattle.counting.specs.Bag.{total, tick, count}
+use Rattle.counting.specs.Row.{Cell, compatible, orCell, Row, merge, cut, agree, agreeAll, mergeAll, cells, named, sameRow}
 use Rattle.counting.specs.Scope.{names}
 use Rattle.counting.specs.Answer.{eval, answer}
-use Rattle.counting.proofs.Basics.{clash, either, or-cases, mem-eq, mem-there, mem-left, mem-right, mem-append-cases, sub-append, mem-map, mem-unmap, keep-sub}
+use Rattle.scoping.proofs.Basics.{clash, either, or-cases, mem-eq, mem-there, mem-left, mem-right, mem-append-cases, sub-append, mem-map, mem-unmap, keep-sub}
 use Rattle.counting.proofs.Sums.{total-cong, total-map, total-cond, sum-pairs}
-use Rattle.counting.proofs.Only.{Only, only-left, only-sub, fits-none, none-fits, Cover, cover-left, cover-right}
+use Rattle.counting.proofs.Only.{Only, only-left, only-sub, compatible-none, none-compatible, Cover, cover-left, cover-right}
 use Rattle.counting.proofs.Push.{push, Hit, hit, miss, view}
 use Rattle.counting.proofs.Columns.{cells-in, cells-cut, count-rows}
-use Rattle.merging.specs.Sides.{Pair, Side, whole, renamedColumns, renamedPattern, freeColumns, leftJoinVariables, rightJoinVariables, mergedColumns, merged}
-use Rattle.merging.specs.Expected.{fourRows, makes, sum}
-use Rattle.merging.proofs.Fit.{Fit}
-use Rattle.merging.proofs.Side.{constantRow, rows, asSingle, or-none, positions-named, not-empty, free-sub, join-sum, rows-eq, renamed, newNames, columns-in, renamed-columns-in, constant-only, renamed-scope, side-sum, read-at, only-columns}
-use Rattle.merging.proofs.Four.{agree-four, four-wider, four-cong}
+use Rattle.merging.specs.Sides.{Pair, Side, renamedColumns, renamedPattern, freeColumns, leftJoinVariables, mergedColumns, merged}
+use Rattle.demand3.specs.bridge.Sides.{whole, rightJoinVariables}
+use Rattle.demand3.specs.Expected.{fourRows, makes, sum}
+use Rattle.demand3.proofs.Fit.{Fit}
+use Rattle.demand3.proofs.Side.{constantRow, rows, asSingle, or-none, positions-named, not-empty, join-sum, rows-eq, renamed, newNames, columns-in, renamed-columns-in, constant-only, renamed-scope, side-sum, read-at, only-columns}
+use Rattle.merging.proofs.Positions.{free-sub}
+use Rattle.demand3.proofs.Four.{agree-four, four-wider, four-cong}
 
 -- ---- join pairs
 
@@ -110,9 +113,9 @@ module _ (l r : Side) (js : List Pair) (fit : Fit l r js) (g : List Triple) wher
   apart : (a b : Row) → Cover columns (renamed l (fit .left) a) (renamed r (fit .right) b)
   apart a b w n = go (view (names (whole l)) (l .name) w) (view (names (whole r)) (r .name) w)
     where
-      go : Hit (names (whole l)) (l .name) w → Hit (names (whole r)) (r .name) w → fits (renamed l (fit .left) a w) (renamed r (fit .right) b w) ≡ true
-      go (miss p k) h = ap (λ x. fits x (renamed r (fit .right) b w)) (p a) ∙ none-fits (renamed r (fit .right) b w)
-      go (hit v mv q) (miss p k) = ap (λ x. fits (renamed l (fit .left) a w) x) (p b) ∙ fits-none (renamed l (fit .left) a w)
+      go : Hit (names (whole l)) (l .name) w → Hit (names (whole r)) (r .name) w → compatible (renamed l (fit .left) a w) (renamed r (fit .right) b w) ≡ true
+      go (miss p k) h = ap (λ x. compatible x (renamed r (fit .right) b w)) (p a) ∙ none-compatible (renamed r (fit .right) b w)
+      go (hit v mv q) (miss p k) = ap (λ x. compatible (renamed l (fit .left) a w) x) (p b) ∙ compatible-none (renamed l (fit .left) a w)
       go (hit v mv q) (hit u mu q′) = clash (subst (λ x. mem x columns ≡ true) q (mem-left (l .name v) (renamedColumns l) (renamedColumns r) (mem-map (l .name) v (l .columns) (meet v u mv mu (q ∙ sym q′) .0)))) n
 
   kl-only : Only columns (constantRow l)

@@ -4,10 +4,11 @@ use Rattle.text.specs.Text.{Bytes}
 use Rattle.algebra.specs.Reader.{Outcome as Reading, reads}
 use Rattle.algebra.specs.Texts.{readTree, readQuery}
 use Rattle.answers.specs.Outcome.{written}
 use Rattle.merging.specs.Request.{Projection, tree, readJoins, readConstants, Request}
 use Rattle.merging.specs.Merge.{mergePatternsOutcome, mergeQueriesOutcome}
-use Rattle.merging.specs.Demand3.{Trees, Lists, query, Queries, behindHead, Counted}
-use Rattle.merging.proofs.Theorem.{merge-patterns-counts, merge-queries-counts}
+use Rattle.merging.specs.Asked.{Trees, Lists, queryOf, Queries, behindHead}
+use Rattle.demand3.specs.Demand3.{Counted}
+use Rattle.demand3.proofs.Theorem.{merge-patterns-counts, merge-queries-counts}
 
 read-once : {A : Type 0} (o : Reading A) (a b : A) → o ≡ reads a → o ≡ reads b → a ≡ b
 read-once o a b p q = cc
@@ -24,7 +25,7 @@ record Heads (kind dataset base kind′ dataset′ base′ : Bytes) (x y : Proje
   bases : base ≡ base′
   trees : x ≡ y
 
-query-once : (kind dataset base kind′ dataset′ base′ : Bytes) (x y : Projection) → query kind dataset base (tree x) ≡ query kind′ dataset′ base′ (tree y) → Heads kind dataset base kind′ dataset′ base′ x y
+query-once : (kind dataset base kind′ dataset′ base′ : Bytes) (x y : Projection) → queryOf kind dataset base (tree x) ≡ queryOf kind′ dataset′ base′ (tree y) → Heads kind dataset base kind′ dataset′ base′ x y
 query-once kind dataset base kind′ dataset′ base′ x y e = record { kinds = ap (λ q. q .kind) e; datasets = ap (λ q. q .dataset) e; bases = ap (λ q. q .base) e; trees = tree-once x y (ap (λ q. q .tree) e) }
 
 module _ (left right pairs leftConstants rightConstants : Bytes) where

@@ -13,10 +13,11 @@ use Rattle.counting.specs.Row.{sameRow}
 use Rattle.counting.specs.Answer.{answer}
 use Rattle.counting.specs.Countable.{expressionsKnown}
 use Rattle.counting.proofs.Standard.{t, fields, one}
-use Rattle.merging.specs.Sides.{Pair, Constant, Side, whole, merged}
-use Rattle.merging.specs.Expected.{sum}
-use Rattle.merging.proofs.Decide.{keepsApart, sideParts, joinedAsPairs}
-use Rattle.merging.proofs.Side.{asSingle}
+use Rattle.merging.specs.Sides.{Pair, Constant, Side, merged}
+use Rattle.demand3.specs.bridge.Sides.{whole}
+use Rattle.demand3.specs.Expected.{sum}
+use Rattle.demand3.proofs.Decide.{keepsApart, sideParts, joinedAsPairs}
+use Rattle.demand3.proofs.Side.{asSingle}
 
 -- a side without columns, and one with these columns
 abbrev side : List String → Pattern → (Bytes → Bytes) → List Constant → Side

@@ -5,11 +5,13 @@ use mathlib.Core.List.{List, [], map}
 use Rattle.text.specs.Text.{Bytes, same}
 use Rattle.text.specs.Field.{isVar}
 use Rattle.algebra.specs.Valid.{mem}
-use Rattle.scoping.specs.Premises.{inside, isPair}
-use Rattle.counting.specs.Bag.{Inj}
+use Rattle.scoping.specs.Premises.{inside}
+use Rattle.scoping.specs.bridge.Premises.{isPair}
+use Rattle.scoping.specs.bridge.Sets.{Inj}
 use Rattle.counting.specs.Row.{cell, oneTerm}
 use Rattle.counting.specs.Scope.{names}
-use Rattle.merging.specs.Sides.{Pair, Side, whole, constantColumns, constantTerms, leftJoinVariables, rightJoinVariables}
+use Rattle.merging.specs.Sides.{Pair, Side, constantColumns, constantTerms, leftJoinVariables}
+use Rattle.demand3.specs.bridge.Sides.{whole, rightJoinVariables}
 
 -- of one side
 pub record SideFit (s : Side) : Type 0 where

@@ -1,40 +1,36 @@
 -- The promise of demand 3, of two trees that were read and of lists whose positions are all inside. Assumes nothing.
-use mathlib.Core.Path.{_≡_, refl, sym, ap, subst, _∙_}
+use mathlib.Core.Path.{_≡_, refl, sym, ap, _∙_}
 use mathlib.Core.Bool.{true, _&&_}
 use mathlib.Core.List.{List, map}
-use Prim.Native.Nat.{ℕ, _≤_}
+use Prim.Native.Nat.{_≤_}
 use native.Mathlib.Omega.{arith}
 use lib.ListN.{length}
 use Rattle.text.specs.Text.{Bytes}
 use Rattle.text.specs.Field.{clean}
 use Rattle.text.proofs.Basics.{and-left, and-right}
 use Rattle.algebra.specs.Tree.{Triple, join}
-use Rattle.algebra.specs.Reader.{reads}
 use Rattle.algebra.specs.Layout.{layout}
-use Rattle.algebra.specs.Texts.{readTree, readQuery}
-use Rattle.algebra.specs.Valid.{Valid, ValidQuery}
-use Rattle.algebra.proofs.Theorem.{tree-exactly, query-exactly}
 use Rattle.algebra.proofs.Roomy.{read-any-exactly}
 use Rattle.scoping.specs.Label.{prefixL, prefixR}
-use Rattle.scoping.specs.Numbering.{byPlace}
 use Rattle.scoping.specs.Premises.{inside}
-use Rattle.scoping.proofs.FirstPlaces.{by-place-query}
 use Rattle.counting.specs.Bag.{count}
 use Rattle.counting.specs.Row.{Cell, sameRow}
 use Rattle.counting.specs.Answer.{answer}
 use Rattle.merging.specs.Sides.{Pair, renamedPattern, mergedColumns, merged, lefts, rights}
-use Rattle.merging.specs.Request.{Projection, tree, Request, leftSide, rightSide, allInside, positions}
+use Rattle.merging.specs.Request.{Projection, Request, leftSide, rightSide, allInside, positions}
 use Rattle.merging.specs.Merge.{mergeProjectPatterns}
-use Rattle.merging.specs.Names.{mergedNames}
-use Rattle.merging.specs.Expected.{expectedCount}
-use Rattle.merging.specs.Demand3.{Lists, query, Premises, Counted}
+use Rattle.merging.proofs.TreeRead.{TreeRead}
+use Rattle.demand3.specs.Names.{mergedNames}
+use Rattle.demand3.specs.Expected.{expectedCount}
+use Rattle.merging.specs.Asked.{Lists}
+use Rattle.demand3.specs.Demand3.{Premises, Counted}
 use Rattle.merging.proofs.Lists.{map-length, joins-few, constants-good}
 use Rattle.merging.proofs.Written.{Known, merged-valid}
 use Rattle.merging.proofs.Names.{Letter}
-use Rattle.merging.proofs.Fits.{left-names, right-names, sides-fit}
-use Rattle.merging.proofs.Merge.{merged-count}
-use Rattle.merging.proofs.MergedColumns.{side-names, merged-names}
-use Rattle.merging.proofs.Expected.{expected-is}
+use Rattle.demand3.proofs.Fits.{left-names, right-names, sides-fit}
+use Rattle.demand3.proofs.Merge.{merged-count}
+use Rattle.demand3.proofs.MergedColumns.{side-names, merged-names}
+use Rattle.demand3.proofs.Expected.{expected-is}
 
 -- ---- the promise, of two sides that were read
 
@@ -64,21 +60,6 @@ module _ (m : Request) (a : Known prefixL (m .left) (lefts (m .joins)) (m .left-
   }
 
 -- ---- what is known of the sides where nothing was refused
-
--- a tree that was read
-pub record TreeRead (x : Projection) : Type 0 where
-  pub valid : Valid (tree x)
-  pub names : length (byPlace (tree x)) ≤ 1024
-
-pub tree-read : (s : Bytes) (x : Projection) → readTree s ≡ reads (tree x) → TreeRead x
-unfolding byPlace
-tree-read s x e = let y = tree-exactly s (tree x) .0 e in record { valid = y .1; names = y .2 .names }
-
-pub query-read : (s kind dataset base : Bytes) (x : Projection) → readQuery s ≡ reads (query kind dataset base (tree x)) → TreeRead x
-unfolding ValidQuery
-query-read s kind dataset base x e =
-    let y = query-exactly s (query kind dataset base (tree x)) .0 e in
-    record { valid = y .1 .3; names = subst (λ (l : List Bytes). length l ≤ 1024) (by-place-query (query kind dataset base (tree x))) (y .2 .names) }
 
 letter-l : Letter prefixL
 unfolding clean

@@ -1,0 +1,16 @@
+pub mod Fit
+pub mod Side
+pub mod Four
+pub mod Merge
+pub mod Pairs
+pub mod Fits
+pub mod Columns
+pub mod MergedColumns
+pub mod Expected
+pub mod Promise
+pub mod Theorem
+pub mod Returned
+pub mod Decide
+pub mod Needed
+pub mod Once
+pub mod Relays

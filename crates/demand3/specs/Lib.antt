@@ -1,0 +1,4 @@
+pub mod Names
+pub mod Expected
+pub mod Demand3
+pub mod bridge
