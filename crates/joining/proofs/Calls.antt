@@ -1,7 +1,7 @@
 -- The calls as a whole: the texts, then heads, roots and positions, in the specification's order. Assumes nothing.
 use Prim.Native.Nat.{ℕ}
 use mathlib.Core.Path.{_≡_, refl, sym, ap, subst, _∙_}
-use mathlib.Core.List.{List, [], _∷_, _++_}
+use mathlib.Core.List.{_++_}
 use mathlib.Core.Bool.{Bool, true, false, not}
 use mathlib.Core.Option.{none, some}
 use borrow.Author.Tests.{not-true, not-false}
@@ -10,18 +10,19 @@ use Rattle.text.specs.Text.{Bytes}
 use Rattle.algebra.specs.Tree.{Pattern}
 use Rattle.algebra.specs.Query.{Query}
 use Rattle.algebra.specs.Layout.{layout}
-use Rattle.algebra.specs.Reader.{reads, refuses, malformed, overBound}
+use Rattle.algebra.specs.Reader.{Outcome as Reading, reads, refuses, malformed, overBound}
 use Rattle.algebra.specs.Texts.{readTree, readQuery, readPairs}
 use Rattle.algebra.specs.Query as Query
 use Rattle.algebra.specs.declared.Answer.{Answer as Check}
 use Rattle.algebra.specs.declared.Answer.the-variants as C
-use Rattle.answers.specs.Outcome.{written, Reported, Answered}
+use Rattle.answers.specs.Outcome.{written, then, refusedUnless, Reported, Answered}
 use Rattle.answers.specs.declared.Answer.the-variants.{Malformed, OverBound, NotMergeable}
-use Rattle.merging.specs.Request.{Projection, tree, asProject, readConstants, joinPositions, byPosition, constantsIn}
-use Rattle.merging.specs.Merge.{isSelectOrAsk, mergeable, mergeTrees, mergePatternsOutcome, mergeQueriesOutcome}
+use Rattle.merging.specs.Request.{Projection, asProject, made, readConstants, joinPositions, byPosition, constantsIn}
+use Rattle.merging.specs.Merge.{lists, isSelectOrAsk, mergeable, mergeTrees, mergePatternsOutcome, mergeQueriesOutcome}
 use Rattle.merging.specs.Push.{pushConstantsInProjectPattern, pushed, pushConstants, pushConstantsOutcome}
 use Rattle.heads.specs.bridge.TreeAt.{TreeAt}
 use Rattle.heads.proofs.Queries.{over-layout, query-layout}
+use Rattle.joining.specs.bridge.Form.{headless, readForm, headOf, mayMerge, mergeOutcome}
 use Rattle.projects.specs.bridge.Joining.{KnownTerms, ListsRead, ListsChecked, pushedBehind, mergedBehind}
 
 -- ---- push constants
@@ -64,83 +65,69 @@ module _ (query constants : Bytes) (q : Query) (read : readQuery query ≡ reads
     unfolding pushed
     other-root h = rooted ∙ rw h (ap written (query-layout query q read))
 
-    pub pushes : (from : ℕ) (x : Projection) → TreeAt query q from → asProject (q .tree) ≡ some x → pushConstantsOutcome query constants ≡ pushedBehind (take from query) x (t .list)
+    pub pushes : (head : Bytes) (from : ℕ) (x : Projection) → head ≡ take from query → TreeAt query q from → asProject (q .tree) ≡ some x → pushConstantsOutcome query constants ≡ pushedBehind head x (t .list)
     unfolding pushed
-    pushes from x w h = rooted ∙ rw (h, over-layout q (pushConstantsInProjectPattern x (byPosition (constantsIn (t .list)))), w .head)
+    pushes head from x p w h = rooted ∙ rw (h, over-layout q (pushConstantsInProjectPattern x (byPosition (constantsIn (t .list)))), p, w .head)
 
--- ---- merge patterns
+-- ---- merge patterns and merge queries
 
-module _ (left right pairs leftConstants rightConstants out : Bytes) where
-  pub left-malformed : readTree left ≡ refuses malformed → Answered (mergePatternsOutcome left right pairs leftConstants rightConstants) out out Malformed
-  unfolding mergePatternsOutcome Reported
+-- the outcome over a form is that of its call
+pub of-trees : (left right pairs leftConstants rightConstants : Bytes) → mergeOutcome false left right pairs leftConstants rightConstants ≡ mergePatternsOutcome left right pairs leftConstants rightConstants
+unfolding mergeOutcome mergePatternsOutcome
+of-trees left right pairs leftConstants rightConstants = go (readTree left) (readTree right)
+  where
+    go : (o o′ : Reading Pattern) → (then (made headless o) λ a. then (made headless o′) λ b. lists pairs leftConstants rightConstants λ js ks ls. mergeTrees (a .tree) (b .tree) js ks ls λ t. written (layout t))
+        ≡ (then o λ p. then o′ λ q. lists pairs leftConstants rightConstants λ js ks ls. mergeTrees p q js ks ls λ t. written (layout t))
+    go (reads p) (reads q) = refl
+    go (reads p) (refuses n) = refl
+    go (refuses n) o′ = refl
+
+pub of-queries : (left right pairs leftConstants rightConstants : Bytes) → mergeOutcome true left right pairs leftConstants rightConstants ≡ mergeQueriesOutcome left right pairs leftConstants rightConstants
+unfolding mergeOutcome mergeQueriesOutcome
+of-queries left right pairs leftConstants rightConstants i =
+    then (readQuery left) λ a.
+    then (readQuery right) λ b.
+    lists pairs leftConstants rightConstants λ js ks ls.
+    refusedUnless 5 (mergeable a b) (mergeTrees (a .tree) (b .tree) js ks ls λ t. written (sym (over-layout a t) i))
+
+module _ (query : Bool) (left right pairs leftConstants rightConstants out : Bytes) where
+  pub left-malformed : readForm query left ≡ refuses malformed → Answered (mergeOutcome query left right pairs leftConstants rightConstants) out out Malformed
+  unfolding mergeOutcome Reported
   left-malformed e = rw e (refl, refl, refl)
 
-  pub left-over : readTree left ≡ refuses overBound → Answered (mergePatternsOutcome left right pairs leftConstants rightConstants) out out OverBound
-  unfolding mergePatternsOutcome Reported
+  pub left-over : readForm query left ≡ refuses overBound → Answered (mergeOutcome query left right pairs leftConstants rightConstants) out out OverBound
+  unfolding mergeOutcome Reported
   left-over e = rw e (refl, refl, refl)
 
-  pub left-query-malformed : readQuery left ≡ refuses malformed → Answered (mergeQueriesOutcome left right pairs leftConstants rightConstants) out out Malformed
-  unfolding mergeQueriesOutcome Reported
-  left-query-malformed e = rw e (refl, refl, refl)
-
-  pub left-query-over : readQuery left ≡ refuses overBound → Answered (mergeQueriesOutcome left right pairs leftConstants rightConstants) out out OverBound
-  unfolding mergeQueriesOutcome Reported
-  left-query-over e = rw e (refl, refl, refl)
-
-  module _ (p : Pattern) (read : readTree left ≡ reads p) where
-    pub right-malformed : readTree right ≡ refuses malformed → Answered (mergePatternsOutcome left right pairs leftConstants rightConstants) out out Malformed
-    unfolding mergePatternsOutcome Reported
+  module _ (p : Query) (read : readForm query left ≡ reads p) where
+    pub right-malformed : readForm query right ≡ refuses malformed → Answered (mergeOutcome query left right pairs leftConstants rightConstants) out out Malformed
+    unfolding mergeOutcome Reported
     right-malformed e = rw (read, e) (refl, refl, refl)
 
-    pub right-over : readTree right ≡ refuses overBound → Answered (mergePatternsOutcome left right pairs leftConstants rightConstants) out out OverBound
-    unfolding mergePatternsOutcome Reported
+    pub right-over : readForm query right ≡ refuses overBound → Answered (mergeOutcome query left right pairs leftConstants rightConstants) out out OverBound
+    unfolding mergeOutcome Reported
     right-over e = rw (read, e) (refl, refl, refl)
 
-    module _ (q : Pattern) (read′ : readTree right ≡ reads q) where
-      pub lists-malformed : (r : Check) → ListsChecked pairs leftConstants rightConstants r → r ≡ C.Malformed → Answered (mergePatternsOutcome left right pairs leftConstants rightConstants) out out Malformed
-      unfolding mergePatternsOutcome ListsChecked Reported
+    module _ (q : Query) (read′ : readForm query right ≡ reads q) where
+      pub lists-malformed : (r : Check) → ListsChecked pairs leftConstants rightConstants r → r ≡ C.Malformed → Answered (mergeOutcome query left right pairs leftConstants rightConstants) out out Malformed
+      unfolding mergeOutcome ListsChecked Reported
       lists-malformed r c e = rw (read, read′, subst (ListsChecked pairs leftConstants rightConstants) e c _) (refl, refl, refl)
 
-      pub lists-over : (r : Check) → ListsChecked pairs leftConstants rightConstants r → r ≡ C.OverBound → Answered (mergePatternsOutcome left right pairs leftConstants rightConstants) out out OverBound
-      unfolding mergePatternsOutcome ListsChecked Reported
+      pub lists-over : (r : Check) → ListsChecked pairs leftConstants rightConstants r → r ≡ C.OverBound → Answered (mergeOutcome query left right pairs leftConstants rightConstants) out out OverBound
+      unfolding mergeOutcome ListsChecked Reported
       lists-over r c e = rw (read, read′, subst (ListsChecked pairs leftConstants rightConstants) e c _) (refl, refl, refl)
-
-  module _ (p : Query) (read : readQuery left ≡ reads p) where
-    pub right-query-malformed : readQuery right ≡ refuses malformed → Answered (mergeQueriesOutcome left right pairs leftConstants rightConstants) out out Malformed
-    unfolding mergeQueriesOutcome Reported
-    right-query-malformed e = rw (read, e) (refl, refl, refl)
-
-    pub right-query-over : readQuery right ≡ refuses overBound → Answered (mergeQueriesOutcome left right pairs leftConstants rightConstants) out out OverBound
-    unfolding mergeQueriesOutcome Reported
-    right-query-over e = rw (read, e) (refl, refl, refl)
-
-    module _ (q : Query) (read′ : readQuery right ≡ reads q) where
-      pub query-lists-malformed : (r : Check) → ListsChecked pairs leftConstants rightConstants r → r ≡ C.Malformed → Answered (mergeQueriesOutcome left right pairs leftConstants rightConstants) out out Malformed
-      unfolding mergeQueriesOutcome ListsChecked Reported
-      query-lists-malformed r c e = rw (read, read′, subst (ListsChecked pairs leftConstants rightConstants) e c _) (refl, refl, refl)
-
-      pub query-lists-over : (r : Check) → ListsChecked pairs leftConstants rightConstants r → r ≡ C.OverBound → Answered (mergeQueriesOutcome left right pairs leftConstants rightConstants) out out OverBound
-      unfolding mergeQueriesOutcome ListsChecked Reported
-      query-lists-over r c e = rw (read, read′, subst (ListsChecked pairs leftConstants rightConstants) e c _) (refl, refl, refl)
 
 pub lists-good : (pairs a b : Bytes) (r : Check) (n : ℕ) → ListsChecked pairs a b r → r ≡ C.Good n → ListsRead pairs a b
 unfolding ListsChecked
 lists-good pairs a b r n c e = subst (ListsChecked pairs a b) e c
 
-module _ (left right pairs leftConstants rightConstants : Bytes) (r : ListsRead pairs leftConstants rightConstants) where
-  -- both trees and the lists are read
-  pub patterns-ask : (p q : Pattern) → readTree left ≡ reads p → readTree right ≡ reads q
-      → mergePatternsOutcome left right pairs leftConstants rightConstants ≡ mergedBehind (take 0 left) p q (r .js) (r .left .list) (r .right .list)
-  unfolding mergePatternsOutcome
-  patterns-ask p q read read′ = rw (read, read′, r .joins-read, r .left .read, r .right .read)
+-- both texts and the lists are read
+module _ (query : Bool) (left right pairs leftConstants rightConstants : Bytes) (r : ListsRead pairs leftConstants rightConstants) (p q : Query) (read : readForm query left ≡ reads p) (read′ : readForm query right ≡ reads q) (b : Bool) (e : b ≡ mayMerge query p q) where
+  pub not-mergeable : (out : Bytes) → not b ≡ true → Answered (mergeOutcome query left right pairs leftConstants rightConstants) out out NotMergeable
+  unfolding mergeOutcome Reported
+  not-mergeable out h = rw (read, read′, r .joins-read, r .left .read, r .right .read, sym e ∙ not-true b h) (refl, refl, refl)
 
-  module _ (p q : Query) (read : readQuery left ≡ reads p) (read′ : readQuery right ≡ reads q) (b : Bool) (e : b ≡ mergeable p q) where
-    pub not-mergeable : (out : Bytes) → not b ≡ true → Answered (mergeQueriesOutcome left right pairs leftConstants rightConstants) out out NotMergeable
-    unfolding mergeQueriesOutcome Reported
-    not-mergeable out h = rw (read, read′, r .joins-read, r .left .read, r .right .read, sym e ∙ not-true b h) (refl, refl, refl)
-
-    pub queries-ask : (from : ℕ) → TreeAt left p from → not b ≡ false
-        → mergeQueriesOutcome left right pairs leftConstants rightConstants ≡ mergedBehind (take from left) (p .tree) (q .tree) (r .js) (r .left .list) (r .right .list)
-    unfolding mergeQueriesOutcome
-    queries-ask from w h = rw (read, read′, r .joins-read, r .left .read, r .right .read, sym e ∙ not-false b h)
-        (λ i. mergeTrees (p .tree) (q .tree) (joinPositions (r .js)) (byPosition (constantsIn (r .left .list))) (byPosition (constantsIn (r .right .list))) (λ t. written ((over-layout p t ∙ ap (λ (b : Bytes). b ++ layout t) (sym (w .head))) i)))
+  pub merge-asks : (head : Bytes) → head ≡ headOf query p → not b ≡ false → mergeOutcome query left right pairs leftConstants rightConstants ≡ mergedBehind head (p .tree) (q .tree) (r .js) (r .left .list) (r .right .list)
+  unfolding mergeOutcome
+  merge-asks head w h = rw (read, read′, r .joins-read, r .left .read, r .right .read, sym e ∙ not-false b h)
+      (λ i. mergeTrees (p .tree) (q .tree) (joinPositions (r .js)) (byPosition (constantsIn (r .left .list))) (byPosition (constantsIn (r .right .list))) (λ t. written (sym w i ++ layout t)))

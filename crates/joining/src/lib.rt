@@ -1,4 +1,5 @@
 // The calls that join: merge patterns and merge queries, and push constants, which joins a query with its constants.
+mod forms;
 mod merge;
 pub mod patterns;
 pub mod push;

@@ -1,6 +1,10 @@
-// What both merges share: the check of their lists, and two trees that were checked joined into one.
+// A merge of trees or of queries: the five texts checked, then two trees joined into one.
+use crate::forms::may_merge;
+use crate::forms::note_form;
+use crate::forms::start_of;
 use algebra::Answer as Check;
 use answers::Answer;
+use lines::check::Noting;
 use lines::fields::Node;
 use lines::fields::Spot;
 use lists::check_constants;
@@ -8,17 +12,20 @@ use lists::check_joins;
 use names::Entry;
 use projects::merge::merge_projects;
 use sides::project::is_project;
+use text::piece;
 use words::table::WordRow;
+use words::table::all_words;
 ghost use mathlib.Core.List.{List};
 ghost use Prim.Native.Nat.{_≤_};
-ghost use lib.ListN.{length, take};
+ghost use lib.ListN.{length};
 ghost use Rattle.algebra.specs.Query.{Pair};
 ghost use Rattle.answers.specs.Outcome.{Answered};
 ghost use Rattle.algebra.specs.Tree.{Pattern};
-ghost use Rattle.projects.specs.bridge.Joining.{Stands, Lists, mergedBehind, ListsRead, TermsChecked, ListsChecked};
+ghost use Rattle.projects.specs.bridge.Joining.{Stands, HasRoom, HasNodes, Lists, mergedBehind, ListsRead, TermsChecked, ListsChecked};
 ghost use Rattle.names.specs.bridge.Names.{startsOf, sizesOf};
 ghost use Rattle.words.specs.bridge.Words.{Worded};
 ghost use Rattle.walking.specs.bridge.Renamed.{Shaped};
+ghost use Rattle.joining.specs.bridge.Form.{mergeOutcome, Known};
 
 // The check of two constant lists, in the specification's order.
 fn check_terms(left_constants: &[u8], right_constants: &[u8]) -> Check
@@ -33,7 +40,7 @@ fn check_terms(left_constants: &[u8], right_constants: &[u8]) -> Check
 }
 
 // The check of the three lists, in the specification's order.
-pub fn check_lists(pairs: &[u8], left_constants: &[u8], right_constants: &[u8]) -> Check
+fn check_lists(pairs: &[u8], left_constants: &[u8], right_constants: &[u8]) -> Check
     ensures { λ r. ⌜ ListsChecked (now (pairs .entry)) (now («left_constants» .entry)) (now («right_constants» .entry)) r ⌝ }
 {
     let mut keys = [[0u16; 4]; 64];
@@ -44,9 +51,10 @@ pub fn check_lists(pairs: &[u8], left_constants: &[u8], right_constants: &[u8]) 
     }
 }
 
-// merge_project_patterns: two trees that were checked, behind the left text's head.
-pub fn merge_trees(
+// merge_project_patterns: two trees that were checked, behind a head.
+fn merge_trees(
     words: &[WordRow; 56],
+    head: &[u8],
     left: &[u8],
     left_from: usize,
     left_table: &[Entry; 1024],
@@ -65,7 +73,7 @@ pub fn merge_trees(
     out: &mut [u8],
 ) -> Answer
     requires { ⌜ ((p : Pattern) × Stands (now left) «left_from» (startsOf (now «left_table»)) (sizesOf (now «left_table»)) «left_n» (now «left_spots») p) × ((q : Pattern) × Stands (now right) «right_from» (startsOf (now «right_table»)) (sizesOf (now «right_table»)) «right_n» (now «right_spots») q) × ListsRead (now pairs) (now «left_constants») (now «right_constants») × Worded (now words) × Shaped (now words) (now «left_nodes») (length (now «left_nodes»)) (length (now «left_spots»)) × Shaped (now words) (now «right_nodes») (length (now «right_nodes»)) (length (now «right_spots»)) ⌝ }
-    ensures { λ r. ⌜ ((p q : Pattern) (js ks ls : List Pair) → Stands (now (left .entry)) «left_from» (startsOf (now («left_table» .entry))) (sizesOf (now («left_table» .entry))) «left_n» (now («left_spots» .entry)) p → Stands (now (right .entry)) «right_from» (startsOf (now («right_table» .entry))) (sizesOf (now («right_table» .entry))) «right_n» (now («right_spots» .entry)) q → Lists (now (pairs .entry)) (now («left_constants» .entry)) (now («right_constants» .entry)) js ks ls → Answered (mergedBehind (take «left_from» (now (left .entry))) p q js ks ls) (now (out .entry)) (now (out .exit)) r) ⌝ }
+    ensures { λ r. ⌜ ((p q : Pattern) (js ks ls : List Pair) → Stands (now (left .entry)) «left_from» (startsOf (now («left_table» .entry))) (sizesOf (now («left_table» .entry))) «left_n» (now («left_spots» .entry)) p → Stands (now (right .entry)) «right_from» (startsOf (now («right_table» .entry))) (sizesOf (now («right_table» .entry))) «right_n» (now («right_spots» .entry)) q → Lists (now (pairs .entry)) (now («left_constants» .entry)) (now («right_constants» .entry)) js ks ls → Answered (mergedBehind (now (head .entry)) p q js ks ls) (now (out .entry)) (now (out .exit)) r) ⌝ }
 {
     if !is_project(left, left_from) {
         return Answer::NotProject;
@@ -75,6 +83,7 @@ pub fn merge_trees(
     }
     merge_projects(
         words,
+        head,
         left,
         left_from,
         left_table,
@@ -95,11 +104,284 @@ pub fn merge_trees(
 }
 
 // The longer of two lengths.
-pub fn longer(a: usize, b: usize) -> usize
+fn longer(a: usize, b: usize) -> usize
     ensures { λ r. ⌜ (a ≤ r) × (b ≤ r) ⌝ }
 {
     if a < b {
         return b;
     }
     a
+}
+
+// A merge for two texts and lists that were checked: 5 unless their heads are one, then their trees.
+fn merge_heads(
+    query: bool,
+    words: &[WordRow; 56],
+    left: &[u8],
+    left_table: &[Entry; 1024],
+    left_n: usize,
+    left_nodes: &[Node],
+    left_spots: &mut [Spot],
+    right: &[u8],
+    right_table: &[Entry; 1024],
+    right_n: usize,
+    right_nodes: &[Node],
+    right_spots: &mut [Spot],
+    pairs: &[u8],
+    left_constants: &[u8],
+    right_constants: &[u8],
+    out: &mut [u8],
+) -> Answer
+    requires { ⌜ Known query (now left) (startsOf (now «left_table»)) (sizesOf (now «left_table»)) «left_n» (now «left_spots») × Known query (now right) (startsOf (now «right_table»)) (sizesOf (now «right_table»)) «right_n» (now «right_spots») × ListsRead (now pairs) (now «left_constants») (now «right_constants») × Worded (now words) × Shaped (now words) (now «left_nodes») (length (now «left_nodes»)) (length (now «left_spots»)) × Shaped (now words) (now «right_nodes») (length (now «right_nodes»)) (length (now «right_spots»)) ⌝ }
+    ensures { λ r. ⌜ Answered (mergeOutcome query (now (left .entry)) (now (right .entry)) (now (pairs .entry)) (now («left_constants» .entry)) (now («right_constants» .entry))) (now (out .entry)) (now (out .exit)) r ⌝ }
+{
+    let left_from = start_of(query, left);
+    let right_from = start_of(query, right);
+    if !may_merge(query, left, left_from, right, right_from) {
+        return Answer::NotMergeable;
+    }
+    merge_trees(
+        words,
+        piece(left, 0, left_from),
+        left,
+        left_from,
+        left_table,
+        left_n,
+        left_nodes,
+        left_spots,
+        right,
+        right_from,
+        right_table,
+        right_n,
+        right_nodes,
+        right_spots,
+        pairs,
+        left_constants,
+        right_constants,
+        out,
+    )
+}
+
+// The same for two texts that were checked and any lists.
+fn merge_listed(
+    query: bool,
+    words: &[WordRow; 56],
+    left: &[u8],
+    left_table: &[Entry; 1024],
+    left_n: usize,
+    left_nodes: &[Node],
+    left_spots: &mut [Spot],
+    right: &[u8],
+    right_table: &[Entry; 1024],
+    right_n: usize,
+    right_nodes: &[Node],
+    right_spots: &mut [Spot],
+    pairs: &[u8],
+    left_constants: &[u8],
+    right_constants: &[u8],
+    out: &mut [u8],
+) -> Answer
+    requires { ⌜ Known query (now left) (startsOf (now «left_table»)) (sizesOf (now «left_table»)) «left_n» (now «left_spots») × Known query (now right) (startsOf (now «right_table»)) (sizesOf (now «right_table»)) «right_n» (now «right_spots») × Worded (now words) × Shaped (now words) (now «left_nodes») (length (now «left_nodes»)) (length (now «left_spots»)) × Shaped (now words) (now «right_nodes») (length (now «right_nodes»)) (length (now «right_spots»)) ⌝ }
+    ensures { λ r. ⌜ Answered (mergeOutcome query (now (left .entry)) (now (right .entry)) (now (pairs .entry)) (now («left_constants» .entry)) (now («right_constants» .entry))) (now (out .entry)) (now (out .exit)) r ⌝ }
+{
+    match check_lists(pairs, left_constants, right_constants) {
+        Check::Good(_) => merge_heads(
+            query,
+            words,
+            left,
+            left_table,
+            left_n,
+            left_nodes,
+            left_spots,
+            right,
+            right_table,
+            right_n,
+            right_nodes,
+            right_spots,
+            pairs,
+            left_constants,
+            right_constants,
+            out,
+        ),
+        Check::Malformed => Answer::Malformed,
+        Check::OverBound => Answer::OverBound,
+    }
+}
+
+// The same for a left text that was checked and any right one.
+fn merge_right(
+    query: bool,
+    words: &[WordRow; 56],
+    left: &[u8],
+    left_table: &[Entry; 1024],
+    left_n: usize,
+    left_nodes: &[Node],
+    left_spots: &mut [Spot],
+    right: &[u8],
+    right_nodes: &mut [Node],
+    right_spots: &mut [Spot],
+    pairs: &[u8],
+    left_constants: &[u8],
+    right_constants: &[u8],
+    out: &mut [u8],
+) -> Answer
+    requires { ⌜ Known query (now left) (startsOf (now «left_table»)) (sizesOf (now «left_table»)) «left_n» (now «left_spots») × HasRoom (now right) (now «right_spots») × Worded (now words) × Shaped (now words) (now «left_nodes») (length (now «left_nodes»)) (length (now «left_spots»)) × HasNodes (now right) (now «right_nodes») ⌝ }
+    ensures { λ r. ⌜ Answered (mergeOutcome query (now (left .entry)) (now (right .entry)) (now (pairs .entry)) (now («left_constants» .entry)) (now («right_constants» .entry))) (now (out .entry)) (now (out .exit)) r ⌝ }
+{
+    let mut right_table = [[0u16; 2]; 1024];
+    let mut hints = [0u16; 2048];
+    match note_form(
+        query,
+        words,
+        right,
+        &mut right_table,
+        &mut hints,
+        right_spots,
+        right_nodes,
+    ) {
+        Noting::Good(right_n, k, m) => merge_listed(
+            query,
+            words,
+            left,
+            left_table,
+            left_n,
+            left_nodes,
+            left_spots,
+            right,
+            &right_table,
+            right_n,
+            &right_nodes[..m],
+            &mut right_spots[..k],
+            pairs,
+            left_constants,
+            right_constants,
+            out,
+        ),
+        Noting::Malformed => Answer::Malformed,
+        Noting::OverBound => Answer::OverBound,
+    }
+}
+
+// The same for any two texts, with room for their variables.
+fn merge_left(
+    query: bool,
+    words: &[WordRow; 56],
+    left: &[u8],
+    left_nodes: &mut [Node],
+    left_spots: &mut [Spot],
+    right: &[u8],
+    right_nodes: &mut [Node],
+    right_spots: &mut [Spot],
+    pairs: &[u8],
+    left_constants: &[u8],
+    right_constants: &[u8],
+    out: &mut [u8],
+) -> Answer
+    requires { ⌜ HasRoom (now left) (now «left_spots») × HasRoom (now right) (now «right_spots») × Worded (now words) × HasNodes (now left) (now «left_nodes») × HasNodes (now right) (now «right_nodes») ⌝ }
+    ensures { λ r. ⌜ Answered (mergeOutcome query (now (left .entry)) (now (right .entry)) (now (pairs .entry)) (now («left_constants» .entry)) (now («right_constants» .entry))) (now (out .entry)) (now (out .exit)) r ⌝ }
+{
+    let mut left_table = [[0u16; 2]; 1024];
+    let mut hints = [0u16; 2048];
+    match note_form(
+        query,
+        words,
+        left,
+        &mut left_table,
+        &mut hints,
+        left_spots,
+        left_nodes,
+    ) {
+        Noting::Good(left_n, k, m) => merge_right(
+            query,
+            words,
+            left,
+            &left_table,
+            left_n,
+            &left_nodes[..m],
+            &mut left_spots[..k],
+            right,
+            right_nodes,
+            right_spots,
+            pairs,
+            left_constants,
+            right_constants,
+            out,
+        ),
+        Noting::Malformed => Answer::Malformed,
+        Noting::OverBound => Answer::OverBound,
+    }
+}
+
+// The same for any texts. There are as many spots as pays: they are cleared first.
+pub fn merge_texts(
+    query: bool,
+    left: &[u8],
+    right: &[u8],
+    pairs: &[u8],
+    left_constants: &[u8],
+    right_constants: &[u8],
+    out: &mut [u8],
+) -> Answer
+    ensures { λ r. ⌜ Answered (mergeOutcome query (now (left .entry)) (now (right .entry)) (now (pairs .entry)) (now («left_constants» .entry)) (now («right_constants» .entry))) (now (out .entry)) (now (out .exit)) r ⌝ }
+{
+    let words = all_words();
+    let most = longer(left.len(), right.len());
+    if most <= 1536 {
+        let mut left_nodes = [[0u32; 3]; 512];
+        let mut left_spots = [[0u16; 3]; 512];
+        let mut right_nodes = [[0u32; 3]; 512];
+        let mut right_spots = [[0u16; 3]; 512];
+        return merge_left(
+            query,
+            &words,
+            left,
+            &mut left_nodes,
+            &mut left_spots,
+            right,
+            &mut right_nodes,
+            &mut right_spots,
+            pairs,
+            left_constants,
+            right_constants,
+            out,
+        );
+    }
+    if most <= 6144 {
+        let mut left_nodes = [[0u32; 3]; 2048];
+        let mut left_spots = [[0u16; 3]; 2048];
+        let mut right_nodes = [[0u32; 3]; 2048];
+        let mut right_spots = [[0u16; 3]; 2048];
+        return merge_left(
+            query,
+            &words,
+            left,
+            &mut left_nodes,
+            &mut left_spots,
+            right,
+            &mut right_nodes,
+            &mut right_spots,
+            pairs,
+            left_constants,
+            right_constants,
+            out,
+        );
+    }
+    let mut left_nodes = [[0u32; 3]; 2048];
+    let mut left_spots = [[0u16; 3]; 5462];
+    let mut right_nodes = [[0u32; 3]; 2048];
+    let mut right_spots = [[0u16; 3]; 5462];
+    merge_left(
+        query,
+        &words,
+        left,
+        &mut left_nodes,
+        &mut left_spots,
+        right,
+        &mut right_nodes,
+        &mut right_spots,
+        pairs,
+        left_constants,
+        right_constants,
+        out,
+    )
 }

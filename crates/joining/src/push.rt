@@ -12,6 +12,7 @@ use names::Entry;
 use projects::push::push_in_project;
 use reading::note_query;
 use sides::project::is_project;
+use text::piece;
 use words::table::WordRow;
 use words::table::all_words;
 ghost use Rattle.answers.specs.Outcome.{Answered};
@@ -43,7 +44,18 @@ fn push_of(
     if !is_project(query, from) {
         return copy(query, out);
     }
-    push_in_project(words, query, from, table, n, nodes, spots, constants, out)
+    push_in_project(
+        words,
+        piece(query, 0, from),
+        query,
+        from,
+        table,
+        n,
+        nodes,
+        spots,
+        constants,
+        out,
+    )
 }
 
 // The same for a query that was checked and any constants.

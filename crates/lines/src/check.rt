@@ -124,8 +124,8 @@ fn head_from(
     ensures walks { λ r. ⌜ HeadNotes (now (text .entry)) (now (words .entry)) (now (table .entry)) (now (spots .entry)) (now (nodes .entry)) p (now (table .exit)) (now (spots .exit)) (now (nodes .exit)) r ⌝ }
     ensures few { λ r. ⌜ (r .fault ≡ 0 → r .lines ≤ r .cursor .at) ⌝ }
 {
+    let cursor = p.cursor.moved_to(next);
     let mut q = p;
-    let cursor = q.cursor.moved_to(next);
     q.cursor = cursor;
     check_entry(q, level, 7, text, words, table, hints, spots, nodes, false)
 }

@@ -1,72 +1,103 @@
--- What prepare promises of one side, and what the calls behind it ask of that side. Assumes nothing.
+-- One side: what find_side and name_found promise of it, and what the calls behind them ask of it. Assumes nothing.
 use Prim.Native.Nat.{ℕ, _-_, _≤_}
 use mathlib.Core.Path.{_≡_, refl, subst}
-use mathlib.Core.List.{List}
+use mathlib.Core.List.{List, []}
 use mathlib.Core.Bool.{Bool, true, false, _&&_}
 use native.Mathlib.Omega.{arith}
 use lib.ListN.{length}
 use lib.Count.{ones}
-use Rattle.text.specs.Text.{Bytes}
+use Rattle.text.specs.Text.{Bytes, linesFrom}
 use Rattle.algebra.specs.Query.{Pair}
+use Rattle.algebra.specs.Layout.{put}
 use Rattle.scoping.specs.Premises.{inside}
 use Rattle.merging.specs.Request.{Projection, tree}
 use Rattle.walking.specs.bridge.Renamed.{Renamed}
 use Rattle.sides.specs.bridge.Columns.{columnsIn, picked}
 use Rattle.sides.specs.bridge.Listed.{Listed, positionsIn}
-use Rattle.sides.specs.bridge.Side.{TreeIn, Placed, Asked, SideIs, PreparedIs}
+use Rattle.sides.specs.bridge.Side.{TreeIn, Placed, Asked, OutlineIs, FindingIs, SideIs}
+use Rattle.sides.specs.declared.side.Outline.{Outline}
 use Rattle.sides.specs.declared.side.Side.{Side}
-use Rattle.sides.specs.declared.side.Prepared.{Prepared}
-use Rattle.sides.specs.declared.side.Prepared.the-variants.{Outside, Ready}
-use Rattle.projects.specs.bridge.Joining.{Stands, Terms, KnownTerms}
+use Rattle.sides.specs.declared.side.Finding.{Finding}
+use Rattle.sides.specs.declared.side.Finding.the-variants.{Outside, Found}
+use Rattle.projects.specs.bridge.Joining.{Stands, Terms, KnownTerms, Outlined, Sided}
 use Rattle.projects.proofs.SideLines.{side-ones, side-room, side-width}
 use Rattle.projects.proofs.Whole.{columns-few}
 
-pub asked-of : (s : Bytes) (at : ℕ) (a l : List ℕ) (n : ℕ) (v : List (List ℕ)) (pairs constants : Bytes) (x : Projection) (js : List Pair) → Stands s at a l n v (tree x) → Listed pairs js → KnownTerms constants → Asked s at a l n v pairs constants
-asked-of s at a l n v pairs constants x js t j k = record { projection = x; stands = t .tree-in; narrow = t .narrow x refl; joins = js; joins-listed = j; terms = k .list; terms-listed = k .terms .listed }
+pub asked-of : (s : Bytes) (at : ℕ) (a l : List ℕ) (n : ℕ) (v : List (List ℕ)) (pairs constants : Bytes) (x : Projection) (js : List Pair) → Stands s at a l n v (tree x) → Listed pairs js → KnownTerms constants → Asked s at pairs constants
+asked-of s at a l n v pairs constants x js t j k = record { projection = x; lines = t .tree-in .lines; narrow = t .narrow x refl; joins = js; joins-listed = j; terms = k .list; terms-listed = k .terms .listed }
 
--- what prepare promises
-abbrev pub Promised : Bytes → ℕ → List ℕ → List ℕ → ℕ → List (List ℕ) → ℕ → Bool → Bytes → Bytes → List ℕ → List ℕ → List ℕ → List ℕ → List ℕ → List ℕ → Prepared → Type 0
-Promised text from starts sizes n spots prefix second pairs constants pool targets spans line at lines r =
-    (x : Projection) (js ks : List Pair) → TreeIn text from starts sizes n spots (tree x) → length (x .columns) ≤ 64 → Listed pairs js → Listed constants ks
-    → PreparedIs text starts sizes n prefix second constants x js ks pool targets spans line at lines r
+-- what find_side promises
+abbrev pub Promised : Bytes → ℕ → Bool → Bytes → Bytes → List ℕ → List ℕ → List ℕ → Finding → Type 0
+Promised text from second pairs constants joins at lines r =
+    (x : Projection) (js ks : List Pair) → linesFrom text from ≡ put (tree x) [] → Listed pairs js → Listed constants ks → FindingIs text second constants x js ks joins at lines r
 
-module _ (text : Bytes) (from : ℕ) (starts sizes : List ℕ) (n : ℕ) (spots : List (List ℕ)) (prefix : ℕ) (second : Bool) (pairs constants : Bytes) (pool targets spans line at lines : List ℕ) (r : Prepared)
-    (said : Promised text from starts sizes n spots prefix second pairs constants pool targets spans line at lines r)
-    (x : Projection) (js ks : List Pair) (stands : Stands text from starts sizes n spots (tree x)) (joins : Listed pairs js) (terms : Terms constants ks) where
-  it-is : PreparedIs text starts sizes n prefix second constants x js ks pool targets spans line at lines r
-  it-is = said x js ks (stands .tree-in) (stands .narrow x refl) joins (terms .listed)
+module _ (text : Bytes) (from : ℕ) (second : Bool) (pairs constants : Bytes) (joins at lines : List ℕ) (r : Finding) (said : Promised text from second pairs constants joins at lines r)
+    (starts sizes : List ℕ) (n : ℕ) (spots : List (List ℕ)) (x : Projection) (js ks : List Pair) (stands : Stands text from starts sizes n spots (tree x)) (joins-listed : Listed pairs js) (terms : Terms constants ks) where
+  it-is : FindingIs text second constants x js ks joins at lines r
+  it-is = said x js ks (stands .tree-in .lines) joins-listed (terms .listed)
 
   pub outside : r ≡ Outside → (inside (x .columns) (positionsIn second js) && inside (x .columns) (positionsIn false ks)) ≡ false
-  unfolding PreparedIs
-  outside e = subst (PreparedIs text starts sizes n prefix second constants x js ks pool targets spans line at lines) e it-is
+  unfolding FindingIs
+  outside e = subst (FindingIs text second constants x js ks joins at lines) e it-is
 
-  module _ (s : Side) (told : r ≡ Ready s) where
-    pub ready : (inside (x .columns) (positionsIn second js) ≡ true) × (inside (x .columns) (positionsIn false ks) ≡ true) × SideIs text starts sizes n prefix second constants x js ks pool targets spans line at lines s
-    unfolding PreparedIs
-    ready = subst (PreparedIs text starts sizes n prefix second constants x js ks pool targets spans line at lines) told it-is
+  module _ (o : Outline) (told : r ≡ Found o) where
+    found : (inside (x .columns) (positionsIn second js) ≡ true) × (inside (x .columns) (positionsIn false ks) ≡ true) × OutlineIs text second constants x js ks joins at lines o
+    unfolding FindingIs
+    found = subst (FindingIs text second constants x js ks joins at lines) told it-is
 
-    pub placed : Placed text from starts sizes n spots (s .inner) (s .columns) x
-    placed = record { stands = stands .tree-in; narrow = stands .narrow x refl; width = ready .2 .width; high = ready .2 .high; behind = ready .2 .inner }
+    pub outlined : length joins ≡ 64 → length at ≡ 64 → Outlined text from starts sizes n spots second constants joins at lines o x js ks
+    outlined joins-long long = record { stands = stands; terms = terms; joins-inside = found .0; terms-inside = found .1; joins-long = joins-long; long = long; is = found .2 }
 
-    -- what its line of columns asks for
-    pub line-needs : (s .end ≤ length line) × (length (columnsIn line (s .end)) ≤ 64)
-    line-needs = (ready .2 .end, columns-few text starts sizes n prefix second constants x js ks pool targets spans line at lines s (ready .2) (stands .narrow x refl))
+-- ---- a side that was found
 
-    -- what put_head does
-    pub head-needs : (s .end ≤ length line) × (ones (s .constant) ≤ s .columns) × (s .columns - ones (s .constant) ≡ length (picked 0 (s .constant) (columnsIn line (s .end))))
-    head-needs = (
-      ready .2 .end,
-      side-room text starts sizes n prefix second constants x js ks pool targets spans line at lines s (ready .2),
-      side-width text starts sizes n prefix second constants x js ks pool targets spans line at lines s (ready .2),
-    )
+module _ (text : Bytes) (from : ℕ) (starts sizes : List ℕ) (n : ℕ) (spots : List (List ℕ)) (second : Bool) (constants : Bytes) (joins at lines : List ℕ) (o : Outline) (x : Projection) (js ks : List Pair)
+    (d : Outlined text from starts sizes n spots second constants joins at lines o x js ks) where
+  -- what name_found asks for
+  pub name-needs : (second : Bool) × (constants : Bytes) × (x : Projection) × (js : List Pair) × (ks : List Pair) × (at : List ℕ) × (lines : List ℕ) × TreeIn text from starts sizes n spots (tree x) × (length (x .columns) ≤ 64)
+      × (inside (x .columns) (positionsIn second js) ≡ true) × OutlineIs text second constants x js ks joins at lines o
+  name-needs = (second, constants, x, js, ks, at, lines, d .stands .tree-in, d .stands .narrow x refl, d .joins-inside, d .is)
 
-    -- what put_side does, once the side's tree is renamed
-    pub side-needs : length at ≡ 64 → (marked : List (List ℕ)) → Renamed spans spots 0 marked (length spots)
-        → ((from : ℕ) × (x : Projection) × (v : List (List ℕ)) × Placed text from starts sizes n v (s .inner) (s .columns) x × Renamed spans v 0 marked (length v)) × (s .constants ≤ 64) × (length at ≡ 64) × (s .end ≤ length line) × (ones (s .constant) ≡ length (picked 1 (s .constant) (columnsIn line (s .end))))
-    side-needs long marked renamed = (
-      (from, x, spots, placed, renamed),
-      (let m = ready .2 .kept .many in let f = terms .listed .few in omega arith),
-      long,
-      ready .2 .end,
-      side-ones text starts sizes n prefix second constants x js ks pool targets spans line at lines s (ready .2),
-    )
+  -- what it gives, the variables renamed
+  pub sided : (prefix : ℕ) (pool targets spans line : List ℕ) (s : Side) (marked : List (List ℕ)) → Renamed spans spots 0 marked (length spots)
+      → ((second : Bool) (constants : Bytes) (x : Projection) (js ks : List Pair) (at lines : List ℕ) → TreeIn text from starts sizes n spots (tree x) → length (x .columns) ≤ 64 → inside (x .columns) (positionsIn second js) ≡ true
+      → OutlineIs text second constants x js ks joins at lines o → SideIs text starts sizes n prefix second constants x js ks pool targets spans line at lines s)
+      → Sided text from starts sizes n marked prefix second constants pool targets spans line at lines s x js ks
+  sided prefix pool targets spans line s marked renamed said = record {
+    noted = spots;
+    renamed = renamed;
+    stands = d .stands;
+    terms = d .terms;
+    joins-inside = d .joins-inside;
+    terms-inside = d .terms-inside;
+    long = d .long;
+    is = said second constants x js ks at lines (d .stands .tree-in) (d .stands .narrow x refl) (d .joins-inside) (d .is);
+  }
+
+-- ---- a side that is ready
+
+module _ (text : Bytes) (from : ℕ) (starts sizes : List ℕ) (n : ℕ) (spots : List (List ℕ)) (prefix : ℕ) (second : Bool) (constants : Bytes) (pool targets spans line at lines : List ℕ) (s : Side) (x : Projection) (js ks : List Pair)
+    (d : Sided text from starts sizes n spots prefix second constants pool targets spans line at lines s x js ks) where
+  pub placed : Placed text from starts sizes n (d .noted) (s .inner) (s .columns) x
+  placed = record { stands = d .stands .tree-in; narrow = d .stands .narrow x refl; width = d .is .width; high = d .is .high; behind = d .is .inner }
+
+  -- what its line of columns asks for
+  pub line-needs : (s .end ≤ length line) × (length (columnsIn line (s .end)) ≤ 64)
+  line-needs = (d .is .end, columns-few text starts sizes n prefix second constants x js ks pool targets spans line at lines s (d .is) (d .stands .narrow x refl))
+
+  -- what put_head does
+  pub head-needs : (s .end ≤ length line) × (ones (s .constant) ≤ s .columns) × (s .columns - ones (s .constant) ≡ length (picked 0 (s .constant) (columnsIn line (s .end))))
+  head-needs = (
+    d .is .end,
+    side-room text starts sizes n prefix second constants x js ks pool targets spans line at lines s (d .is),
+    side-width text starts sizes n prefix second constants x js ks pool targets spans line at lines s (d .is),
+  )
+
+  -- what put_side does
+  pub side-needs : ((from : ℕ) × (x : Projection) × (v : List (List ℕ)) × Placed text from starts sizes n v (s .inner) (s .columns) x × Renamed spans v 0 spots (length v)) × (s .constants ≤ 64) × (length at ≡ 64) × (s .end ≤ length line) × (ones (s .constant) ≡ length (picked 1 (s .constant) (columnsIn line (s .end))))
+  side-needs = (
+    (from, x, d .noted, placed, d .renamed),
+    (let m = d .is .kept .many in let f = d .terms .listed .few in omega arith),
+    d .long,
+    d .is .end,
+    side-ones text starts sizes n prefix second constants x js ks pool targets spans line at lines s (d .is),
+  )

@@ -13,7 +13,7 @@ use Rattle.emit.specs.bridge.Emit.{Em, puts}
 use Rattle.emit.proofs.Laws.{puts-append, puts-nil}
 use Rattle.walking.specs.bridge.Walk.{tabbed}
 use Rattle.walking.proofs.Written.{puts-ended}
-use Rattle.merging.specs.Request.{Projection, tree}
+use Rattle.merging.specs.Request.{Projection}
 use Rattle.sides.specs.declared.side.Side.{Side}
 use Rattle.scoping.specs.Premises.{inside}
 use Rattle.sides.specs.bridge.Listed.{Listed, positionsIn}
@@ -28,18 +28,14 @@ use Rattle.scoping.specs.Label.{prefixL, prefixR, prefixV}
 use Rattle.merging.proofs.Names.{Letter}
 use Rattle.scoping.specs.Sets.{all}
 use Rattle.merging.specs.Sides.{renamedPattern}
-use Rattle.merging.specs.Request.{byPosition, constantsIn, joinPositions, request}
-use Rattle.merging.specs.Merge.{mergeProjectPatterns}
+use Rattle.merging.specs.Request.{byPosition, constantsIn}
 use Rattle.merging.proofs.Lists.{map-length}
-use Rattle.merging.specs.Push.{onlySide, pushConstantsInProjectPattern}
+use Rattle.merging.specs.Push.{onlySide}
 use Rattle.merging.proofs.Lines.{push-lines}
 use Rattle.sides.specs.bridge.Columns.{columnsIn, picked}
-use Rattle.projects.specs.bridge.Joining.{Lists, ListsRead, pushedBehind}
+use Rattle.projects.specs.bridge.Joining.{Lists, ListsRead, pushedTree, pushedBehind}
 use Rattle.projects.proofs.SideLines.{side, side-free}
 use Rattle.projects.proofs.Outcomes.{inside-sorted}
-
-pub put-piece : (b c : Bytes) (e e′ : Em) → e′ ≡ puts b e → b ≡ c → e′ ≡ puts c e
-put-piece b c e e′ p q = p ∙ ap (λ (x : Bytes). puts x e) q
 
 -- ---- the line of columns
 
@@ -94,12 +90,9 @@ pub none-listed : Listed [] []
 unfolding putPairs linesOf linesIn split
 none-listed = record { lines = refl; few = omega arith; short = omega arith }
 
-abbrev pub pushed : Projection → List Pair → Pattern
-pushed x ks = pushConstantsInProjectPattern x (byPosition (constantsIn ks))
-
 module _ (text : Bytes) (starts sizes : List ℕ) (n : ℕ) (constants : Bytes) (x : Projection) (ks : List Pair) (pool targets spans line at lines : List ℕ) (s : Side)
     (is : SideIs text starts sizes n prefixV false constants x [] ks pool targets spans line at lines s) where
-  pub pushed-lines : (bytes "project" ∷ picked 0 (s .constant) (columnsIn line (s .end))) ∷ put (renamedPattern (side text starts sizes n prefixV false constants x [] ks pool targets spans line at lines s is)) [] ≡ put (pushed x ks) []
+  pub pushed-lines : (bytes "project" ∷ picked 0 (s .constant) (columnsIn line (s .end))) ∷ put (renamedPattern (side text starts sizes n prefixV false constants x [] ks pool targets spans line at lines s is)) [] ≡ put (pushedTree x ks) []
   pushed-lines = ap (λ (cs : List Bytes). (bytes "project" ∷ cs) ∷ put (renamedPattern (onlySide x (byPosition (constantsIn ks)))) []) (side-free text starts sizes n prefixV false constants x [] ks pool targets spans line at lines s is) ∙ sym (push-lines x (byPosition (constantsIn ks)) [])
 
 module _ (head : Bytes) (x : Projection) (ks : List Pair) where
@@ -107,7 +100,7 @@ module _ (head : Bytes) (x : Projection) (ks : List Pair) where
   unfolding Reported inside all
   pushed-outside out e = rw (inside-sorted (x .columns) ks ∙ e) (refl, refl, refl)
 
-  pub pushed-is : inside (x .columns) (positionsIn false ks) ≡ true → pushedBehind head x ks ≡ written (head ++ layout (pushed x ks))
+  pub pushed-is : inside (x .columns) (positionsIn false ks) ≡ true → pushedBehind head x ks ≡ written (head ++ layout (pushedTree x ks))
   pushed-is e = rw (inside-sorted (x .columns) ks ∙ e)
 
 -- the prefixes may stand in a field
@@ -119,9 +112,6 @@ letters = (refl, refl, refl)
 
 pub lists-are : (pairs a b : Bytes) (r : ListsRead pairs a b) → Lists pairs a b (r .js) (r .left .list) (r .right .list)
 lists-are pairs a b r = record { joins = r .joins; left-terms = r .left .terms; right-terms = r .right .terms }
-
-abbrev pub merged : Projection → Projection → List Pair → List Pair → List Pair → Pattern
-merged x y js ks ls = mergeProjectPatterns (request x y (joinPositions js) (byPosition (constantsIn ks)) (byPosition (constantsIn ls)))
 
 -- a side's line has 64 columns at most
 pub columns-few : (text : Bytes) (starts sizes : List ℕ) (n prefix : ℕ) (second : Bool) (constants : Bytes) (x : Projection) (js ks : List Pair) (pool targets spans line at lines : List ℕ) (s : Side)

@@ -38,13 +38,12 @@ use Rattle.naming.specs.bridge.Code.{namesAt}
 use Rattle.merging.specs.Request.{Projection, tree}
 use Rattle.merging.proofs.Names.{Letter, side-fits}
 use Rattle.algebra.specs.Query.{Pair}
+use Rattle.sides.specs.declared.side.Outline.{Outline}
 use Rattle.sides.specs.declared.list.Positions.{Positions}
 use Rattle.sides.specs.declared.list.Positions.the-variants.{Outside, Are}
-use Rattle.sides.specs.declared.side.Side.{Side}
-use Rattle.sides.specs.declared.side.Prepared.the-variants as P
 use Rattle.sides.specs.bridge.Columns.{columnsIn}
 use Rattle.sides.specs.bridge.Listed.{Listed, positionsIn, Kept, Found}
-use Rattle.sides.specs.bridge.Side.{TreeIn, Placed, Renames, maskAt, SideIs}
+use Rattle.sides.specs.bridge.Side.{TreeIn, Placed, Renames, maskAt, OutlineIs, SideIs}
 use Rattle.sides.proofs.Trees.{tree-inside, columns-few, line-written}
 use Rattle.sides.proofs.Entries.{entryAt, names-at}
 use Rattle.sides.proofs.Line.{line-columns, line-positive}
@@ -74,11 +73,6 @@ module _ (s : Bytes) (at : ℕ) (x : Projection) (lines : linesFrom s at ≡ put
       ap (λ (k : Line). k ∷ linesFrom s (e + 1)) (sym (line-split s at e w project-less project-low f)) ∙ sym (lines-next s at e (le .ends project-less) project-less) ∙ first-lines in
       let columns : left s (w + 1) e ≡ x .columns = cc in
       (q ∙ ap length columns, cc)
-
--- what is found of a projection, told as a whole
-pub placed-at : (s : Bytes) (at : ℕ) (a l : List ℕ) (n : ℕ) (v : List (List ℕ)) (inner columns : ℕ) (x : Projection) → TreeIn s at a l n v (tree x) → length (x .columns) ≤ 64
-    → (inner ≤ length s) × ((y : Projection) → linesFrom s at ≡ put (tree y) [] → (columns ≡ length (y .columns)) × (linesFrom s inner ≡ put (y .inner) [])) → Placed s at a l n v inner columns x
-placed-at s at a l n v inner columns x t few found = record { stands = t; narrow = few; width = found .1 x (t .lines) .0; high = found .0; behind = found .1 x (t .lines) .1 }
 
 -- ---- join positions
 
@@ -170,9 +164,6 @@ module _ (s : Bytes) (at : ℕ) (a l : List ℕ) (n : ℕ) (v : List (List ℕ))
 
 -- ---- what was found, told as a whole
 
-pub not-ready : (s : Side) → P.Outside ≡ P.Ready s → ⊥
-not-ready s q = let z : _≡_ {A = ℕ} 0 1 = cc in omega arith
-
 pub found-outside : (s : Bytes) (xs : List Pair) (second : Bool) (c : ℕ) (at lines : List ℕ) (r : Positions) (cs : List Bytes) → Found s xs second c at lines r → r ≡ Outside → c ≡ length cs → inside cs (positionsIn second xs) ≡ false
 unfolding Found inside
 found-outside s xs second c at lines r cs f q e = ap (λ (m : ℕ). all (λ i. ltb i m) (positionsIn second xs)) (sym e) ∙ subst (Found s xs second c at lines) q f
@@ -198,31 +189,49 @@ first-false false b h = refl
 pub kept-few : (s : Bytes) (xs : List Pair) (second : Bool) (at lines : List ℕ) (m : ℕ) (r : Bytes) → Kept s xs second at lines m → Listed r xs → m ≤ 64
 kept-few s xs second at lines m r k l = let e = k .many in let f = l .few in omega arith
 
--- all that prepare promises of a side that is ready
-module _ (text : Bytes) (from : ℕ) (starts sizes : List ℕ) (n : ℕ) (spots : List (List ℕ)) (prefix : ℕ) (second : Bool) (pairs constants : Bytes) (c inner : ℕ) (x : Projection) (js ks : List Pair)
-    (join-at join-lines at lines : List ℕ) (k m : ℕ) (kj : (all (λ i. ltb i c) (positionsIn second js) ≡ true) × Kept pairs js second join-at join-lines k) (kk : (all (λ i. ltb i c) (positionsIn false ks) ≡ true) × Kept constants ks false at lines m)
-    (placed : Placed text from starts sizes n spots inner c x) where
-  pub joins-inside : inside (x .columns) (take k join-at) ≡ true
-  joins-inside = kept-inside pairs js second c join-at join-lines k (x .columns) kj (placed .width) .0
-
-  pub all-ready : (pool targets spans line : List ℕ) (end constant joined : ℕ)
-      → (inside (x .columns) (take k join-at) ≡ true → Renames (listing text starts sizes n) n pool targets spans (sideName prefix (x .columns) (x .inner) (take k join-at)) × (columnsIn line end ≡ map (sideName prefix (x .columns) (x .inner) (take k join-at)) (x .columns)))
-      → constant ≡ maskAt (take m at) c → joined ≡ maskAt (take k join-at) c → end ≤ length line
+-- all that find_side promises of positions that are inside
+module _ (text : Bytes) (second : Bool) (pairs constants : Bytes) (c inner : ℕ) (x : Projection) (js ks : List Pair)
+    (joins join-lines at lines : List ℕ) (k m : ℕ) (kj : (all (λ i. ltb i c) (positionsIn second js) ≡ true) × Kept pairs js second joins join-lines k) (kk : (all (λ i. ltb i c) (positionsIn false ks) ≡ true) × Kept constants ks false at lines m)
+    (high : inner ≤ length text) (found : (c ≡ length (x .columns)) × (linesFrom text inner ≡ put (x .inner) [])) (listed : Listed pairs js) where
+  pub all-found : (constant joined : ℕ) → constant ≡ maskAt (take m at) c → joined ≡ maskAt (take k joins) c
       → (inside (x .columns) (positionsIn second js) ≡ true) × (inside (x .columns) (positionsIn false ks) ≡ true)
-      × SideIs text starts sizes n prefix second constants x js ks pool targets spans line at lines (record { inner = inner; columns = c; constant = constant; joined = joined; constants = m; end = end })
-  all-ready pool targets spans line end constant joined named pc pj le =
-      let nc = named joins-inside in (
-        kept-inside pairs js second c join-at join-lines k (x .columns) kj (placed .width) .1,
-        kept-inside constants ks false c at lines m (x .columns) kk (placed .width) .1,
-        record {
-          renames = subst (λ (ps : List ℕ). Renames (listing text starts sizes n) n pool targets spans (sideName prefix (x .columns) (x .inner) ps)) (kj .1 .positions) (nc .0);
-          columns = nc .1 ∙ ap (λ (ps : List ℕ). map (sideName prefix (x .columns) (x .inner) ps) (x .columns)) (kj .1 .positions);
-          end = le;
-          width = placed .width;
-          constant = pc ∙ ap₂ maskAt (kk .1 .positions) (placed .width);
-          joined = pj ∙ ap₂ maskAt (kj .1 .positions) (placed .width);
-          high = placed .high;
-          inner = placed .behind;
-          kept = kk .1;
-        },
-      )
+      × OutlineIs text second constants x js ks joins at lines (record { inner = inner; columns = c; joined = joined; joins = k; constant = constant; constants = m })
+  all-found constant joined pc pj = (
+    kept-inside pairs js second c joins join-lines k (x .columns) kj (found .0) .1,
+    kept-inside constants ks false c at lines m (x .columns) kk (found .0) .1,
+    record {
+      width = found .0;
+      constant = pc ∙ ap₂ maskAt (kk .1 .positions) (found .0);
+      joined = pj ∙ ap₂ maskAt (kj .1 .positions) (found .0);
+      high = high;
+      inner = found .1;
+      few = kept-few pairs js second joins join-lines k pairs (kj .1) listed;
+      positions = kj .1 .positions;
+      kept = kk .1;
+    },
+  )
+
+-- what was found is what naming asks for, and named it is a side
+module _ (text : Bytes) (from : ℕ) (starts sizes : List ℕ) (n : ℕ) (spots : List (List ℕ)) (second : Bool) (constants : Bytes) (x : Projection) (js ks : List Pair) (joins at lines : List ℕ) (o : Outline)
+    (tree-in : TreeIn text from starts sizes n spots (tree x)) (narrow : length (x .columns) ≤ 64) (low : inside (x .columns) (positionsIn second js) ≡ true) (is : OutlineIs text second constants x js ks joins at lines o) where
+  pub outline-placed : Placed text from starts sizes n spots (o .inner) (o .columns) x
+  outline-placed = record { stands = tree-in; narrow = narrow; width = is .width; high = is .high; behind = is .inner }
+
+  pub outline-inside : inside (x .columns) (take (o .joins) joins) ≡ true
+  outline-inside = ap (inside (x .columns)) (is .positions) ∙ low
+
+  pub named : (prefix : ℕ) (pool targets spans line : List ℕ) (end : ℕ)
+      → Renames (listing text starts sizes n) n pool targets spans (sideName prefix (x .columns) (x .inner) (take (o .joins) joins)) × (columnsIn line end ≡ map (sideName prefix (x .columns) (x .inner) (take (o .joins) joins)) (x .columns))
+      → end ≤ length line
+      → SideIs text starts sizes n prefix second constants x js ks pool targets spans line at lines (record { inner = o .inner; columns = o .columns; constant = o .constant; joined = o .joined; constants = o .constants; end = end })
+  named prefix pool targets spans line end nc le = record {
+    renames = subst (λ (ps : List ℕ). Renames (listing text starts sizes n) n pool targets spans (sideName prefix (x .columns) (x .inner) ps)) (is .positions) (nc .0);
+    columns = nc .1 ∙ ap (λ (ps : List ℕ). map (sideName prefix (x .columns) (x .inner) ps) (x .columns)) (is .positions);
+    end = le;
+    width = is .width;
+    constant = is .constant;
+    joined = is .joined;
+    high = is .high;
+    inner = is .inner;
+    kept = is .kept;
+  }

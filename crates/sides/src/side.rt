@@ -1,4 +1,4 @@
-// What is found of a side: its positions, its new names, and its line of renamed columns.
+// What is found of a side, its columns and positions; then its new names and its line of renamed columns.
 use crate::columns::position_mask;
 use crate::list::Positions;
 use crate::list::read_positions;
@@ -15,10 +15,12 @@ use words::table::WordRow;
 ghost use mathlib.Core.Path.{_≡_};
 ghost use Prim.Native.Nat.{ℕ, _≤_, _<_};
 ghost use mathlib.Core.List.{List, [], map};
-ghost use mathlib.Core.Bool.{true};
+ghost use mathlib.Core.Bool.{Bool, true};
 ghost use lib.ListN.{length, getD, take};
+ghost use Rattle.text.specs.Text.{Bytes, linesFrom};
 ghost use Rattle.algebra.specs.Tree.{Pattern};
 ghost use Rattle.algebra.specs.Query.{Pair};
+ghost use Rattle.algebra.specs.Layout.{put};
 ghost use Rattle.names.specs.bridge.Names.{startsOf, sizesOf, namesIn};
 ghost use Rattle.scoping.specs.Numbering.{numbered};
 ghost use Rattle.scoping.specs.bridge.Pushes.{allPushes, newName};
@@ -30,10 +32,8 @@ ghost use Rattle.merging.specs.Request.{Projection, tree};
 ghost use Rattle.merging.proofs.Names.{Letter};
 ghost use Rattle.scoping.specs.Premises.{inside, sideName};
 ghost use Rattle.sides.specs.bridge.Columns.{columnsIn};
-ghost use Rattle.sides.specs.bridge.Listed.{Listed};
-ghost use Rattle.sides.specs.declared.side.Side.{Side};
-ghost use Rattle.sides.specs.declared.side.Prepared.the-variants.{Ready};
-ghost use Rattle.sides.specs.bridge.Side.{TreeIn, Renames, Placed, Asked, PreparedIs};
+ghost use Rattle.sides.specs.bridge.Listed.{Listed, positionsIn};
+ghost use Rattle.sides.specs.bridge.Side.{TreeIn, Renames, Placed, Asked, OutlineIs, FindingIs, SideIs};
 
 // The entries of the columns at the first m positions: the columns are the first of a project's variables.
 fn join_entries(spots: &[Spot], at: &[u16; 64], m: usize, joins: &mut [u16; 64])
@@ -68,21 +68,54 @@ fn name_side(
     standardize_variables(text, table, n, &flags, prefix, joins, m, pool, news);
 }
 
-// What is found of a side: where its inner pattern starts, how many columns it has, which of them carry constants and which
-// are joined, how many constants there are, and where its line of renamed columns ends.
-pub struct Side {
+// What is found of a side before its names: where its inner pattern starts, how many columns it has, which of them are joined
+// and which carry constants, and how many positions each list has.
+pub struct Outline {
     pub inner: usize,
     pub columns: usize,
-    pub constant: u64,
     pub joined: u64,
+    pub joins: usize,
+    pub constant: u64,
     pub constants: usize,
-    pub end: usize,
 }
 
-// A position is outside the projection, or the side is ready.
-pub enum Prepared {
+// A position is outside the projection, or all are inside.
+pub enum Finding {
     Outside,
-    Ready(Side),
+    Found(Outline),
+}
+
+// Finding: a project's columns, and the positions of the join list in one of its fields and of the constants.
+pub fn find_side(
+    text: &[u8],
+    from: usize,
+    pairs: &[u8],
+    second: bool,
+    constants: &[u8],
+    joins: &mut [u16; 64],
+    at: &mut [u16; 64],
+    lines: &mut [u16; 64],
+) -> Finding
+    requires { ⌜ Asked (now text) from (now pairs) (now constants) × (length (now joins) ≡ 64) × (length (now at) ≡ 64) × (length (now lines) ≡ 64) ⌝ }
+    ensures { λ r. ⌜ (length (now (joins .exit)) ≡ 64) × (length (now (at .exit)) ≡ 64) × ((x : Projection) (js ks : List Pair) → linesFrom (now (text .entry)) from ≡ put (tree x) [] → Listed (now (pairs .entry)) js → Listed (now (constants .entry)) ks → FindingIs (now (text .entry)) second (now (constants .entry)) x js ks (now (joins .exit)) (now (at .exit)) (now (lines .exit)) r) ⌝ }
+{
+    let found = find_columns(text, from);
+    let columns = found.columns;
+    let mut join_lines = [0u16; 64];
+    let Positions::Are(k) = read_positions(pairs, second, columns, joins, &mut join_lines) else {
+        return Finding::Outside;
+    };
+    let Positions::Are(m) = read_positions(constants, false, columns, at, lines) else {
+        return Finding::Outside;
+    };
+    Finding::Found(Outline {
+        inner: found.inner,
+        columns,
+        joined: position_mask(joins, k, columns),
+        joins: k,
+        constant: position_mask(at, m, columns),
+        constants: m,
+    })
 }
 
 // The new names of a side, by its m join positions: its tree is renamed; and where its line of renamed columns ends.
@@ -128,8 +161,19 @@ fn name_columns(
     size - 1
 }
 
-// A project's side: the positions of the join list in one of its fields, and of the constants, then its names.
-pub fn prepare(
+// A side that has its names: where its inner pattern starts, how many columns it has, which of them carry constants and which
+// are joined, how many constants there are, and where its line of renamed columns ends.
+pub struct Side {
+    pub inner: usize,
+    pub columns: usize,
+    pub constant: u64,
+    pub joined: u64,
+    pub constants: usize,
+    pub end: usize,
+}
+
+// Naming: the new names of a side that was found, and its line of renamed columns.
+pub fn name_found(
     text: &[u8],
     from: usize,
     table: &[Entry; 1024],
@@ -138,53 +182,39 @@ pub fn prepare(
     nodes: &[Node],
     spots: &mut [Spot],
     prefix: u8,
-    pairs: &[u8],
-    second: bool,
-    constants: &[u8],
+    outline: Outline,
+    joins: &[u16; 64],
     pool: &mut [u8],
     news: &mut [Entry; 1024],
     line: &mut [u8],
-    at: &mut [u16; 64],
-    lines: &mut [u16; 64],
-) -> Prepared
-    requires { ⌜ Asked (now text) from (startsOf (now table)) (sizesOf (now table)) n (now spots) (now pairs) (now constants) × Letter prefix × (16384 ≤ length (now pool)) × (length (now news) ≡ 1024) × ((k : ℕ) → getD (sizesOf (now news)) k 0 ≡ 0) × (length (now line) ≡ 8336) × (length (now at) ≡ 64) × (length (now lines) ≡ 64) × Worded (now words) × Shaped (now words) (now nodes) (length (now nodes)) (length (now spots)) ⌝ }
-    ensures { λ r. ⌜ (length (now (at .exit)) ≡ 64) × ((x : Projection) (js ks : List Pair) → TreeIn (now (text .entry)) from (startsOf (now (table .entry))) (sizesOf (now (table .entry))) n (now (spots .entry)) (tree x) → length (x .columns) ≤ 64 → Listed (now (pairs .entry)) js → Listed (now (constants .entry)) ks → PreparedIs (now (text .entry)) (startsOf (now (table .entry))) (sizesOf (now (table .entry))) n prefix second (now (constants .entry)) x js ks (now (pool .exit)) (startsOf (now (news .exit))) (sizesOf (now (news .exit))) (now (line .exit)) (now (at .exit)) (now (lines .exit)) r) ⌝ }
-    ensures renamed { λ r. ⌜ ((side : Side) → r ≡ Ready side → Renamed (sizesOf (now (news .exit))) (now (spots .entry)) 0 (now (spots .exit)) (length (now (spots .entry)))) ⌝ }
+) -> Side
+    requires { ⌜ Letter prefix × (16384 ≤ length (now pool)) × (length (now news) ≡ 1024) × ((i : ℕ) → getD (sizesOf (now news)) i 0 ≡ 0) × (length (now line) ≡ 8336) × (length (now joins) ≡ 64) × ((second : Bool) × (constants : Bytes) × (x : Projection) × (js : List Pair) × (ks : List Pair) × (at : List ℕ) × (lines : List ℕ) × TreeIn (now text) from (startsOf (now table)) (sizesOf (now table)) n (now spots) (tree x) × (length (x .columns) ≤ 64) × (inside (x .columns) (positionsIn second js) ≡ true) × OutlineIs (now text) second constants x js ks (now joins) at lines outline) × Worded (now words) × Shaped (now words) (now nodes) (length (now nodes)) (length (now spots)) ⌝ }
+    ensures { λ r. ⌜ ((second : Bool) (constants : Bytes) (x : Projection) (js ks : List Pair) (at lines : List ℕ) → TreeIn (now (text .entry)) from (startsOf (now (table .entry))) (sizesOf (now (table .entry))) n (now (spots .entry)) (tree x) → length (x .columns) ≤ 64 → inside (x .columns) (positionsIn second js) ≡ true → OutlineIs (now (text .entry)) second constants x js ks (now (joins .entry)) at lines outline → SideIs (now (text .entry)) (startsOf (now (table .entry))) (sizesOf (now (table .entry))) n prefix second constants x js ks (now (pool .exit)) (startsOf (now (news .exit))) (sizesOf (now (news .exit))) (now (line .exit)) at lines r) ⌝ }
+    ensures renamed { λ _. ⌜ Renamed (sizesOf (now (news .exit))) (now (spots .entry)) 0 (now (spots .exit)) (length (now (spots .entry))) ⌝ }
 {
-    let found = find_columns(text, from);
-    let columns = found.columns;
-    let mut join_at = [0u16; 64];
-    let mut join_lines = [0u16; 64];
-    let Positions::Are(k) = read_positions(pairs, second, columns, &mut join_at, &mut join_lines)
-    else {
-        return Prepared::Outside;
-    };
-    let Positions::Are(m) = read_positions(constants, false, columns, at, lines) else {
-        return Prepared::Outside;
-    };
     let end = name_columns(
         text,
         from,
-        found.inner,
-        columns,
+        outline.inner,
+        outline.columns,
         table,
         n,
         words,
         nodes,
         spots,
         prefix,
-        &join_at,
-        k,
+        joins,
+        outline.joins,
         pool,
         news,
         line,
     );
-    Prepared::Ready(Side {
-        inner: found.inner,
-        columns,
-        constant: position_mask(at, m, columns),
-        joined: position_mask(&join_at, k, columns),
-        constants: m,
+    Side {
+        inner: outline.inner,
+        columns: outline.columns,
+        constant: outline.constant,
+        joined: outline.joined,
+        constants: outline.constants,
         end,
-    })
+    }
 }

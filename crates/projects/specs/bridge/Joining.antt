@@ -1,9 +1,9 @@
 -- What the calls that join know once their texts are checked, and what is to come of it. Assumes nothing.
 use Prim.Native.Nat.{ℕ, _*_, _≤_}
 use mathlib.Core.Path.{_≡_}
-use mathlib.Core.List.{List, [], _∷_, _++_}
-use mathlib.Core.Bool.{true, false}
-use lib.ListN.{length, take}
+use mathlib.Core.List.{List, _++_}
+use mathlib.Core.Bool.{Bool, true, false}
+use lib.ListN.{length}
 use Rattle.text.specs.Text.{Bytes}
 use Rattle.algebra.specs.Tree.{Pattern}
 use Rattle.algebra.specs.Query.{Query, Pair}
@@ -23,8 +23,12 @@ use Rattle.merging.specs.Sides.{Constant, Pair as Joined}
 use Rattle.merging.specs.Request.{Projection, tree, readJoins, readConstants, joinPositions, byPosition, constantsIn, positions, request, allInside}
 use Rattle.merging.specs.Merge.{lists, mergeProjectPatterns, mergeTrees}
 use Rattle.merging.specs.Push.{pushConstantsInProjectPattern}
+use Rattle.sides.specs.declared.side.Outline.{Outline}
+use Rattle.sides.specs.declared.side.Side.{Side}
+use Rattle.sides.specs.bridge.Columns.{columnsIn, maskOf, picked, goneBits}
+use Rattle.walking.specs.bridge.Renamed.{Renamed}
 use Rattle.sides.specs.bridge.Listed.{Listed, positionsIn}
-use Rattle.sides.specs.bridge.Side.{TreeIn}
+use Rattle.sides.specs.bridge.Side.{TreeIn, OutlineIs, SideIs}
 
 -- a tree stands in a text from a place on, and no project at its root has more than 64 columns
 pub record Stands (s : Bytes) (at : ℕ) (a l : List ℕ) (n : ℕ) (v : List (List ℕ)) (p : Pattern) : Type 0 where
@@ -66,11 +70,37 @@ pub record KnownTerms (s : Bytes) : Type 0 where
 
 -- ---- one side
 
+-- a side that was found: its projection stands in its text, its constants were read, and its positions are inside
+pub record Outlined (s : Bytes) (from : ℕ) (a l : List ℕ) (n : ℕ) (v : List (List ℕ)) (second : Bool) (constants : Bytes) (joins at lines : List ℕ) (o : Outline) (x : Projection) (js ks : List Pair) : Type 0 where
+  pub stands : Stands s from a l n v (tree x)
+  pub terms : Terms constants ks
+  pub joins-inside : inside (x .columns) (positionsIn second js) ≡ true
+  pub terms-inside : inside (x .columns) (positionsIn false ks) ≡ true
+  pub joins-long : length joins ≡ 64
+  pub long : length at ≡ 64
+  pub is : OutlineIs s second constants x js ks joins at lines o
+
+-- a side that is ready to be written: its projection stood in its text by the variables that were noted, which are renamed now; its constants were read,
+-- its positions are inside, and what was found of it is so
+pub record Sided (s : Bytes) (from : ℕ) (a l : List ℕ) (n : ℕ) (v : List (List ℕ)) (prefix : ℕ) (second : Bool) (constants : Bytes) (pool targets spans line at lines : List ℕ) (side : Side) (x : Projection) (js ks : List Pair) : Type 0 where
+  pub noted : List (List ℕ)
+  pub stands : Stands s from a l n noted (tree x)
+  pub renamed : Renamed spans noted 0 v (length noted)
+  pub terms : Terms constants ks
+  pub joins-inside : inside (x .columns) (positionsIn second js) ≡ true
+  pub terms-inside : inside (x .columns) (positionsIn false ks) ≡ true
+  pub long : length at ≡ 64
+  pub is : SideIs s a l n prefix second constants x js ks pool targets spans line at lines side
+
+-- the tree with its constants
+abbrev pub pushedTree : Projection → List Pair → Pattern
+pushedTree x ks = pushConstantsInProjectPattern x (byPosition (constantsIn ks))
+
 -- 3 if a position is outside, else what stands before the tree and the tree with its constants
 abbrev pub pushedBehind : Bytes → Projection → List Pair → Outcome
 pushedBehind head x ks =
     refusedUnless 3 (inside (x .columns) (positions (byPosition (constantsIn ks))))
-    (written (head ++ layout (pushConstantsInProjectPattern x (byPosition (constantsIn ks)))))
+    (written (head ++ layout (pushedTree x ks)))
 
 -- ---- two sides
 
@@ -80,6 +110,14 @@ pub record Lists (pairs leftConstants rightConstants : Bytes) (js ks ls : List P
   pub left-terms : Terms leftConstants ks
   pub right-terms : Terms rightConstants ls
 
+-- the right columns that go: those with a constant, and those whose new names are joined columns' on the left
+abbrev pub goneMask : List ℕ → Side → List ℕ → Side → ℕ
+goneMask lline l rline r = maskOf (goneBits (r .constant) (picked 1 (l .joined) (columnsIn lline (l .end))) (columnsIn rline (r .end)))
+
+-- the merged tree
+abbrev pub mergedTree : Projection → Projection → List Pair → List Pair → List Pair → Pattern
+mergedTree x y js ks ls = mergeProjectPatterns (request x y (joinPositions js) (byPosition (constantsIn ks)) (byPosition (constantsIn ls)))
+
 -- 4, 3, else what stands before the left tree and the merged tree
 abbrev pub mergedBehind : Bytes → Pattern → Pattern → List Pair → List Pair → List Pair → Outcome
 mergedBehind head p q js ks ls = mergeTrees p q (joinPositions js) (byPosition (constantsIn ks)) (byPosition (constantsIn ls)) (λ t. written (head ++ layout t))
@@ -88,7 +126,7 @@ mergedBehind head p q js ks ls = mergeTrees p q (joinPositions js) (byPosition (
 abbrev pub joinedBehind : Bytes → Projection → Projection → List Pair → List Pair → List Pair → Outcome
 joinedBehind head x y js ks ls =
     refusedUnless 3 (allInside (request x y (joinPositions js) (byPosition (constantsIn ks)) (byPosition (constantsIn ls))))
-    (written (head ++ layout (mergeProjectPatterns (request x y (joinPositions js) (byPosition (constantsIn ks)) (byPosition (constantsIn ls))))))
+    (written (head ++ layout (mergedTree x y js ks ls)))
 
 -- ---- the lists of a merge, checked
 

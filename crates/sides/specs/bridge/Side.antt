@@ -3,7 +3,7 @@ use Prim.Native.Nat.{ℕ, zero, suc, _≤_}
 use mathlib.Core.Path.{_≡_}
 use mathlib.Core.List.{List, [], _∷_, map}
 use mathlib.Core.Bool.{Bool, true, false, _&&_}
-use lib.ListN.{length, getD}
+use lib.ListN.{length, getD, take}
 use Rattle.text.specs.Text.{Bytes, Line, linesFrom}
 use Rattle.text.specs.Word.{bytes}
 use Rattle.text.specs.Field.{decimal}
@@ -20,8 +20,9 @@ use Rattle.scoping.specs.bridge.Becomes.{replacement}
 use Rattle.merging.specs.Request.{Projection, tree}
 use Rattle.merging.specs.Names.{from as countFrom, isAt}
 use Rattle.sides.specs.declared.side.Side.{Side}
-use Rattle.sides.specs.declared.side.Prepared.{Prepared}
-use Rattle.sides.specs.declared.side.Prepared.the-variants.{Outside, Ready}
+use Rattle.sides.specs.declared.side.Outline.{Outline}
+use Rattle.sides.specs.declared.side.Finding.{Finding}
+use Rattle.sides.specs.declared.side.Finding.the-variants.{Outside, Found}
 use Rattle.sides.specs.bridge.Columns.{columnsIn, maskOf}
 use Rattle.sides.specs.bridge.Listed.{Listed, positionsIn, Kept}
 
@@ -55,17 +56,38 @@ maskAt ps c = maskOf (map (λ i. isAt i ps) (countFrom 0 c))
 abbrev pub newNames : ℕ → Bool → Projection → List Pair → Bytes → Bytes
 newNames prefix second x js = sideName prefix (x .columns) (x .inner) (positionsIn second js)
 
+-- ---- finding
+
 -- what a side is made of: a projection within the bounds, and two lists that were checked
-pub record Asked (s : Bytes) (at : ℕ) (a l : List ℕ) (n : ℕ) (v : List (List ℕ)) (pairs constants : Bytes) : Type 0 where
+pub record Asked (s : Bytes) (at : ℕ) (pairs constants : Bytes) : Type 0 where
   pub projection : Projection
-  pub stands : TreeIn s at a l n v (tree projection)
+  pub lines : linesFrom s at ≡ put (tree projection) []
   pub narrow : length (projection .columns) ≤ 64
   pub joins : List Pair
   pub joins-listed : Listed pairs joins
   pub terms : List Pair
   pub terms-listed : Listed constants terms
 
--- what was found for a projection, a join list and constants
+-- what is found before its names: its columns, the positions of both lists, and which columns they mark
+pub record OutlineIs (text : Bytes) (second : Bool) (constants : Bytes) (x : Projection) (js ks : List Pair) (joins at lines : List ℕ) (o : Outline) : Type 0 where
+  pub width : o .columns ≡ length (x .columns)
+  pub constant : o .constant ≡ maskAt (positionsIn false ks) (length (x .columns))
+  pub joined : o .joined ≡ maskAt (positionsIn second js) (length (x .columns))
+  pub high : o .inner ≤ length text
+  pub inner : linesFrom text (o .inner) ≡ put (x .inner) []
+  pub few : o .joins ≤ 64
+  pub positions : take (o .joins) joins ≡ positionsIn second js
+  pub kept : Kept constants ks false at lines (o .constants)
+
+-- a position is outside the projection, or all are inside
+unfoldable pub FindingIs : Bytes → Bool → Bytes → Projection → List Pair → List Pair → List ℕ → List ℕ → List ℕ → Finding → Type 0
+FindingIs text second constants x js ks joins at lines Outside = (inside (x .columns) (positionsIn second js) && inside (x .columns) (positionsIn false ks)) ≡ false
+FindingIs text second constants x js ks joins at lines (Found o) =
+    (inside (x .columns) (positionsIn second js) ≡ true) × (inside (x .columns) (positionsIn false ks) ≡ true) × OutlineIs text second constants x js ks joins at lines o
+
+-- ---- naming
+
+-- what is known of a side that has its names
 pub record SideIs (text : Bytes) (starts sizes : List ℕ) (n prefix : ℕ) (second : Bool) (constants : Bytes) (x : Projection) (js ks : List Pair) (pool targets spans line at lines : List ℕ) (s : Side) : Type 0 where
   pub renames : Renames (listing text starts sizes n) n pool targets spans (newNames prefix second x js)
   pub columns : columnsIn line (s .end) ≡ map (newNames prefix second x js) (x .columns)
@@ -76,14 +98,6 @@ pub record SideIs (text : Bytes) (starts sizes : List ℕ) (n prefix : ℕ) (sec
   pub high : s .inner ≤ length text
   pub inner : linesFrom text (s .inner) ≡ put (x .inner) []
   pub kept : Kept constants ks false at lines (s .constants)
-
--- a position is outside the projection, or what was found is ready
-unfoldable pub PreparedIs : Bytes → List ℕ → List ℕ → ℕ → ℕ → Bool → Bytes → Projection → List Pair → List Pair → List ℕ → List ℕ → List ℕ → List ℕ → List ℕ → List ℕ → Prepared → Type 0
-PreparedIs text starts sizes n prefix second constants x js ks pool targets spans line at lines Outside =
-    (inside (x .columns) (positionsIn second js) && inside (x .columns) (positionsIn false ks)) ≡ false
-PreparedIs text starts sizes n prefix second constants x js ks pool targets spans line at lines (Ready s) =
-    (inside (x .columns) (positionsIn second js) ≡ true) × (inside (x .columns) (positionsIn false ks) ≡ true)
-    × SideIs text starts sizes n prefix second constants x js ks pool targets spans line at lines s
 
 -- ---- the lines that are written
 
