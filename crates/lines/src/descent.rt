@@ -32,10 +32,7 @@ ghost use Rattle.lines.specs.bridge.Walks.{Notes, HeadNotes, entryOf, ma
 // A line of a sort, with all that it asks for; or, where it is not wanted whole, the line alone.
 fn check_line(
     p: Place,
-    level: u8,
-    sort: u8,
-    width: usize,
-    mark: u8,
+    w: Wanted,
     s: &[u8],
     words: &[WordRow; 56],
     table: &mut [Entry; 1024],
@@ -44,20 +41,14 @@ fn check_line(
     nodes: &mut [Node],
     whole: bool,
 ) -> Place
-    requires { ⌜ (sort ≤ 11) × Ready (now s) p × Worded (now words) ⌝ }
-    ensures { λ r. ⌜ (whole ≡ true → Runs (now (s .entry)) (now (table .entry)) (now (hints .entry)) p (want (sortAt sort) level width ∷ []) [] (now (table .exit)) (now (hints .exit)) r) ⌝ }
+    requires { ⌜ (w .sort ≤ 11) × Ready (now s) p × Worded (now words) ⌝ }
+    ensures { λ r. ⌜ (whole ≡ true → Runs (now (s .entry)) (now (table .entry)) (now (hints .entry)) p (want (sortAt (w .sort)) (w .level) (w .width) ∷ []) [] (now (table .exit)) (now (hints .exit)) r) ⌝ }
     ensures ready { λ r. ⌜ (r .fault ≡ 0 → (p .cursor .at < r .cursor .at) × Ready (now (s .entry)) r) ⌝ }
-    ensures walks { λ r. ⌜ (whole ≡ true → r .fault ≡ 0 → sort ≤ 7 → Notes (now (s .entry)) (now (words .entry)) (now (table .entry)) (now (spots .entry)) (now (nodes .entry)) p (now (table .exit)) (now (spots .exit)) (now (nodes .exit)) r (entryOf level sort (markAt mark))) ⌝ }
-    ensures deep { λ r. ⌜ (r .fault ≡ 0 → opens (sortAt sort) ≡ true → level ≡ 0 → ⊥) ⌝ }
-    ensures head { λ r. ⌜ (whole ≡ false → sort ≡ 7 → Runs (now (s .entry)) (now (table .entry)) (now (hints .entry)) p (want (sortAt sort) level width ∷ []) (want (sortAt 2) (below sort level) 0 ∷ []) (now (table .exit)) (now (hints .exit)) r) ⌝ }
-    ensures shown { λ r. ⌜ (whole ≡ false → sort ≡ 7 → markAt mark ≡ visible → HeadNotes (now (s .entry)) (now (words .entry)) (now (table .entry)) (now (spots .entry)) (now (nodes .entry)) p (now (table .exit)) (now (spots .exit)) (now (nodes .exit)) r) ⌝ }
+    ensures walks { λ r. ⌜ (whole ≡ true → r .fault ≡ 0 → w .sort ≤ 7 → Notes (now (s .entry)) (now (words .entry)) (now (table .entry)) (now (spots .entry)) (now (nodes .entry)) p (now (table .exit)) (now (spots .exit)) (now (nodes .exit)) r (entryOf (w .level) (w .sort) (markAt (w .mark)))) ⌝ }
+    ensures deep { λ r. ⌜ (r .fault ≡ 0 → opens (sortAt (w .sort)) ≡ true → w .level ≡ 0 → ⊥) ⌝ }
+    ensures head { λ r. ⌜ (whole ≡ false → w .sort ≡ 7 → Runs (now (s .entry)) (now (table .entry)) (now (hints .entry)) p (want (sortAt (w .sort)) (w .level) (w .width) ∷ []) (want (sortAt 2) (below (w .sort) (w .level)) 0 ∷ []) (now (table .exit)) (now (hints .exit)) r) ⌝ }
+    ensures shown { λ r. ⌜ (whole ≡ false → w .sort ≡ 7 → markAt (w .mark) ≡ visible → HeadNotes (now (s .entry)) (now (words .entry)) (now (table .entry)) (now (spots .entry)) (now (nodes .entry)) p (now (table .exit)) (now (spots .exit)) (now (nodes .exit)) r) ⌝ }
 {
-    let w = Wanted {
-        sort,
-        level,
-        width,
-        mark,
-    };
     let t = take_line(p, w, s, words, table, hints, spots, nodes);
     let q = t.place;
     if q.fault != 0 {
@@ -69,8 +60,8 @@ fn check_line(
     if t.row.below == 0 {
         return q;
     }
-    let d = below_level(sort, level);
-    check_below(t, d, mark, s, words, table, hints, spots, nodes)
+    let d = below_level(w.sort, w.level);
+    check_below(t, d, w.mark, s, words, table, hints, spots, nodes)
 }
 
 // The groups of lines that a taken line asks for: the cursor awaits each in turn.
@@ -148,10 +139,12 @@ fn check_lines(
         let mark = mark_below(w.sort, flag, c.awaited == 1, w.mark);
         q = check_line(
             q,
-            w.level,
-            w.sort,
-            w.width,
-            mark,
+            Wanted {
+                sort: w.sort,
+                level: w.level,
+                width: w.width,
+                mark,
+            },
             s,
             words,
             table,

@@ -162,7 +162,7 @@ pub +check-below+check-line+check-lines-spec : {M : Type 1} → statement M
           λ w. absurd (true≢false (sym w ∙ n)),
           (
             λ z. e .1 .0 z .deep,
-            (λ w h. D.head-goes _ _ _ _ (c12 .args .p) _ _ _ (want (sortAt (c12 .args .sort)) (c12 .args .level) (c12 .args .width) ∷ []) (below (c12 .args .sort) (c12 .args .level)) (t .row) (t .first) (t .second) _ (λ z. e .1 .0 z .head h) (e .0), λ w h v z. W.head-alone _ _ _ _ t (c12 .args .sort) (c12 .args .mark) h v (e .1 .0 z .head h) (e .1 .1 z (omega (arith, h)))),
+            (λ w h. D.head-goes _ _ _ _ (c12 .args .p) _ _ _ (want (sortAt (c12 .args .w .sort)) (c12 .args .w .level) (c12 .args .w .width) ∷ []) (below (c12 .args .w .sort) (c12 .args .w .level)) (t .row) (t .first) (t .second) _ (λ z. e .1 .0 z .head h) (e .0), λ w h v z. W.head-alone _ _ _ _ t (c12 .args .w .sort) (c12 .args .w .mark) h v (e .1 .0 z .head h) (e .1 .1 z (omega (arith, h)))),
           ),
         ),
       ),
@@ -170,10 +170,10 @@ pub +check-below+check-line+check-lines-spec : {M : Type 1} → statement M
     (λ c. search needs)
     (λ c. search needs)
     (λ c. let c2 = c .before .before in let c8 = c2 .before .before .before .before .before .before in let c14 = c8 .before .before .before .before .before .before in let t = c8 .take-line .result in let e = c8 .take-line .ensures in let a = not-false (c14 .args .whole) (c2 .if2 .left) in (
-      λ w ρ ws m st. D.alone-went _ ρ ws _ (t .row .below) (below (c14 .args .sort) (c14 .args .level)) (t .first) (t .second) _ _ _ _ (c .if3 .taken) (e .0 ρ ws m st),
+      λ w ρ ws m st. D.alone-went _ ρ ws _ (t .row .below) (below (c14 .args .w .sort) (c14 .args .w .level)) (t .first) (t .second) _ _ _ _ (c .if3 .taken) (e .0 ρ ws m st),
       (
         λ z. let k = e .1 .0 z in let b = k .behind in (omega (arith, b), k .ready),
-        (λ w z low. W.entry-alone _ _ _ _ (c14 .args .level) (c14 .args .sort) (c14 .args .mark) t (e .1 .1 z low) (c .if3 .taken), (λ z. e .1 .0 z .deep, (λ w. absurd (true≢false (sym a ∙ w)), λ w. absurd (true≢false (sym a ∙ w))))),
+        (λ w z low. W.entry-alone _ _ _ _ (c14 .args .w .level) (c14 .args .w .sort) (c14 .args .w .mark) t (e .1 .1 z low) (c .if3 .taken), (λ z. e .1 .0 z .deep, (λ w. absurd (true≢false (sym a ∙ w)), λ w. absurd (true≢false (sym a ∙ w))))),
       ),
     ))
     (λ c κs. let c14 = c .before .before .before .before .before .before .before .before .before .before .before .before .before .before in c14 .pre .1 .0)
@@ -190,10 +190,10 @@ pub +check-below+check-line+check-lines-spec : {M : Type 1} → statement M
     let e = c16 .take-line .ensures in
     let d = e .1 .0 (c11 .if1 .left) in
     let a = not-false (c22 .args .whole) (c10 .if2 .left) in (
-      λ w ρ ws m st. D.below-went _ ρ ws _ (t .row .below) (below (c22 .args .sort) (c22 .args .level)) (t .first) (t .second) _ _ _ _ _ _ _ _ _ (c7 .below-level .ensures) (e .0 ρ ws m st) (c11 .if1 .left) (c2 .check-below .ensures .0),
+      λ w ρ ws m st. D.below-went _ ρ ws _ (t .row .below) (below (c22 .args .w .sort) (c22 .args .w .level)) (t .first) (t .second) _ _ _ _ _ _ _ _ _ (c7 .below-level .ensures) (e .0 ρ ws m st) (c11 .if1 .left) (c2 .check-below .ensures .0),
       (
         λ z. let b = d .behind in let w = c2 .check-below .ensures .1 .0 z in let v = w .0 in (omega (arith, b, v), w .1),
-        (λ w z low. W.entry-below _ _ _ _ (c22 .args .level) (c22 .args .sort) (c22 .args .mark) t (e .1 .1 (c11 .if1 .left) low) _ (c7 .below-level .ensures) _ _ (c2 .check-below .ensures .1 .1 z (d .trees low)), (λ z. d .deep, (λ w. absurd (true≢false (sym a ∙ w)), λ w. absurd (true≢false (sym a ∙ w))))),
+        (λ w z low. W.entry-below _ _ _ _ (c22 .args .w .level) (c22 .args .w .sort) (c22 .args .w .mark) t (e .1 .1 (c11 .if1 .left) low) _ (c7 .below-level .ensures) _ _ (c2 .check-below .ensures .1 .1 z (d .trees low)), (λ z. d .deep, (λ w. absurd (true≢false (sym a ∙ w)), λ w. absurd (true≢false (sym a ∙ w))))),
       ),
     )))
     λ t. check-lines-lts.spec (
@@ -221,8 +221,8 @@ pub +check-below+check-line+check-lines-spec : {M : Type 1} → statement M
     ))
     (λ c κs. search needs)
     (λ c κs. let c9 = c .before .before .before .before .before .before .before .before .before in let c11 = c9 .before .before in (let p = c11 .pre .0 in let x = c9 .loop .inv .1 in omega (arith, p, x), (c11 .pre .1 .0, c9 .loop .inv .0, c11 .pre .1 .2)))
-    (λ c. let c4 = c .before .before .before .before in let c14 = c4 .before .before .before .before .before .before .before .before .before .before in c4 .check-line .kept .1 .1 .1 .1 .1 .1 .1 .1 .1 .0 ∙ c14 .loop .inv .3)
-    (λ c. let c4 = c .before .before .before .before in let c14 = c4 .before .before .before .before .before .before .before .before .before .before in c4 .check-line .kept .1 .1 .1 .1 .1 .1 .1 .1 .1 .1 .0 ∙ c14 .loop .inv .4)
+    (λ c. let c4 = c .before .before .before .before in let c14 = c4 .before .before .before .before .before .before .before .before .before .before in c4 .check-line .kept .1 .1 .1 .1 .1 .1 .0 ∙ c14 .loop .inv .3)
+    (λ c. let c4 = c .before .before .before .before in let c14 = c4 .before .before .before .before .before .before .before .before .before .before in c4 .check-line .kept .1 .1 .1 .1 .1 .1 .1 .0 ∙ c14 .loop .inv .4)
     (λ c. let c4 = c .before .before .before .before in let c12 = c4 .before .before .before .before .before .before .before .before in let c14 = c12 .before .before in let c16 = c14 .before .before in let n = c .if2 .taken in let v = c14 .loop .inv in let e = c4 .check-line .ensures in (
       (λ wh. D.lines-stop _ _ _ _ _ _ _ _ (want (sortAt (c16 .args .w .sort)) (c16 .args .w .level) (c16 .args .w .width)) (c16 .args .p .cursor .awaited) _ _ (v .2 wh) (v .0 .going) (c12 .if1 .taken) _ _ _ _ (e .0 wh) n),
       (
@@ -258,8 +258,8 @@ pub +check-below+check-line+check-lines-spec : {M : Type 1} → statement M
       D.ready-moved _ _ _ same (w .1),
       (let y = w .0 in let x = v .1 in omega (arith, y, x, at)),
       (λ wh. D.lines-moved _ _ _ _ _ _ _ _ (want (sortAt (c17 .args .w .sort)) (c17 .args .w .level) (c17 .args .w .width)) (c17 .args .p .cursor .awaited) _ _ _ same _ fewer (D.lines-one _ _ _ _ _ _ _ _ (want (sortAt (c17 .args .w .sort)) (c17 .args .w .level) (c17 .args .w .width)) (c17 .args .p .cursor .awaited) _ _ (v .2 wh) (v .0 .going) (c13 .if1 .taken) _ _ _ _ (e .0 wh))),
-      c5 .check-line .kept .1 .1 .1 .1 .1 .1 .1 .1 .1 .0 ∙ v .3,
-      c5 .check-line .kept .1 .1 .1 .1 .1 .1 .1 .1 .1 .1 .0 ∙ v .4,
+      c5 .check-line .kept .1 .1 .1 .1 .1 .1 .0 ∙ v .3,
+      c5 .check-line .kept .1 .1 .1 .1 .1 .1 .1 .0 ∙ v .4,
       (λ wh low. W.left-moved _ _ _ _ _ _ _ (c17 .args .p .cursor .awaited) _ _ at fewer (W.left-next _ _ _ _ _ _ _ (c17 .args .w .level) (c17 .args .flag) (c17 .args .w .mark) (c17 .args .w .sort) (c17 .args .p .cursor .awaited) (c15 .loop .q .cursor .awaited) (c10 .mark-below .result) (eqb (c15 .loop .q .cursor .awaited) 1) (v .5 wh low) (c13 .if1 .taken) (W.last-one _ (c13 .if1 .taken)) (c10 .mark-below .ensures) low (e .1 .1 .1 .0 z) (e .1 .1 .0 wh z (omega (arith, low))))),
       (let x = v .6 in omega (arith, x, fewer)),
       (λ lt. ((let y = w .0 in let x = v .1 in omega (arith, y, x, at)), e .1 .1 .1 .0 z)),
