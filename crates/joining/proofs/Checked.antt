@@ -1,9 +1,11 @@
 -- A text of either form: what its check says of it, and where its tree stands. Assumes nothing.
 use Prim.Native.Nat.{ℕ, _≤_}
 use mathlib.Core.Path.{_≡_, sym, ap, subst}
-use mathlib.Core.List.{List}
+use mathlib.Core.List.{List, []}
 use mathlib.Core.Bool.{Bool, true, false}
-use lib.ListN.{length, take}
+use native.Mathlib.Omega.{arith}
+use lib.ListN.{length, take, set}
+use lib.Seq.{getD-set-same, getD-set-other}
 use Rattle.text.specs.Text.{Bytes}
 use Rattle.algebra.specs.Query.{Query}
 use Rattle.algebra.specs.Reader.{reads, refuses, malformed, overBound}
@@ -17,9 +19,11 @@ use Rattle.heads.specs.bridge.TreeAt.{TreeAt}
 use Rattle.walking.specs.bridge.Renamed.{Shaped}
 use Rattle.merging.specs.Request.{made}
 use Rattle.merging.specs.Merge.{mergeable}
+use Rattle.names.specs.bridge.Names.{startsOf, sizesOf}
+use Rattle.projects.specs.declared.merge.Standing.{Standing}
 use Rattle.projects.specs.bridge.Joining.{Stands, HasRoom, HasNodes}
 use Rattle.projects.proofs.Known.{tree-stands, query-stands, tree-count, query-count, good-tree, good-query, tree-nodes, query-nodes, tree-shaped, query-shaped}
-use Rattle.joining.specs.bridge.Form.{headless, readForm, headOf, mayMerge, NotedAs, Known, StartsAt}
+use Rattle.joining.specs.bridge.Form.{headless, readForm, headOf, mayMerge, NotedAs, Known, StartsAt, KnownAt}
 
 -- ---- the functions of a form, by its two ways
 
@@ -110,3 +114,19 @@ module _ (s : Bytes) (a l : List ℕ) (n : ℕ) (v : List (List ℕ)) where
   unfolding Known said StartsAt
   said-head false k from w = ap (λ (i : ℕ). take i s) w
   said-head true k from w = w .1 (k .query) (k .read) .head
+
+-- ---- the tables of two texts
+
+module _ (query : Bool) (s : Bytes) (t : Standing) (tables : List (List (List ℕ))) (x : List (List ℕ)) (v : List (List ℕ)) where
+  -- the second is filled, the first stays
+  pub known-first : KnownAt 0 query s t tables v → KnownAt 0 query s t (set tables 1 x) v
+  known-first k = record {
+    known = subst (λ (e : List (List ℕ)). Known query s (startsOf e) (sizesOf e) (t .n) v) (sym (getD-set-other tables 1 0 x [] (λ e. omega arith))) (k .known);
+    starts = k .starts;
+  }
+
+  pub known-second : length tables ≡ 2 → Known query s (startsOf x) (sizesOf x) (t .n) v → StartsAt query s (t .from) → KnownAt 1 query s t (set tables 1 x) v
+  known-second two k w = record {
+    known = subst (λ (e : List (List ℕ)). Known query s (startsOf e) (sizesOf e) (t .n) v) (sym (getD-set-same tables 1 x [] (omega arith))) k;
+    starts = w;
+  }

@@ -10,22 +10,24 @@ use lines::fields::Spot;
 use lists::check_constants;
 use lists::check_joins;
 use names::Entry;
+use projects::merge::Standing;
+use projects::merge::Texts;
 use projects::merge::merge_projects;
 use sides::project::is_project;
 use text::piece;
 use words::table::WordRow;
 use words::table::all_words;
+ghost use mathlib.Core.Path.{_≡_};
 ghost use mathlib.Core.List.{List};
 ghost use Prim.Native.Nat.{_≤_};
 ghost use lib.ListN.{length};
 ghost use Rattle.algebra.specs.Query.{Pair};
 ghost use Rattle.answers.specs.Outcome.{Answered};
 ghost use Rattle.algebra.specs.Tree.{Pattern};
-ghost use Rattle.projects.specs.bridge.Joining.{Stands, HasRoom, HasNodes, Lists, mergedBehind, ListsRead, TermsChecked, ListsChecked};
-ghost use Rattle.names.specs.bridge.Names.{startsOf, sizesOf};
+ghost use Rattle.projects.specs.bridge.Joining.{StandsAt, HasRoom, HasNodes, Lists, mergedBehind, ListsRead, TermsChecked, ListsChecked};
 ghost use Rattle.words.specs.bridge.Words.{Worded};
 ghost use Rattle.walking.specs.bridge.Renamed.{Shaped};
-ghost use Rattle.joining.specs.bridge.Form.{mergeOutcome, Known};
+ghost use Rattle.joining.specs.bridge.Form.{mergeOutcome, KnownAt};
 
 // The check of two constant lists, in the specification's order.
 fn check_terms(left_constants: &[u8], right_constants: &[u8]) -> Check
@@ -56,15 +58,11 @@ fn merge_trees(
     words: &[WordRow; 56],
     head: &[u8],
     left: &[u8],
-    left_from: usize,
-    left_table: &[Entry; 1024],
-    left_n: usize,
+    right: &[u8],
+    texts: Texts,
+    tables: &[[Entry; 1024]; 2],
     left_nodes: &[Node],
     left_spots: &mut [Spot],
-    right: &[u8],
-    right_from: usize,
-    right_table: &[Entry; 1024],
-    right_n: usize,
     right_nodes: &[Node],
     right_spots: &mut [Spot],
     pairs: &[u8],
@@ -72,28 +70,24 @@ fn merge_trees(
     right_constants: &[u8],
     out: &mut [u8],
 ) -> Answer
-    requires { ⌜ ((p : Pattern) × Stands (now left) «left_from» (startsOf (now «left_table»)) (sizesOf (now «left_table»)) «left_n» (now «left_spots») p) × ((q : Pattern) × Stands (now right) «right_from» (startsOf (now «right_table»)) (sizesOf (now «right_table»)) «right_n» (now «right_spots») q) × ListsRead (now pairs) (now «left_constants») (now «right_constants») × Worded (now words) × Shaped (now words) (now «left_nodes») (length (now «left_nodes»)) (length (now «left_spots»)) × Shaped (now words) (now «right_nodes») (length (now «right_nodes»)) (length (now «right_spots»)) ⌝ }
-    ensures { λ r. ⌜ ((p q : Pattern) (js ks ls : List Pair) → Stands (now (left .entry)) «left_from» (startsOf (now («left_table» .entry))) (sizesOf (now («left_table» .entry))) «left_n» (now («left_spots» .entry)) p → Stands (now (right .entry)) «right_from» (startsOf (now («right_table» .entry))) (sizesOf (now («right_table» .entry))) «right_n» (now («right_spots» .entry)) q → Lists (now (pairs .entry)) (now («left_constants» .entry)) (now («right_constants» .entry)) js ks ls → Answered (mergedBehind (now (head .entry)) p q js ks ls) (now (out .entry)) (now (out .exit)) r) ⌝ }
+    requires { ⌜ ((p : Pattern) × StandsAt 0 (now left) (texts .left) (now tables) (now «left_spots») p) × ((q : Pattern) × StandsAt 1 (now right) (texts .right) (now tables) (now «right_spots») q) × ListsRead (now pairs) (now «left_constants») (now «right_constants») × Worded (now words) × Shaped (now words) (now «left_nodes») (length (now «left_nodes»)) (length (now «left_spots»)) × Shaped (now words) (now «right_nodes») (length (now «right_nodes»)) (length (now «right_spots»)) ⌝ }
+    ensures { λ r. ⌜ ((p q : Pattern) (js ks ls : List Pair) → StandsAt 0 (now (left .entry)) (texts .left) (now (tables .entry)) (now («left_spots» .entry)) p → StandsAt 1 (now (right .entry)) (texts .right) (now (tables .entry)) (now («right_spots» .entry)) q → Lists (now (pairs .entry)) (now («left_constants» .entry)) (now («right_constants» .entry)) js ks ls → Answered (mergedBehind (now (head .entry)) p q js ks ls) (now (out .entry)) (now (out .exit)) r) ⌝ }
 {
-    if !is_project(left, left_from) {
+    if !is_project(left, texts.left.from) {
         return Answer::NotProject;
     }
-    if !is_project(right, right_from) {
+    if !is_project(right, texts.right.from) {
         return Answer::NotProject;
     }
     merge_projects(
         words,
         head,
         left,
-        left_from,
-        left_table,
-        left_n,
+        right,
+        texts,
+        tables,
         left_nodes,
         left_spots,
-        right,
-        right_from,
-        right_table,
-        right_n,
         right_nodes,
         right_spots,
         pairs,
@@ -118,13 +112,11 @@ fn merge_heads(
     query: bool,
     words: &[WordRow; 56],
     left: &[u8],
-    left_table: &[Entry; 1024],
-    left_n: usize,
+    right: &[u8],
+    texts: Texts,
+    tables: &[[Entry; 1024]; 2],
     left_nodes: &[Node],
     left_spots: &mut [Spot],
-    right: &[u8],
-    right_table: &[Entry; 1024],
-    right_n: usize,
     right_nodes: &[Node],
     right_spots: &mut [Spot],
     pairs: &[u8],
@@ -132,27 +124,21 @@ fn merge_heads(
     right_constants: &[u8],
     out: &mut [u8],
 ) -> Answer
-    requires { ⌜ Known query (now left) (startsOf (now «left_table»)) (sizesOf (now «left_table»)) «left_n» (now «left_spots») × Known query (now right) (startsOf (now «right_table»)) (sizesOf (now «right_table»)) «right_n» (now «right_spots») × ListsRead (now pairs) (now «left_constants») (now «right_constants») × Worded (now words) × Shaped (now words) (now «left_nodes») (length (now «left_nodes»)) (length (now «left_spots»)) × Shaped (now words) (now «right_nodes») (length (now «right_nodes»)) (length (now «right_spots»)) ⌝ }
+    requires { ⌜ KnownAt 0 query (now left) (texts .left) (now tables) (now «left_spots») × KnownAt 1 query (now right) (texts .right) (now tables) (now «right_spots») × ListsRead (now pairs) (now «left_constants») (now «right_constants») × Worded (now words) × Shaped (now words) (now «left_nodes») (length (now «left_nodes»)) (length (now «left_spots»)) × Shaped (now words) (now «right_nodes») (length (now «right_nodes»)) (length (now «right_spots»)) ⌝ }
     ensures { λ r. ⌜ Answered (mergeOutcome query (now (left .entry)) (now (right .entry)) (now (pairs .entry)) (now («left_constants» .entry)) (now («right_constants» .entry))) (now (out .entry)) (now (out .exit)) r ⌝ }
 {
-    let left_from = start_of(query, left);
-    let right_from = start_of(query, right);
-    if !may_merge(query, left, left_from, right, right_from) {
+    if !may_merge(query, left, texts.left.from, right, texts.right.from) {
         return Answer::NotMergeable;
     }
     merge_trees(
         words,
-        piece(left, 0, left_from),
+        piece(left, 0, texts.left.from),
         left,
-        left_from,
-        left_table,
-        left_n,
+        right,
+        texts,
+        tables,
         left_nodes,
         left_spots,
-        right,
-        right_from,
-        right_table,
-        right_n,
         right_nodes,
         right_spots,
         pairs,
@@ -167,13 +153,11 @@ fn merge_listed(
     query: bool,
     words: &[WordRow; 56],
     left: &[u8],
-    left_table: &[Entry; 1024],
-    left_n: usize,
+    right: &[u8],
+    texts: Texts,
+    tables: &[[Entry; 1024]; 2],
     left_nodes: &[Node],
     left_spots: &mut [Spot],
-    right: &[u8],
-    right_table: &[Entry; 1024],
-    right_n: usize,
     right_nodes: &[Node],
     right_spots: &mut [Spot],
     pairs: &[u8],
@@ -181,7 +165,7 @@ fn merge_listed(
     right_constants: &[u8],
     out: &mut [u8],
 ) -> Answer
-    requires { ⌜ Known query (now left) (startsOf (now «left_table»)) (sizesOf (now «left_table»)) «left_n» (now «left_spots») × Known query (now right) (startsOf (now «right_table»)) (sizesOf (now «right_table»)) «right_n» (now «right_spots») × Worded (now words) × Shaped (now words) (now «left_nodes») (length (now «left_nodes»)) (length (now «left_spots»)) × Shaped (now words) (now «right_nodes») (length (now «right_nodes»)) (length (now «right_spots»)) ⌝ }
+    requires { ⌜ KnownAt 0 query (now left) (texts .left) (now tables) (now «left_spots») × KnownAt 1 query (now right) (texts .right) (now tables) (now «right_spots») × Worded (now words) × Shaped (now words) (now «left_nodes») (length (now «left_nodes»)) (length (now «left_spots»)) × Shaped (now words) (now «right_nodes») (length (now «right_nodes»)) (length (now «right_spots»)) ⌝ }
     ensures { λ r. ⌜ Answered (mergeOutcome query (now (left .entry)) (now (right .entry)) (now (pairs .entry)) (now («left_constants» .entry)) (now («right_constants» .entry))) (now (out .entry)) (now (out .exit)) r ⌝ }
 {
     match check_lists(pairs, left_constants, right_constants) {
@@ -189,13 +173,11 @@ fn merge_listed(
             query,
             words,
             left,
-            left_table,
-            left_n,
+            right,
+            texts,
+            tables,
             left_nodes,
             left_spots,
-            right,
-            right_table,
-            right_n,
             right_nodes,
             right_spots,
             pairs,
@@ -213,11 +195,11 @@ fn merge_right(
     query: bool,
     words: &[WordRow; 56],
     left: &[u8],
-    left_table: &[Entry; 1024],
-    left_n: usize,
+    right: &[u8],
+    standing: Standing,
+    tables: &mut [[Entry; 1024]; 2],
     left_nodes: &[Node],
     left_spots: &mut [Spot],
-    right: &[u8],
     right_nodes: &mut [Node],
     right_spots: &mut [Spot],
     pairs: &[u8],
@@ -225,38 +207,41 @@ fn merge_right(
     right_constants: &[u8],
     out: &mut [u8],
 ) -> Answer
-    requires { ⌜ Known query (now left) (startsOf (now «left_table»)) (sizesOf (now «left_table»)) «left_n» (now «left_spots») × HasRoom (now right) (now «right_spots») × Worded (now words) × Shaped (now words) (now «left_nodes») (length (now «left_nodes»)) (length (now «left_spots»)) × HasNodes (now right) (now «right_nodes») ⌝ }
+    requires { ⌜ KnownAt 0 query (now left) standing (now tables) (now «left_spots») × HasRoom (now right) (now «right_spots») × Worded (now words) × Shaped (now words) (now «left_nodes») (length (now «left_nodes»)) (length (now «left_spots»)) × HasNodes (now right) (now «right_nodes») × (length (now tables) ≡ 2) ⌝ }
     ensures { λ r. ⌜ Answered (mergeOutcome query (now (left .entry)) (now (right .entry)) (now (pairs .entry)) (now («left_constants» .entry)) (now («right_constants» .entry))) (now (out .entry)) (now (out .exit)) r ⌝ }
 {
-    let mut right_table = [[0u16; 2]; 1024];
     let mut hints = [0u16; 2048];
     match note_form(
         query,
         words,
         right,
-        &mut right_table,
+        &mut tables[1],
         &mut hints,
         right_spots,
         right_nodes,
     ) {
-        Noting::Good(right_n, k, m) => merge_listed(
-            query,
-            words,
-            left,
-            left_table,
-            left_n,
-            left_nodes,
-            left_spots,
-            right,
-            &right_table,
-            right_n,
-            &right_nodes[..m],
-            &mut right_spots[..k],
-            pairs,
-            left_constants,
-            right_constants,
-            out,
-        ),
+        Noting::Good(n, k, m) => {
+            let from = start_of(query, right);
+            merge_listed(
+                query,
+                words,
+                left,
+                right,
+                Texts {
+                    left: standing,
+                    right: Standing { from, n },
+                },
+                tables,
+                left_nodes,
+                left_spots,
+                &right_nodes[..m],
+                &mut right_spots[..k],
+                pairs,
+                left_constants,
+                right_constants,
+                out,
+            )
+        }
         Noting::Malformed => Answer::Malformed,
         Noting::OverBound => Answer::OverBound,
     }
@@ -267,9 +252,9 @@ fn merge_left(
     query: bool,
     words: &[WordRow; 56],
     left: &[u8],
+    right: &[u8],
     left_nodes: &mut [Node],
     left_spots: &mut [Spot],
-    right: &[u8],
     right_nodes: &mut [Node],
     right_spots: &mut [Spot],
     pairs: &[u8],
@@ -280,33 +265,36 @@ fn merge_left(
     requires { ⌜ HasRoom (now left) (now «left_spots») × HasRoom (now right) (now «right_spots») × Worded (now words) × HasNodes (now left) (now «left_nodes») × HasNodes (now right) (now «right_nodes») ⌝ }
     ensures { λ r. ⌜ Answered (mergeOutcome query (now (left .entry)) (now (right .entry)) (now (pairs .entry)) (now («left_constants» .entry)) (now («right_constants» .entry))) (now (out .entry)) (now (out .exit)) r ⌝ }
 {
-    let mut left_table = [[0u16; 2]; 1024];
+    let mut tables = [[[0u16; 2]; 1024]; 2];
     let mut hints = [0u16; 2048];
     match note_form(
         query,
         words,
         left,
-        &mut left_table,
+        &mut tables[0],
         &mut hints,
         left_spots,
         left_nodes,
     ) {
-        Noting::Good(left_n, k, m) => merge_right(
-            query,
-            words,
-            left,
-            &left_table,
-            left_n,
-            &left_nodes[..m],
-            &mut left_spots[..k],
-            right,
-            right_nodes,
-            right_spots,
-            pairs,
-            left_constants,
-            right_constants,
-            out,
-        ),
+        Noting::Good(n, k, m) => {
+            let from = start_of(query, left);
+            merge_right(
+                query,
+                words,
+                left,
+                right,
+                Standing { from, n },
+                &mut tables,
+                &left_nodes[..m],
+                &mut left_spots[..k],
+                right_nodes,
+                right_spots,
+                pairs,
+                left_constants,
+                right_constants,
+                out,
+            )
+        }
         Noting::Malformed => Answer::Malformed,
         Noting::OverBound => Answer::OverBound,
     }
@@ -335,9 +323,9 @@ pub fn merge_texts(
             query,
             &words,
             left,
+            right,
             &mut left_nodes,
             &mut left_spots,
-            right,
             &mut right_nodes,
             &mut right_spots,
             pairs,
@@ -355,9 +343,9 @@ pub fn merge_texts(
             query,
             &words,
             left,
+            right,
             &mut left_nodes,
             &mut left_spots,
-            right,
             &mut right_nodes,
             &mut right_spots,
             pairs,
@@ -374,9 +362,9 @@ pub fn merge_texts(
         query,
         &words,
         left,
+        right,
         &mut left_nodes,
         &mut left_spots,
-        right,
         &mut right_nodes,
         &mut right_spots,
         pairs,

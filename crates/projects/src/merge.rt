@@ -1,4 +1,4 @@
-// merge_project_patterns for two projects.
+// merge_project_patterns for two projects. What is of one kind for both texts is an array of two, the left text's first.
 use answers::Answer;
 use emit::put_all;
 use lines::fields::Node;
@@ -15,10 +15,10 @@ use sides::side::name_found;
 use sides::writing::put_side;
 use words::table::WordRow;
 ghost use mathlib.Core.Path.{_≡_};
-ghost use Prim.Native.Nat.{ℕ, _-_, _≤_};
+ghost use Prim.Native.Nat.{_-_, _≤_};
 ghost use mathlib.Core.List.{List, [], _∷_, _++_};
 ghost use mathlib.Core.Bool.{true, false};
-ghost use lib.ListN.{length};
+ghost use lib.ListN.{length, getD};
 ghost use lib.Count.{ones};
 ghost use Rattle.text.specs.Text.{Line, textOf};
 ghost use Rattle.text.specs.Word.{bytes};
@@ -29,8 +29,7 @@ ghost use Rattle.answers.specs.Outcome.{Answered};
 ghost use Rattle.scoping.specs.Label.{prefixL, prefixR};
 ghost use Rattle.merging.specs.Request.{Projection, tree};
 ghost use Rattle.sides.specs.bridge.Columns.{columnsIn, picked};
-ghost use Rattle.projects.specs.bridge.Joining.{Stands, Outlined, Sided, goneMask, mergedTree, Lists, joinedBehind, ListsRead};
-ghost use Rattle.names.specs.bridge.Names.{startsOf, sizesOf};
+ghost use Rattle.projects.specs.bridge.Joining.{StandsAt, OutlinedAt, SidedAt, goneMask, mergedTree, Lists, joinedBehind, ListsRead};
 ghost use Rattle.words.specs.bridge.Words.{Worded};
 ghost use Rattle.walking.specs.bridge.Renamed.{Shaped};
 
@@ -38,23 +37,53 @@ const PROJECT: [u8; 7] = *b"project";
 
 const JOIN: [u8; 6] = *b"\njoin\n";
 
-// The head, the merged columns, and the join's line.
-fn put_head(
-    head: &[u8],
-    left_line: &[u8],
-    l: Side,
-    right_line: &[u8],
-    r: Side,
+// Where a text's tree starts, and how many names it has.
+pub struct Standing {
+    pub from: usize,
+    pub n: usize,
+}
+
+// Both texts of a merge.
+pub struct Texts {
+    pub left: Standing,
+    pub right: Standing,
+}
+
+// Two sides that were found.
+struct FoundPair {
+    texts: Texts,
+    left: Outline,
+    right: Outline,
+}
+
+// Two sides that are ready, and which right columns go.
+struct NamedPair {
+    texts: Texts,
+    left: Side,
+    right: Side,
     gone: u64,
-    out: &mut [u8],
-) -> usize
-    requires { ⌜ (l .end ≤ length (now «left_line»)) × (ones (l .constant) ≤ l .columns) × (l .columns - ones (l .constant) ≡ length (picked 0 (l .constant) (columnsIn (now «left_line») (l .end)))) × (r .end ≤ length (now «right_line»)) × (ones gone ≤ r .columns) × (r .columns - ones gone ≡ length (picked 0 gone (columnsIn (now «right_line») (r .end)))) ⌝ }
-    ensures { λ result. ⌜ ((t : List Line) → puts (textOf t) (em result (now (out .exit))) ≡ puts (now (head .entry) ++ textOf ((bytes "project" ∷ (picked 0 (l .constant) (columnsIn (now («left_line» .entry)) (l .end)) ++ picked 0 gone (columnsIn (now («right_line» .entry)) (r .end)))) ∷ (bytes "join" ∷ []) ∷ t)) (em 0 (now (out .entry)))) ⌝ }
+}
+
+// The right columns that go: those with a constant, and those whose new names are joined columns' on the left.
+fn gone_of(lines: &[[u8; 8336]; 2], l: Side, r: Side) -> u64
+    requires { ⌜ (r .end ≤ length (getD (now lines) 1 [])) × (length (columnsIn (getD (now lines) 1 []) (r .end)) ≤ 64) × (l .end ≤ length (getD (now lines) 0 [])) ⌝ }
+    ensures { λ gone. ⌜ gone ≡ goneMask (getD (now (lines .entry)) 0 []) l (getD (now (lines .entry)) 1 []) r ⌝ }
 {
+    joined_mask(&lines[1], r.end, r.constant, &lines[0], l.end, l.joined)
+}
+
+// The head, the merged columns, and the join's line.
+fn put_head(head: &[u8], lines: &[[u8; 8336]; 2], sides: NamedPair, out: &mut [u8]) -> usize
+    requires { ⌜ (sides .left .end ≤ length (getD (now lines) 0 [])) × (ones (sides .left .constant) ≤ sides .left .columns) × (sides .left .columns - ones (sides .left .constant) ≡ length (picked 0 (sides .left .constant) (columnsIn (getD (now lines) 0 []) (sides .left .end)))) × (sides .right .end ≤ length (getD (now lines) 1 [])) × (ones (sides .gone) ≤ sides .right .columns) × (sides .right .columns - ones (sides .gone) ≡ length (picked 0 (sides .gone) (columnsIn (getD (now lines) 1 []) (sides .right .end)))) ⌝ }
+    ensures { λ result. ⌜ ((t : List Line) → puts (textOf t) (em result (now (out .exit))) ≡ puts (now (head .entry) ++ textOf ((bytes "project" ∷ (picked 0 (sides .left .constant) (columnsIn (getD (now (lines .entry)) 0 []) (sides .left .end)) ++ picked 0 (sides .gone) (columnsIn (getD (now (lines .entry)) 1 []) (sides .right .end)))) ∷ (bytes "join" ∷ []) ∷ t)) (em 0 (now (out .entry)))) ⌝ }
+{
+    let l = sides.left;
+    let r = sides.right;
+    let gone = sides.gone;
     let a = put_all(out, 0, head);
     let b = put_all(out, a, &PROJECT);
     let c = put_columns(
-        left_line,
+        &lines[0],
         l.end,
         l.constant,
         0,
@@ -62,7 +91,7 @@ fn put_head(
         out,
         b,
     );
-    let d = put_columns(right_line, r.end, gone, 0, width(r.columns, gone), out, c);
+    let d = put_columns(&lines[1], r.end, gone, 0, width(r.columns, gone), out, c);
     put_all(out, d, &JOIN)
 }
 
@@ -70,61 +99,51 @@ fn put_head(
 fn put_merged(
     head: &[u8],
     left: &[u8],
-    left_table: &[Entry; 1024],
-    left_n: usize,
-    left_spots: &[Spot],
-    left_pool: &[u8],
-    left_news: &[Entry; 1024],
-    l: Side,
-    left_line: &[u8],
-    left_constants: &[u8],
-    left_at: &[u16; 64],
-    left_lines: &[u16; 64],
     right: &[u8],
-    right_table: &[Entry; 1024],
-    right_n: usize,
+    sides: NamedPair,
+    tables: &[[Entry; 1024]; 2],
+    left_spots: &[Spot],
     right_spots: &[Spot],
-    right_pool: &[u8],
-    right_news: &[Entry; 1024],
-    r: Side,
-    right_line: &[u8],
+    pools: &[[u8; 16384]; 2],
+    news: &[[Entry; 1024]; 2],
+    lines: &[[u8; 8336]; 2],
+    left_constants: &[u8],
     right_constants: &[u8],
-    right_at: &[u16; 64],
-    right_lines: &[u16; 64],
-    gone: u64,
+    at: &[[u16; 64]; 2],
+    starts: &[[u16; 64]; 2],
     out: &mut [u8],
 ) -> usize
-    requires { ⌜ ((lf : ℕ) × (rf : ℕ) × (x : Projection) × (y : Projection) × (js : List Pair) × (ks : List Pair) × (ls : List Pair) × Sided (now left) lf (startsOf (now «left_table»)) (sizesOf (now «left_table»)) «left_n» (now «left_spots») prefixL false (now «left_constants») (now «left_pool») (startsOf (now «left_news»)) (sizesOf (now «left_news»)) (now «left_line») (now «left_at») (now «left_lines») l x js ks × Sided (now right) rf (startsOf (now «right_table»)) (sizesOf (now «right_table»)) «right_n» (now «right_spots») prefixR true (now «right_constants») (now «right_pool») (startsOf (now «right_news»)) (sizesOf (now «right_news»)) (now «right_line») (now «right_at») (now «right_lines») r y js ls × (gone ≡ goneMask (now «left_line») l (now «right_line») r)) ⌝ }
-    ensures { λ result. ⌜ ((lf rf : ℕ) (x y : Projection) (js ks ls : List Pair) → Sided (now (left .entry)) lf (startsOf (now («left_table» .entry))) (sizesOf (now («left_table» .entry))) «left_n» (now («left_spots» .entry)) prefixL false (now («left_constants» .entry)) (now («left_pool» .entry)) (startsOf (now («left_news» .entry))) (sizesOf (now («left_news» .entry))) (now («left_line» .entry)) (now («left_at» .entry)) (now («left_lines» .entry)) l x js ks → Sided (now (right .entry)) rf (startsOf (now («right_table» .entry))) (sizesOf (now («right_table» .entry))) «right_n» (now («right_spots» .entry)) prefixR true (now («right_constants» .entry)) (now («right_pool» .entry)) (startsOf (now («right_news» .entry))) (sizesOf (now («right_news» .entry))) (now («right_line» .entry)) (now («right_at» .entry)) (now («right_lines» .entry)) r y js ls → gone ≡ goneMask (now («left_line» .entry)) l (now («right_line» .entry)) r → em result (now (out .exit)) ≡ puts (now (head .entry) ++ layout (mergedTree x y js ks ls)) (em 0 (now (out .entry)))) ⌝ }
+    requires { ⌜ ((x : Projection) × (y : Projection) × (js : List Pair) × (ks : List Pair) × (ls : List Pair) × SidedAt 0 (now left) (sides .texts .left) (now tables) (now «left_spots») prefixL false (now «left_constants») (now pools) (now news) (now lines) (now at) (now starts) (sides .left) x js ks × SidedAt 1 (now right) (sides .texts .right) (now tables) (now «right_spots») prefixR true (now «right_constants») (now pools) (now news) (now lines) (now at) (now starts) (sides .right) y js ls) × (sides .gone ≡ goneMask (getD (now lines) 0 []) (sides .left) (getD (now lines) 1 []) (sides .right)) ⌝ }
+    ensures { λ result. ⌜ ((x y : Projection) (js ks ls : List Pair) → SidedAt 0 (now (left .entry)) (sides .texts .left) (now (tables .entry)) (now («left_spots» .entry)) prefixL false (now («left_constants» .entry)) (now (pools .entry)) (now (news .entry)) (now (lines .entry)) (now (at .entry)) (now (starts .entry)) (sides .left) x js ks → SidedAt 1 (now (right .entry)) (sides .texts .right) (now (tables .entry)) (now («right_spots» .entry)) prefixR true (now («right_constants» .entry)) (now (pools .entry)) (now (news .entry)) (now (lines .entry)) (now (at .entry)) (now (starts .entry)) (sides .right) y js ls → em result (now (out .exit)) ≡ puts (now (head .entry) ++ layout (mergedTree x y js ks ls)) (em 0 (now (out .entry)))) ⌝ }
 {
-    let a = put_head(head, left_line, l, right_line, r, gone, out);
+    let a = put_head(head, lines, sides, out);
     let b = put_side(
         left,
-        left_table,
-        left_n,
+        &tables[0],
+        sides.texts.left.n,
         left_spots,
-        left_pool,
-        left_news,
-        l,
-        left_line,
+        &pools[0],
+        &news[0],
+        sides.left,
+        &lines[0],
         left_constants,
-        left_at,
-        left_lines,
+        &at[0],
+        &starts[0],
         out,
         a,
     );
     put_side(
         right,
-        right_table,
-        right_n,
+        &tables[1],
+        sides.texts.right.n,
         right_spots,
-        right_pool,
-        right_news,
-        r,
-        right_line,
+        &pools[1],
+        &news[1],
+        sides.right,
+        &lines[1],
         right_constants,
-        right_at,
-        right_lines,
+        &at[1],
+        &starts[1],
         out,
         b,
     )
@@ -134,59 +153,39 @@ fn put_merged(
 fn merge_ready(
     head: &[u8],
     left: &[u8],
-    left_table: &[Entry; 1024],
-    left_n: usize,
-    left_spots: &[Spot],
-    left_pool: &[u8],
-    left_news: &[Entry; 1024],
-    l: Side,
-    left_line: &[u8],
-    left_constants: &[u8],
-    left_at: &[u16; 64],
-    left_lines: &[u16; 64],
     right: &[u8],
-    right_table: &[Entry; 1024],
-    right_n: usize,
+    sides: NamedPair,
+    tables: &[[Entry; 1024]; 2],
+    left_spots: &[Spot],
     right_spots: &[Spot],
-    right_pool: &[u8],
-    right_news: &[Entry; 1024],
-    r: Side,
-    right_line: &[u8],
+    pools: &[[u8; 16384]; 2],
+    news: &[[Entry; 1024]; 2],
+    lines: &[[u8; 8336]; 2],
+    left_constants: &[u8],
     right_constants: &[u8],
-    right_at: &[u16; 64],
-    right_lines: &[u16; 64],
+    at: &[[u16; 64]; 2],
+    starts: &[[u16; 64]; 2],
     out: &mut [u8],
 ) -> Answer
-    requires { ⌜ ((lf : ℕ) × (rf : ℕ) × (x : Projection) × (y : Projection) × (js : List Pair) × (ks : List Pair) × (ls : List Pair) × Sided (now left) lf (startsOf (now «left_table»)) (sizesOf (now «left_table»)) «left_n» (now «left_spots») prefixL false (now «left_constants») (now «left_pool») (startsOf (now «left_news»)) (sizesOf (now «left_news»)) (now «left_line») (now «left_at») (now «left_lines») l x js ks × Sided (now right) rf (startsOf (now «right_table»)) (sizesOf (now «right_table»)) «right_n» (now «right_spots») prefixR true (now «right_constants») (now «right_pool») (startsOf (now «right_news»)) (sizesOf (now «right_news»)) (now «right_line») (now «right_at») (now «right_lines») r y js ls) ⌝ }
-    ensures { λ result. ⌜ ((lf rf : ℕ) (x y : Projection) (js ks ls : List Pair) → Sided (now (left .entry)) lf (startsOf (now («left_table» .entry))) (sizesOf (now («left_table» .entry))) «left_n» (now («left_spots» .entry)) prefixL false (now («left_constants» .entry)) (now («left_pool» .entry)) (startsOf (now («left_news» .entry))) (sizesOf (now («left_news» .entry))) (now («left_line» .entry)) (now («left_at» .entry)) (now («left_lines» .entry)) l x js ks → Sided (now (right .entry)) rf (startsOf (now («right_table» .entry))) (sizesOf (now («right_table» .entry))) «right_n» (now («right_spots» .entry)) prefixR true (now («right_constants» .entry)) (now («right_pool» .entry)) (startsOf (now («right_news» .entry))) (sizesOf (now («right_news» .entry))) (now («right_line» .entry)) (now («right_at» .entry)) (now («right_lines» .entry)) r y js ls → Answered (joinedBehind (now (head .entry)) x y js ks ls) (now (out .entry)) (now (out .exit)) result) ⌝ }
+    requires { ⌜ ((x : Projection) × (y : Projection) × (js : List Pair) × (ks : List Pair) × (ls : List Pair) × SidedAt 0 (now left) (sides .texts .left) (now tables) (now «left_spots») prefixL false (now «left_constants») (now pools) (now news) (now lines) (now at) (now starts) (sides .left) x js ks × SidedAt 1 (now right) (sides .texts .right) (now tables) (now «right_spots») prefixR true (now «right_constants») (now pools) (now news) (now lines) (now at) (now starts) (sides .right) y js ls) × (sides .gone ≡ goneMask (getD (now lines) 0 []) (sides .left) (getD (now lines) 1 []) (sides .right)) ⌝ }
+    ensures { λ result. ⌜ ((x y : Projection) (js ks ls : List Pair) → SidedAt 0 (now (left .entry)) (sides .texts .left) (now (tables .entry)) (now («left_spots» .entry)) prefixL false (now («left_constants» .entry)) (now (pools .entry)) (now (news .entry)) (now (lines .entry)) (now (at .entry)) (now (starts .entry)) (sides .left) x js ks → SidedAt 1 (now (right .entry)) (sides .texts .right) (now (tables .entry)) (now («right_spots» .entry)) prefixR true (now («right_constants» .entry)) (now (pools .entry)) (now (news .entry)) (now (lines .entry)) (now (at .entry)) (now (starts .entry)) (sides .right) y js ls → Answered (joinedBehind (now (head .entry)) x y js ks ls) (now (out .entry)) (now (out .exit)) result) ⌝ }
 {
-    let gone = joined_mask(right_line, r.end, r.constant, left_line, l.end, l.joined);
     let mut none = [0u8; 0];
     let size = put_merged(
         head,
         left,
-        left_table,
-        left_n,
-        left_spots,
-        left_pool,
-        left_news,
-        l,
-        left_line,
-        left_constants,
-        left_at,
-        left_lines,
         right,
-        right_table,
-        right_n,
+        sides,
+        tables,
+        left_spots,
         right_spots,
-        right_pool,
-        right_news,
-        r,
-        right_line,
+        pools,
+        news,
+        lines,
+        left_constants,
         right_constants,
-        right_at,
-        right_lines,
-        gone,
+        at,
+        starts,
         &mut none,
     );
     if out.len() < size {
@@ -195,28 +194,18 @@ fn merge_ready(
     let put = put_merged(
         head,
         left,
-        left_table,
-        left_n,
-        left_spots,
-        left_pool,
-        left_news,
-        l,
-        left_line,
-        left_constants,
-        left_at,
-        left_lines,
         right,
-        right_table,
-        right_n,
+        sides,
+        tables,
+        left_spots,
         right_spots,
-        right_pool,
-        right_news,
-        r,
-        right_line,
+        pools,
+        news,
+        lines,
+        left_constants,
         right_constants,
-        right_at,
-        right_lines,
-        gone,
+        at,
+        starts,
         out,
     );
     Answer::Written(put)
@@ -227,92 +216,78 @@ fn merge_found(
     words: &[WordRow; 56],
     head: &[u8],
     left: &[u8],
-    left_from: usize,
-    left_table: &[Entry; 1024],
-    left_n: usize,
+    right: &[u8],
+    found: FoundPair,
+    tables: &[[Entry; 1024]; 2],
     left_nodes: &[Node],
     left_spots: &mut [Spot],
-    l: Outline,
-    left_joins: &[u16; 64],
-    left_constants: &[u8],
-    left_at: &[u16; 64],
-    left_lines: &[u16; 64],
-    right: &[u8],
-    right_from: usize,
-    right_table: &[Entry; 1024],
-    right_n: usize,
     right_nodes: &[Node],
     right_spots: &mut [Spot],
-    r: Outline,
-    right_joins: &[u16; 64],
+    joins: &[[u16; 64]; 2],
+    left_constants: &[u8],
     right_constants: &[u8],
-    right_at: &[u16; 64],
-    right_lines: &[u16; 64],
+    at: &[[u16; 64]; 2],
+    starts: &[[u16; 64]; 2],
     out: &mut [u8],
 ) -> Answer
-    requires { ⌜ ((x : Projection) × (y : Projection) × (js : List Pair) × (ks : List Pair) × (ls : List Pair) × Outlined (now left) «left_from» (startsOf (now «left_table»)) (sizesOf (now «left_table»)) «left_n» (now «left_spots») false (now «left_constants») (now «left_joins») (now «left_at») (now «left_lines») l x js ks × Outlined (now right) «right_from» (startsOf (now «right_table»)) (sizesOf (now «right_table»)) «right_n» (now «right_spots») true (now «right_constants») (now «right_joins») (now «right_at») (now «right_lines») r y js ls) × Worded (now words) × Shaped (now words) (now «left_nodes») (length (now «left_nodes»)) (length (now «left_spots»)) × Shaped (now words) (now «right_nodes») (length (now «right_nodes»)) (length (now «right_spots»)) ⌝ }
-    ensures { λ result. ⌜ ((x y : Projection) (js ks ls : List Pair) → Outlined (now (left .entry)) «left_from» (startsOf (now («left_table» .entry))) (sizesOf (now («left_table» .entry))) «left_n» (now («left_spots» .entry)) false (now («left_constants» .entry)) (now («left_joins» .entry)) (now («left_at» .entry)) (now («left_lines» .entry)) l x js ks → Outlined (now (right .entry)) «right_from» (startsOf (now («right_table» .entry))) (sizesOf (now («right_table» .entry))) «right_n» (now («right_spots» .entry)) true (now («right_constants» .entry)) (now («right_joins» .entry)) (now («right_at» .entry)) (now («right_lines» .entry)) r y js ls → Answered (joinedBehind (now (head .entry)) x y js ks ls) (now (out .entry)) (now (out .exit)) result) ⌝ }
+    requires { ⌜ ((x : Projection) × (y : Projection) × (js : List Pair) × (ks : List Pair) × (ls : List Pair) × OutlinedAt 0 (now left) (found .texts .left) (now tables) (now «left_spots») false (now «left_constants») (now joins) (now at) (now starts) (found .left) x js ks × OutlinedAt 1 (now right) (found .texts .right) (now tables) (now «right_spots») true (now «right_constants») (now joins) (now at) (now starts) (found .right) y js ls) × Worded (now words) × Shaped (now words) (now «left_nodes») (length (now «left_nodes»)) (length (now «left_spots»)) × Shaped (now words) (now «right_nodes») (length (now «right_nodes»)) (length (now «right_spots»)) ⌝ }
+    ensures { λ result. ⌜ ((x y : Projection) (js ks ls : List Pair) → OutlinedAt 0 (now (left .entry)) (found .texts .left) (now (tables .entry)) (now («left_spots» .entry)) false (now («left_constants» .entry)) (now (joins .entry)) (now (at .entry)) (now (starts .entry)) (found .left) x js ks → OutlinedAt 1 (now (right .entry)) (found .texts .right) (now (tables .entry)) (now («right_spots» .entry)) true (now («right_constants» .entry)) (now (joins .entry)) (now (at .entry)) (now (starts .entry)) (found .right) y js ls → Answered (joinedBehind (now (head .entry)) x y js ks ls) (now (out .entry)) (now (out .exit)) result) ⌝ }
 {
-    let mut left_pool = [0u8; 16384];
-    let mut left_news = [[0u16; 2]; 1024];
-    let mut left_line = [0u8; 8336];
-    let left_side = name_found(
+    let mut pools = [[0u8; 16384]; 2];
+    let mut news = [[[0u16; 2]; 1024]; 2];
+    let mut lines = [[0u8; 8336]; 2];
+    let texts = found.texts;
+    let l = name_found(
         left,
-        left_from,
-        left_table,
-        left_n,
+        texts.left.from,
+        &tables[0],
+        texts.left.n,
         words,
         left_nodes,
         left_spots,
         b'l',
-        l,
-        left_joins,
-        &mut left_pool,
-        &mut left_news,
-        &mut left_line,
+        found.left,
+        &joins[0],
+        &mut pools[0],
+        &mut news[0],
+        &mut lines[0],
     );
-    let mut right_pool = [0u8; 16384];
-    let mut right_news = [[0u16; 2]; 1024];
-    let mut right_line = [0u8; 8336];
-    let right_side = name_found(
+    let r = name_found(
         right,
-        right_from,
-        right_table,
-        right_n,
+        texts.right.from,
+        &tables[1],
+        texts.right.n,
         words,
         right_nodes,
         right_spots,
         b'r',
-        r,
-        right_joins,
-        &mut right_pool,
-        &mut right_news,
-        &mut right_line,
+        found.right,
+        &joins[1],
+        &mut pools[1],
+        &mut news[1],
+        &mut lines[1],
     );
+    let gone = gone_of(&lines, l, r);
     merge_ready(
         head,
         left,
-        left_table,
-        left_n,
-        left_spots,
-        &left_pool,
-        &left_news,
-        left_side,
-        &left_line,
-        left_constants,
-        left_at,
-        left_lines,
         right,
-        right_table,
-        right_n,
+        NamedPair {
+            texts,
+            left: l,
+            right: r,
+            gone,
+        },
+        tables,
+        left_spots,
         right_spots,
-        &right_pool,
-        &right_news,
-        right_side,
-        &right_line,
+        &pools,
+        &news,
+        &lines,
+        left_constants,
         right_constants,
-        right_at,
-        right_lines,
+        at,
+        starts,
         out,
     )
 }
@@ -323,15 +298,11 @@ pub fn merge_projects(
     words: &[WordRow; 56],
     head: &[u8],
     left: &[u8],
-    left_from: usize,
-    left_table: &[Entry; 1024],
-    left_n: usize,
+    right: &[u8],
+    texts: Texts,
+    tables: &[[Entry; 1024]; 2],
     left_nodes: &[Node],
     left_spots: &mut [Spot],
-    right: &[u8],
-    right_from: usize,
-    right_table: &[Entry; 1024],
-    right_n: usize,
     right_nodes: &[Node],
     right_spots: &mut [Spot],
     pairs: &[u8],
@@ -339,36 +310,33 @@ pub fn merge_projects(
     right_constants: &[u8],
     out: &mut [u8],
 ) -> Answer
-    requires { ⌜ ((x : Projection) × Stands (now left) «left_from» (startsOf (now «left_table»)) (sizesOf (now «left_table»)) «left_n» (now «left_spots») (tree x)) × ((y : Projection) × Stands (now right) «right_from» (startsOf (now «right_table»)) (sizesOf (now «right_table»)) «right_n» (now «right_spots») (tree y)) × ListsRead (now pairs) (now «left_constants») (now «right_constants») × Worded (now words) × Shaped (now words) (now «left_nodes») (length (now «left_nodes»)) (length (now «left_spots»)) × Shaped (now words) (now «right_nodes») (length (now «right_nodes»)) (length (now «right_spots»)) ⌝ }
-    ensures { λ r. ⌜ ((x y : Projection) (js ks ls : List Pair) → Stands (now (left .entry)) «left_from» (startsOf (now («left_table» .entry))) (sizesOf (now («left_table» .entry))) «left_n» (now («left_spots» .entry)) (tree x) → Stands (now (right .entry)) «right_from» (startsOf (now («right_table» .entry))) (sizesOf (now («right_table» .entry))) «right_n» (now («right_spots» .entry)) (tree y) → Lists (now (pairs .entry)) (now («left_constants» .entry)) (now («right_constants» .entry)) js ks ls → Answered (joinedBehind (now (head .entry)) x y js ks ls) (now (out .entry)) (now (out .exit)) r) ⌝ }
+    requires { ⌜ ((x : Projection) × StandsAt 0 (now left) (texts .left) (now tables) (now «left_spots») (tree x)) × ((y : Projection) × StandsAt 1 (now right) (texts .right) (now tables) (now «right_spots») (tree y)) × ListsRead (now pairs) (now «left_constants») (now «right_constants») × Worded (now words) × Shaped (now words) (now «left_nodes») (length (now «left_nodes»)) (length (now «left_spots»)) × Shaped (now words) (now «right_nodes») (length (now «right_nodes»)) (length (now «right_spots»)) ⌝ }
+    ensures { λ r. ⌜ ((x y : Projection) (js ks ls : List Pair) → StandsAt 0 (now (left .entry)) (texts .left) (now (tables .entry)) (now («left_spots» .entry)) (tree x) → StandsAt 1 (now (right .entry)) (texts .right) (now (tables .entry)) (now («right_spots» .entry)) (tree y) → Lists (now (pairs .entry)) (now («left_constants» .entry)) (now («right_constants» .entry)) js ks ls → Answered (joinedBehind (now (head .entry)) x y js ks ls) (now (out .entry)) (now (out .exit)) r) ⌝ }
 {
-    let mut left_joins = [0u16; 64];
-    let mut left_at = [0u16; 64];
-    let mut left_lines = [0u16; 64];
+    let mut joins = [[0u16; 64]; 2];
+    let mut at = [[0u16; 64]; 2];
+    let mut starts = [[0u16; 64]; 2];
     let Finding::Found(l) = find_side(
         left,
-        left_from,
+        texts.left.from,
         pairs,
         false,
         left_constants,
-        &mut left_joins,
-        &mut left_at,
-        &mut left_lines,
+        &mut joins[0],
+        &mut at[0],
+        &mut starts[0],
     ) else {
         return Answer::Outside;
     };
-    let mut right_joins = [0u16; 64];
-    let mut right_at = [0u16; 64];
-    let mut right_lines = [0u16; 64];
     let Finding::Found(r) = find_side(
         right,
-        right_from,
+        texts.right.from,
         pairs,
         true,
         right_constants,
-        &mut right_joins,
-        &mut right_at,
-        &mut right_lines,
+        &mut joins[1],
+        &mut at[1],
+        &mut starts[1],
     ) else {
         return Answer::Outside;
     };
@@ -376,27 +344,22 @@ pub fn merge_projects(
         words,
         head,
         left,
-        left_from,
-        left_table,
-        left_n,
+        right,
+        FoundPair {
+            texts,
+            left: l,
+            right: r,
+        },
+        tables,
         left_nodes,
         left_spots,
-        l,
-        &left_joins,
-        left_constants,
-        &left_at,
-        &left_lines,
-        right,
-        right_from,
-        right_table,
-        right_n,
         right_nodes,
         right_spots,
-        r,
-        &right_joins,
+        &joins,
+        left_constants,
         right_constants,
-        &right_at,
-        &right_lines,
+        &at,
+        &starts,
         out,
     )
 }

@@ -3,7 +3,7 @@ use Prim.Native.Nat.{ℕ, _≤_}
 use mathlib.Core.Path.{_≡_}
 use mathlib.Core.List.{List, [], _++_}
 use mathlib.Core.Bool.{Bool, true, false}
-use lib.ListN.{length}
+use lib.ListN.{length, getD}
 use Rattle.text.specs.Text.{Bytes, ended}
 use Rattle.algebra.specs.Tree.{Pattern}
 use Rattle.algebra.specs.Query.{Query}
@@ -17,6 +17,8 @@ use Rattle.reading.specs.bridge.Charted.{Charted, treeStart, queryStart}
 use Rattle.heads.specs.bridge.TreeAt.{headLine, TreeAt}
 use Rattle.merging.specs.Request.{made}
 use Rattle.merging.specs.Merge.{lists, mergeable, mergeTrees}
+use Rattle.names.specs.bridge.Names.{startsOf, sizesOf}
+use Rattle.projects.specs.declared.merge.Standing.{Standing}
 use Rattle.projects.specs.bridge.Joining.{KnownTree, KnownText}
 
 -- a tree without a head, as a query
@@ -66,3 +68,8 @@ unfoldable pub StartsAt : Bool → Bytes → ℕ → Type 0
 unfolding readQuery
 StartsAt false s r = r ≡ 0
 StartsAt true s r = (r ≤ length s) × ((q : Query) → readQuery s ≡ reads q → TreeAt s q r)
+
+-- a text that was checked, text i of two: where its tree starts is known too
+pub record KnownAt (i : ℕ) (query : Bool) (s : Bytes) (t : Standing) (tables : List (List (List ℕ))) (v : List (List ℕ)) : Type 0 where
+  pub known : Known query s (startsOf (getD tables i [])) (sizesOf (getD tables i [])) (t .n) v
+  pub starts : StartsAt query s (t .from)

@@ -1,9 +1,9 @@
 -- What the calls that join know once their texts are checked, and what is to come of it. Assumes nothing.
 use Prim.Native.Nat.{ℕ, _*_, _≤_}
 use mathlib.Core.Path.{_≡_}
-use mathlib.Core.List.{List, _++_}
+use mathlib.Core.List.{List, [], _++_}
 use mathlib.Core.Bool.{Bool, true, false}
-use lib.ListN.{length}
+use lib.ListN.{length, getD}
 use Rattle.text.specs.Text.{Bytes}
 use Rattle.algebra.specs.Tree.{Pattern}
 use Rattle.algebra.specs.Query.{Query, Pair}
@@ -13,7 +13,7 @@ use Rattle.algebra.specs.Texts.{readTree, readQuery}
 use Rattle.algebra.specs.declared.Answer.{Answer as Check}
 use Rattle.algebra.specs.declared.Answer.the-variants.{Good, Malformed, OverBound}
 use Rattle.answers.specs.Outcome.{Outcome, refused, written, then, refusedUnless}
-use Rattle.names.specs.bridge.Names.{listing}
+use Rattle.names.specs.bridge.Names.{listing, startsOf, sizesOf}
 use Rattle.lines.specs.bridge.Noded.{Roomy}
 use Rattle.lines.specs.bridge.Spotted.{Noted}
 use Rattle.scoping.specs.Numbering.{byPlace}
@@ -23,6 +23,7 @@ use Rattle.merging.specs.Sides.{Constant, Pair as Joined}
 use Rattle.merging.specs.Request.{Projection, tree, readJoins, readConstants, joinPositions, byPosition, constantsIn, positions, request, allInside}
 use Rattle.merging.specs.Merge.{lists, mergeProjectPatterns, mergeTrees}
 use Rattle.merging.specs.Push.{pushConstantsInProjectPattern}
+use Rattle.projects.specs.declared.merge.Standing.{Standing}
 use Rattle.sides.specs.declared.side.Outline.{Outline}
 use Rattle.sides.specs.declared.side.Side.{Side}
 use Rattle.sides.specs.bridge.Columns.{columnsIn, maskOf, picked, goneBits}
@@ -34,6 +35,10 @@ use Rattle.sides.specs.bridge.Side.{TreeIn, OutlineIs, SideIs}
 pub record Stands (s : Bytes) (at : ℕ) (a l : List ℕ) (n : ℕ) (v : List (List ℕ)) (p : Pattern) : Type 0 where
   pub tree-in : TreeIn s at a l n v p
   pub narrow : (x : Projection) → p ≡ tree x → length (x .columns) ≤ 64
+
+-- the same where the tables of two texts stand in one array, for text i
+abbrev pub StandsAt : ℕ → Bytes → Standing → List (List (List ℕ)) → List (List ℕ) → Pattern → Type 0
+StandsAt i s t tables v p = Stands s (t .from) (startsOf (getD tables i [])) (sizesOf (getD tables i [])) (t .n) v p
 
 -- a text that is a tree's: the table lists its names, and the array its variables
 pub record KnownTree (s : Bytes) (a l : List ℕ) (n : ℕ) (v : List (List ℕ)) : Type 0 where
@@ -109,6 +114,16 @@ pub record Lists (pairs leftConstants rightConstants : Bytes) (js ks ls : List P
   pub joins : Listed pairs js
   pub left-terms : Terms leftConstants ks
   pub right-terms : Terms rightConstants ls
+
+-- a side of two that was found
+abbrev pub OutlinedAt : ℕ → Bytes → Standing → List (List (List ℕ)) → List (List ℕ) → Bool → Bytes → List (List ℕ) → List (List ℕ) → List (List ℕ) → Outline → Projection → List Pair → List Pair → Type 0
+OutlinedAt i s t tables v second constants joins at starts o x js ks =
+    Outlined s (t .from) (startsOf (getD tables i [])) (sizesOf (getD tables i [])) (t .n) v second constants (getD joins i []) (getD at i []) (getD starts i []) o x js ks
+
+-- a side of two that is ready
+abbrev pub SidedAt : ℕ → Bytes → Standing → List (List (List ℕ)) → List (List ℕ) → ℕ → Bool → Bytes → List Bytes → List (List (List ℕ)) → List (List ℕ) → List (List ℕ) → List (List ℕ) → Side → Projection → List Pair → List Pair → Type 0
+SidedAt i s t tables v prefix second constants pools news lines at starts side x js ks =
+    Sided s (t .from) (startsOf (getD tables i [])) (sizesOf (getD tables i [])) (t .n) v prefix second constants (getD pools i []) (startsOf (getD news i [])) (sizesOf (getD news i [])) (getD lines i []) (getD at i []) (getD starts i []) side x js ks
 
 -- the right columns that go: those with a constant, and those whose new names are joined columns' on the left
 abbrev pub goneMask : List ℕ → Side → List ℕ → Side → ℕ

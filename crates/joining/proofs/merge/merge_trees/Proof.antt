@@ -19,4 +19,4 @@ merge-trees-spec =
     (λ c. search needs)
     (λ c. search needs)
     (λ c. search needs)
-    (λ c. let c4 = c .before .before .before .before in let c8 = c4 .before .before .before .before in let c9 = c8 .before in let c10 = c9 .before in let c11 = c10 .before in let c19 = c11 .before .before .before .before .before .before .before .before in λ p q js ks ls sp sq li. let x = O.a-project _ _ _ (sp .tree-in .lines) _ (c11 .is-project .ensures) (c10 .if1 .left) in let y = O.a-project _ _ _ (sq .tree-in .lines) _ (c9 .is-project2 .ensures) (c8 .if2 .left) in let h = c19 .args .head .now in A.answered (joinedBehind h (x .0) (y .0) js ks ls) (mergedBehind h p q js ks ls) (c19 .args .out .now) (c4 .merge-projects .last .1 .1 .1 .1 .1 .1 .1 .1 .1 .1 .1 .1 .1 .1 .1 .1 .1 .0) (c4 .merge-projects .result) (O.merged-as h p q js ks ls _ _ (x .1) (y .1)) (c4 .merge-projects .ensures _ _ js ks ls (KN.stands-as _ _ _ _ _ _ _ _ (x .2) sp) (KN.stands-as _ _ _ _ _ _ _ _ (y .2) sq) li)))
+    (λ c. let c4 = c .before .before .before .before in let c8 = c4 .before .before .before .before in let c9 = c8 .before in let c10 = c9 .before in let c11 = c10 .before in let c19 = c11 .before .before .before .before .before .before .before .before in λ p q js ks ls sp sq li. let x = O.a-project _ _ _ (sp .tree-in .lines) _ (c11 .is-project .ensures) (c10 .if1 .left) in let y = O.a-project _ _ _ (sq .tree-in .lines) _ (c9 .is-project2 .ensures) (c8 .if2 .left) in let h = c19 .args .head .now in A.answered (joinedBehind h (x .0) (y .0) js ks ls) (mergedBehind h p q js ks ls) (c19 .args .out .now) (c4 .merge-projects .last .1 .1 .1 .1 .1 .1 .1 .1 .1 .1 .1 .1 .1 .0) (c4 .merge-projects .result) (O.merged-as h p q js ks ls _ _ (x .1) (y .1)) (c4 .merge-projects .ensures _ _ js ks ls (KN.stands-as _ _ _ _ _ _ _ _ (x .2) sp) (KN.stands-as _ _ _ _ _ _ _ _ (y .2) sq) li)))
