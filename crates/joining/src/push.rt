@@ -12,6 +12,7 @@ use names::Entry;
 use projects::push::push_in_project;
 use reading::note_query;
 use sides::project::is_project;
+use sides::side::Standing;
 use text::piece;
 use words::table::WordRow;
 use words::table::all_words;
@@ -48,9 +49,8 @@ fn push_of(
         words,
         piece(query, 0, from),
         query,
-        from,
+        Standing { from, n },
         table,
-        n,
         nodes,
         spots,
         constants,

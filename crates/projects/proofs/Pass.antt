@@ -8,34 +8,21 @@ use lib.Count.{ones}
 use Rattle.text.specs.Text.{Bytes, Line, textOf}
 use Rattle.text.specs.Word.{bytes}
 use Rattle.algebra.specs.Query.{Pair}
-use Rattle.algebra.specs.Layout.{put, layout}
+use Rattle.algebra.specs.Layout.{layout}
 use Rattle.emit.specs.bridge.Emit.{Em, em, last, puts}
 use Rattle.answers.specs.Outcome.{written, Answered}
 use Rattle.answers.specs.declared.Answer.the-variants.{TooShort, Written}
 use Rattle.answers.proofs.Answers.{answered, too-short, all-written}
-use Rattle.names.specs.bridge.Names.{listing}
 use Rattle.scoping.specs.Label.{prefixL, prefixR, prefixV}
-use Rattle.scoping.specs.Rename.{renameInGraphPattern}
 use Rattle.merging.specs.Request.{Projection}
-use Rattle.walking.specs.bridge.Renamed.{Renamed}
 use Rattle.sides.specs.bridge.Columns.{columnsIn, picked}
-use Rattle.sides.specs.bridge.Listed.{Kept, termsFrom}
-use Rattle.sides.specs.bridge.Side.{Placed, Renames, joinLine, valuesLines}
 use Rattle.sides.specs.declared.side.Side.{Side}
-use Rattle.projects.specs.bridge.Joining.{Sided, pushedTree, pushedBehind, goneMask, mergedTree, joinedBehind}
+use Rattle.projects.specs.bridge.Joining.{Sided, SideWritten, pushedTree, pushedBehind, goneMask, mergedTree, joinedBehind}
 use Rattle.projects.proofs.SideLines.{side-is}
 use Rattle.projects.proofs.Merged.{gone-room, gone-width, merged-lines}
 use Rattle.projects.proofs.Whole.{pass-one, pass-two, pushed-lines, pushed-is}
 use Rattle.projects.proofs.Outcomes.{joined-is}
 use Rattle.projects.proofs.OneSide.{placed, head-needs}
-
--- what put_side promises, from one state of the output to another
-abbrev pub SideWritten : Bytes → List ℕ → List ℕ → ℕ → List (List ℕ) → List ℕ → List ℕ → List ℕ → Side → List ℕ → Bytes → List ℕ → List ℕ → Em → Em → Type 0
-SideWritten text starts sizes n spots pool targets spans s line constants at lines e e′ =
-    (from : ℕ) (x : Projection) (v : List (List ℕ)) (new : Bytes → Bytes) (ks : List Pair) → Placed text from starts sizes n v (s .inner) (s .columns) x → Renamed spans v 0 spots (length v)
-    → Renames (listing text starts sizes n) n pool targets spans new
-    → Kept constants ks false at lines (s .constants)
-    → (t : List Line) → puts (textOf t) e′ ≡ puts (textOf (joinLine (s .constants) (put (renameInGraphPattern new (x .inner)) (valuesLines (s .constants) (ones (s .constant)) (picked 1 (s .constant) (columnsIn line (s .end))) (termsFrom ks 0 64) t)))) e
 
 -- ---- one side: a push
 

@@ -1,4 +1,8 @@
-// merge_project_patterns for two projects. What is of one kind for both texts is an array of two, the left text's first.
+// merge_project_patterns for two projects. Tables of both texts are arrays of two, the left text's first.
+use crate::one::FoundSide;
+use crate::one::NamedSide;
+use crate::one::name_one;
+use crate::one::put_one;
 use answers::Answer;
 use emit::put_all;
 use lines::fields::Node;
@@ -8,11 +12,10 @@ use sides::columns::joined_mask;
 use sides::columns::put_columns;
 use sides::columns::width;
 use sides::side::Finding;
-use sides::side::Outline;
+use sides::side::Places;
 use sides::side::Side;
+use sides::side::Standing;
 use sides::side::find_side;
-use sides::side::name_found;
-use sides::writing::put_side;
 use words::table::WordRow;
 ghost use mathlib.Core.Path.{_≡_};
 ghost use Prim.Native.Nat.{_-_, _≤_};
@@ -29,19 +32,13 @@ ghost use Rattle.answers.specs.Outcome.{Answered};
 ghost use Rattle.scoping.specs.Label.{prefixL, prefixR};
 ghost use Rattle.merging.specs.Request.{Projection, tree};
 ghost use Rattle.sides.specs.bridge.Columns.{columnsIn, picked};
-ghost use Rattle.projects.specs.bridge.Joining.{StandsAt, OutlinedAt, SidedAt, goneMask, mergedTree, Lists, joinedBehind, ListsRead};
+ghost use Rattle.projects.specs.bridge.Joining.{StandsAt, IsFound, IsNamed, goneMask, mergedTree, Lists, joinedBehind, ListsRead};
 ghost use Rattle.words.specs.bridge.Words.{Worded};
 ghost use Rattle.walking.specs.bridge.Renamed.{Shaped};
 
 const PROJECT: [u8; 7] = *b"project";
 
 const JOIN: [u8; 6] = *b"\njoin\n";
-
-// Where a text's tree starts, and how many names it has.
-pub struct Standing {
-    pub from: usize,
-    pub n: usize,
-}
 
 // Both texts of a merge.
 pub struct Texts {
@@ -51,16 +48,14 @@ pub struct Texts {
 
 // Two sides that were found.
 struct FoundPair {
-    texts: Texts,
-    left: Outline,
-    right: Outline,
+    left: FoundSide,
+    right: FoundSide,
 }
 
 // Two sides that are ready, and which right columns go.
 struct NamedPair {
-    texts: Texts,
-    left: Side,
-    right: Side,
+    left: NamedSide,
+    right: NamedSide,
     gone: u64,
 }
 
@@ -74,11 +69,13 @@ fn gone_of(lines: &[[u8; 8336]; 2], l: Side, r: Side) -> u64
 
 // The head, the merged columns, and the join's line.
 fn put_head(head: &[u8], lines: &[[u8; 8336]; 2], sides: NamedPair, out: &mut [u8]) -> usize
-    requires { ⌜ (sides .left .end ≤ length (getD (now lines) 0 [])) × (ones (sides .left .constant) ≤ sides .left .columns) × (sides .left .columns - ones (sides .left .constant) ≡ length (picked 0 (sides .left .constant) (columnsIn (getD (now lines) 0 []) (sides .left .end)))) × (sides .right .end ≤ length (getD (now lines) 1 [])) × (ones (sides .gone) ≤ sides .right .columns) × (sides .right .columns - ones (sides .gone) ≡ length (picked 0 (sides .gone) (columnsIn (getD (now lines) 1 []) (sides .right .end)))) ⌝ }
-    ensures { λ result. ⌜ ((t : List Line) → puts (textOf t) (em result (now (out .exit))) ≡ puts (now (head .entry) ++ textOf ((bytes "project" ∷ (picked 0 (sides .left .constant) (columnsIn (getD (now (lines .entry)) 0 []) (sides .left .end)) ++ picked 0 (sides .gone) (columnsIn (getD (now (lines .entry)) 1 []) (sides .right .end)))) ∷ (bytes "join" ∷ []) ∷ t)) (em 0 (now (out .entry)))) ⌝ }
+    requires { ⌜ (sides .left .side .end ≤ length (getD (now lines) 0 [])) × (ones (sides .left .side .constant) ≤ sides .left .side .columns) × (sides .left .side .columns - ones (sides .left .side .constant) ≡ length (picked 0 (sides .left .side .constant) (columnsIn (getD (now lines) 0 []) (sides .left .side .end)))) × (sides .right .side .end ≤ length (getD (now lines) 1 [])) × (ones (sides .gone) ≤ sides .right .side .columns) × (sides .right .side .columns - ones (sides .gone) ≡ length (picked 0 (sides .gone) (columnsIn (getD (now lines) 1 []) (sides .right .side .end)))) ⌝ }
+    ensures { λ result. ⌜ ((t : List Line) → puts (textOf t) (em result (now (out .exit))) ≡ puts (now (head .entry) ++ textOf ((bytes "project" ∷ (picked 0 (sides .left .side .constant) (columnsIn (getD (now (lines .entry)) 0 []) (sides .left .side .end)) ++ picked 0 (sides .gone) (columnsIn (getD (now (lines .entry)) 1 []) (sides .right .side .end)))) ∷ (bytes "join" ∷ []) ∷ t)) (em 0 (now (out .entry)))) ⌝ }
 {
-    let l = sides.left;
-    let r = sides.right;
+    let left = sides.left;
+    let right = sides.right;
+    let l = left.side;
+    let r = right.side;
     let gone = sides.gone;
     let a = put_all(out, 0, head);
     let b = put_all(out, a, &PROJECT);
@@ -109,41 +106,33 @@ fn put_merged(
     lines: &[[u8; 8336]; 2],
     left_constants: &[u8],
     right_constants: &[u8],
-    at: &[[u16; 64]; 2],
-    starts: &[[u16; 64]; 2],
     out: &mut [u8],
 ) -> usize
-    requires { ⌜ ((x : Projection) × (y : Projection) × (js : List Pair) × (ks : List Pair) × (ls : List Pair) × SidedAt 0 (now left) (sides .texts .left) (now tables) (now «left_spots») prefixL false (now «left_constants») (now pools) (now news) (now lines) (now at) (now starts) (sides .left) x js ks × SidedAt 1 (now right) (sides .texts .right) (now tables) (now «right_spots») prefixR true (now «right_constants») (now pools) (now news) (now lines) (now at) (now starts) (sides .right) y js ls) × (sides .gone ≡ goneMask (getD (now lines) 0 []) (sides .left) (getD (now lines) 1 []) (sides .right)) ⌝ }
-    ensures { λ result. ⌜ ((x y : Projection) (js ks ls : List Pair) → SidedAt 0 (now (left .entry)) (sides .texts .left) (now (tables .entry)) (now («left_spots» .entry)) prefixL false (now («left_constants» .entry)) (now (pools .entry)) (now (news .entry)) (now (lines .entry)) (now (at .entry)) (now (starts .entry)) (sides .left) x js ks → SidedAt 1 (now (right .entry)) (sides .texts .right) (now (tables .entry)) (now («right_spots» .entry)) prefixR true (now («right_constants» .entry)) (now (pools .entry)) (now (news .entry)) (now (lines .entry)) (now (at .entry)) (now (starts .entry)) (sides .right) y js ls → em result (now (out .exit)) ≡ puts (now (head .entry) ++ layout (mergedTree x y js ks ls)) (em 0 (now (out .entry)))) ⌝ }
+    requires { ⌜ ((x : Projection) × (y : Projection) × (js : List Pair) × (ks : List Pair) × (ls : List Pair) × IsNamed (now left) (getD (now tables) 0 []) (now «left_spots») prefixL false (now «left_constants») (getD (now pools) 0 []) (getD (now news) 0 []) (getD (now lines) 0 []) (sides .left) x js ks × IsNamed (now right) (getD (now tables) 1 []) (now «right_spots») prefixR true (now «right_constants») (getD (now pools) 1 []) (getD (now news) 1 []) (getD (now lines) 1 []) (sides .right) y js ls) × (sides .gone ≡ goneMask (getD (now lines) 0 []) (sides .left .side) (getD (now lines) 1 []) (sides .right .side)) ⌝ }
+    ensures { λ result. ⌜ ((x y : Projection) (js ks ls : List Pair) → IsNamed (now (left .entry)) (getD (now (tables .entry)) 0 []) (now («left_spots» .entry)) prefixL false (now («left_constants» .entry)) (getD (now (pools .entry)) 0 []) (getD (now (news .entry)) 0 []) (getD (now (lines .entry)) 0 []) (sides .left) x js ks → IsNamed (now (right .entry)) (getD (now (tables .entry)) 1 []) (now («right_spots» .entry)) prefixR true (now («right_constants» .entry)) (getD (now (pools .entry)) 1 []) (getD (now (news .entry)) 1 []) (getD (now (lines .entry)) 1 []) (sides .right) y js ls → em result (now (out .exit)) ≡ puts (now (head .entry) ++ layout (mergedTree x y js ks ls)) (em 0 (now (out .entry)))) ⌝ }
 {
     let a = put_head(head, lines, sides, out);
-    let b = put_side(
+    let b = put_one(
         left,
         &tables[0],
-        sides.texts.left.n,
         left_spots,
         &pools[0],
         &news[0],
-        sides.left,
         &lines[0],
         left_constants,
-        &at[0],
-        &starts[0],
+        sides.left,
         out,
         a,
     );
-    put_side(
+    put_one(
         right,
         &tables[1],
-        sides.texts.right.n,
         right_spots,
         &pools[1],
         &news[1],
-        sides.right,
         &lines[1],
         right_constants,
-        &at[1],
-        &starts[1],
+        sides.right,
         out,
         b,
     )
@@ -163,12 +152,10 @@ fn merge_ready(
     lines: &[[u8; 8336]; 2],
     left_constants: &[u8],
     right_constants: &[u8],
-    at: &[[u16; 64]; 2],
-    starts: &[[u16; 64]; 2],
     out: &mut [u8],
 ) -> Answer
-    requires { ⌜ ((x : Projection) × (y : Projection) × (js : List Pair) × (ks : List Pair) × (ls : List Pair) × SidedAt 0 (now left) (sides .texts .left) (now tables) (now «left_spots») prefixL false (now «left_constants») (now pools) (now news) (now lines) (now at) (now starts) (sides .left) x js ks × SidedAt 1 (now right) (sides .texts .right) (now tables) (now «right_spots») prefixR true (now «right_constants») (now pools) (now news) (now lines) (now at) (now starts) (sides .right) y js ls) × (sides .gone ≡ goneMask (getD (now lines) 0 []) (sides .left) (getD (now lines) 1 []) (sides .right)) ⌝ }
-    ensures { λ result. ⌜ ((x y : Projection) (js ks ls : List Pair) → SidedAt 0 (now (left .entry)) (sides .texts .left) (now (tables .entry)) (now («left_spots» .entry)) prefixL false (now («left_constants» .entry)) (now (pools .entry)) (now (news .entry)) (now (lines .entry)) (now (at .entry)) (now (starts .entry)) (sides .left) x js ks → SidedAt 1 (now (right .entry)) (sides .texts .right) (now (tables .entry)) (now («right_spots» .entry)) prefixR true (now («right_constants» .entry)) (now (pools .entry)) (now (news .entry)) (now (lines .entry)) (now (at .entry)) (now (starts .entry)) (sides .right) y js ls → Answered (joinedBehind (now (head .entry)) x y js ks ls) (now (out .entry)) (now (out .exit)) result) ⌝ }
+    requires { ⌜ ((x : Projection) × (y : Projection) × (js : List Pair) × (ks : List Pair) × (ls : List Pair) × IsNamed (now left) (getD (now tables) 0 []) (now «left_spots») prefixL false (now «left_constants») (getD (now pools) 0 []) (getD (now news) 0 []) (getD (now lines) 0 []) (sides .left) x js ks × IsNamed (now right) (getD (now tables) 1 []) (now «right_spots») prefixR true (now «right_constants») (getD (now pools) 1 []) (getD (now news) 1 []) (getD (now lines) 1 []) (sides .right) y js ls) × (sides .gone ≡ goneMask (getD (now lines) 0 []) (sides .left .side) (getD (now lines) 1 []) (sides .right .side)) ⌝ }
+    ensures { λ result. ⌜ ((x y : Projection) (js ks ls : List Pair) → IsNamed (now (left .entry)) (getD (now (tables .entry)) 0 []) (now («left_spots» .entry)) prefixL false (now («left_constants» .entry)) (getD (now (pools .entry)) 0 []) (getD (now (news .entry)) 0 []) (getD (now (lines .entry)) 0 []) (sides .left) x js ks → IsNamed (now (right .entry)) (getD (now (tables .entry)) 1 []) (now («right_spots» .entry)) prefixR true (now («right_constants» .entry)) (getD (now (pools .entry)) 1 []) (getD (now (news .entry)) 1 []) (getD (now (lines .entry)) 1 []) (sides .right) y js ls → Answered (joinedBehind (now (head .entry)) x y js ks ls) (now (out .entry)) (now (out .exit)) result) ⌝ }
 {
     let mut none = [0u8; 0];
     let size = put_merged(
@@ -184,8 +171,6 @@ fn merge_ready(
         lines,
         left_constants,
         right_constants,
-        at,
-        starts,
         &mut none,
     );
     if out.len() < size {
@@ -204,8 +189,6 @@ fn merge_ready(
         lines,
         left_constants,
         right_constants,
-        at,
-        starts,
         out,
     );
     Answer::Written(put)
@@ -223,57 +206,46 @@ fn merge_found(
     left_spots: &mut [Spot],
     right_nodes: &[Node],
     right_spots: &mut [Spot],
-    joins: &[[u16; 64]; 2],
     left_constants: &[u8],
     right_constants: &[u8],
-    at: &[[u16; 64]; 2],
-    starts: &[[u16; 64]; 2],
     out: &mut [u8],
 ) -> Answer
-    requires { ⌜ ((x : Projection) × (y : Projection) × (js : List Pair) × (ks : List Pair) × (ls : List Pair) × OutlinedAt 0 (now left) (found .texts .left) (now tables) (now «left_spots») false (now «left_constants») (now joins) (now at) (now starts) (found .left) x js ks × OutlinedAt 1 (now right) (found .texts .right) (now tables) (now «right_spots») true (now «right_constants») (now joins) (now at) (now starts) (found .right) y js ls) × Worded (now words) × Shaped (now words) (now «left_nodes») (length (now «left_nodes»)) (length (now «left_spots»)) × Shaped (now words) (now «right_nodes») (length (now «right_nodes»)) (length (now «right_spots»)) ⌝ }
-    ensures { λ result. ⌜ ((x y : Projection) (js ks ls : List Pair) → OutlinedAt 0 (now (left .entry)) (found .texts .left) (now (tables .entry)) (now («left_spots» .entry)) false (now («left_constants» .entry)) (now (joins .entry)) (now (at .entry)) (now (starts .entry)) (found .left) x js ks → OutlinedAt 1 (now (right .entry)) (found .texts .right) (now (tables .entry)) (now («right_spots» .entry)) true (now («right_constants» .entry)) (now (joins .entry)) (now (at .entry)) (now (starts .entry)) (found .right) y js ls → Answered (joinedBehind (now (head .entry)) x y js ks ls) (now (out .entry)) (now (out .exit)) result) ⌝ }
+    requires { ⌜ ((x : Projection) × (y : Projection) × (js : List Pair) × (ks : List Pair) × (ls : List Pair) × IsFound (now left) (getD (now tables) 0 []) (now «left_spots») false (now «left_constants») (found .left) x js ks × IsFound (now right) (getD (now tables) 1 []) (now «right_spots») true (now «right_constants») (found .right) y js ls) × Worded (now words) × Shaped (now words) (now «left_nodes») (length (now «left_nodes»)) (length (now «left_spots»)) × Shaped (now words) (now «right_nodes») (length (now «right_nodes»)) (length (now «right_spots»)) ⌝ }
+    ensures { λ result. ⌜ ((x y : Projection) (js ks ls : List Pair) → IsFound (now (left .entry)) (getD (now (tables .entry)) 0 []) (now («left_spots» .entry)) false (now («left_constants» .entry)) (found .left) x js ks → IsFound (now (right .entry)) (getD (now (tables .entry)) 1 []) (now («right_spots» .entry)) true (now («right_constants» .entry)) (found .right) y js ls → Answered (joinedBehind (now (head .entry)) x y js ks ls) (now (out .entry)) (now (out .exit)) result) ⌝ }
 {
     let mut pools = [[0u8; 16384]; 2];
     let mut news = [[[0u16; 2]; 1024]; 2];
     let mut lines = [[0u8; 8336]; 2];
-    let texts = found.texts;
-    let l = name_found(
-        left,
-        texts.left.from,
-        &tables[0],
-        texts.left.n,
+    let l = name_one(
         words,
+        left,
+        &tables[0],
         left_nodes,
         left_spots,
         b'l',
         found.left,
-        &joins[0],
         &mut pools[0],
         &mut news[0],
         &mut lines[0],
     );
-    let r = name_found(
-        right,
-        texts.right.from,
-        &tables[1],
-        texts.right.n,
+    let r = name_one(
         words,
+        right,
+        &tables[1],
         right_nodes,
         right_spots,
         b'r',
         found.right,
-        &joins[1],
         &mut pools[1],
         &mut news[1],
         &mut lines[1],
     );
-    let gone = gone_of(&lines, l, r);
+    let gone = gone_of(&lines, l.side, r.side);
     merge_ready(
         head,
         left,
         right,
         NamedPair {
-            texts,
             left: l,
             right: r,
             gone,
@@ -286,8 +258,6 @@ fn merge_found(
         &lines,
         left_constants,
         right_constants,
-        at,
-        starts,
         out,
     )
 }
@@ -313,32 +283,49 @@ pub fn merge_projects(
     requires { ⌜ ((x : Projection) × StandsAt 0 (now left) (texts .left) (now tables) (now «left_spots») (tree x)) × ((y : Projection) × StandsAt 1 (now right) (texts .right) (now tables) (now «right_spots») (tree y)) × ListsRead (now pairs) (now «left_constants») (now «right_constants») × Worded (now words) × Shaped (now words) (now «left_nodes») (length (now «left_nodes»)) (length (now «left_spots»)) × Shaped (now words) (now «right_nodes») (length (now «right_nodes»)) (length (now «right_spots»)) ⌝ }
     ensures { λ r. ⌜ ((x y : Projection) (js ks ls : List Pair) → StandsAt 0 (now (left .entry)) (texts .left) (now (tables .entry)) (now («left_spots» .entry)) (tree x) → StandsAt 1 (now (right .entry)) (texts .right) (now (tables .entry)) (now («right_spots» .entry)) (tree y) → Lists (now (pairs .entry)) (now («left_constants» .entry)) (now («right_constants» .entry)) js ks ls → Answered (joinedBehind (now (head .entry)) x y js ks ls) (now (out .entry)) (now (out .exit)) r) ⌝ }
 {
-    let mut joins = [[0u16; 64]; 2];
-    let mut at = [[0u16; 64]; 2];
-    let mut starts = [[0u16; 64]; 2];
+    let mut joins = [0u16; 64];
+    let mut at = [0u16; 64];
+    let mut starts = [0u16; 64];
     let Finding::Found(l) = find_side(
         left,
         texts.left.from,
         pairs,
         false,
         left_constants,
-        &mut joins[0],
-        &mut at[0],
-        &mut starts[0],
+        &mut joins,
+        &mut at,
+        &mut starts,
     ) else {
         return Answer::Outside;
     };
+    let standing = texts.left;
+    let places = Places { joins, at, starts };
+    let left_found = FoundSide {
+        standing,
+        outline: l,
+        places,
+    };
+    let mut joins = [0u16; 64];
+    let mut at = [0u16; 64];
+    let mut starts = [0u16; 64];
     let Finding::Found(r) = find_side(
         right,
         texts.right.from,
         pairs,
         true,
         right_constants,
-        &mut joins[1],
-        &mut at[1],
-        &mut starts[1],
+        &mut joins,
+        &mut at,
+        &mut starts,
     ) else {
         return Answer::Outside;
+    };
+    let standing = texts.right;
+    let places = Places { joins, at, starts };
+    let right_found = FoundSide {
+        standing,
+        outline: r,
+        places,
     };
     merge_found(
         words,
@@ -346,20 +333,16 @@ pub fn merge_projects(
         left,
         right,
         FoundPair {
-            texts,
-            left: l,
-            right: r,
+            left: left_found,
+            right: right_found,
         },
         tables,
         left_nodes,
         left_spots,
         right_nodes,
         right_spots,
-        &joins,
         left_constants,
         right_constants,
-        &at,
-        &starts,
         out,
     )
 }

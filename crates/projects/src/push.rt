@@ -1,4 +1,8 @@
 // push_constants_in_project_pattern.
+use crate::one::FoundSide;
+use crate::one::NamedSide;
+use crate::one::name_one;
+use crate::one::put_one;
 use answers::Answer;
 use emit::put;
 use emit::put_all;
@@ -8,14 +12,13 @@ use names::Entry;
 use sides::columns::put_columns;
 use sides::columns::width;
 use sides::side::Finding;
-use sides::side::Outline;
+use sides::side::Places;
 use sides::side::Side;
+use sides::side::Standing;
 use sides::side::find_side;
-use sides::side::name_found;
-use sides::writing::put_side;
 use words::table::WordRow;
 ghost use mathlib.Core.Path.{_≡_};
-ghost use Prim.Native.Nat.{ℕ, _-_, _≤_};
+ghost use Prim.Native.Nat.{_-_, _≤_};
 ghost use mathlib.Core.List.{List, [], _∷_, _++_};
 ghost use mathlib.Core.Bool.{false};
 ghost use lib.ListN.{length};
@@ -29,7 +32,7 @@ ghost use Rattle.answers.specs.Outcome.{Answered};
 ghost use Rattle.scoping.specs.Label.{prefixV};
 ghost use Rattle.merging.specs.Request.{Projection, tree};
 ghost use Rattle.sides.specs.bridge.Columns.{columnsIn, picked};
-ghost use Rattle.projects.specs.bridge.Joining.{Stands, Outlined, Sided, pushedTree, Terms, KnownTerms, pushedBehind};
+ghost use Rattle.projects.specs.bridge.Joining.{Stands, IsFound, IsNamed, pushedTree, Terms, KnownTerms, pushedBehind};
 ghost use Rattle.names.specs.bridge.Names.{startsOf, sizesOf};
 ghost use Rattle.words.specs.bridge.Words.{Worded};
 ghost use Rattle.walking.specs.bridge.Renamed.{Shaped};
@@ -60,33 +63,27 @@ fn put_pushed(
     head: &[u8],
     query: &[u8],
     table: &[Entry; 1024],
-    n: usize,
     spots: &[Spot],
     pool: &[u8],
     news: &[Entry; 1024],
-    side: Side,
     line: &[u8],
     constants: &[u8],
-    at: &[u16; 64],
-    lines: &[u16; 64],
+    named: NamedSide,
     out: &mut [u8],
 ) -> usize
-    requires { ⌜ ((from : ℕ) × (x : Projection) × (ks : List Pair) × Sided (now query) from (startsOf (now table)) (sizesOf (now table)) n (now spots) prefixV false (now constants) (now pool) (startsOf (now news)) (sizesOf (now news)) (now line) (now at) (now lines) side x [] ks) ⌝ }
-    ensures { λ r. ⌜ ((from : ℕ) (x : Projection) (ks : List Pair) → Sided (now (query .entry)) from (startsOf (now (table .entry))) (sizesOf (now (table .entry))) n (now (spots .entry)) prefixV false (now (constants .entry)) (now (pool .entry)) (startsOf (now (news .entry))) (sizesOf (now (news .entry))) (now (line .entry)) (now (at .entry)) (now (lines .entry)) side x [] ks → em r (now (out .exit)) ≡ puts (now (head .entry) ++ layout (pushedTree x ks)) (em 0 (now (out .entry)))) ⌝ }
+    requires { ⌜ ((x : Projection) × (ks : List Pair) × IsNamed (now query) (now table) (now spots) prefixV false (now constants) (now pool) (now news) (now line) named x [] ks) ⌝ }
+    ensures { λ r. ⌜ ((x : Projection) (ks : List Pair) → IsNamed (now (query .entry)) (now (table .entry)) (now (spots .entry)) prefixV false (now (constants .entry)) (now (pool .entry)) (now (news .entry)) (now (line .entry)) named x [] ks → em r (now (out .exit)) ≡ puts (now (head .entry) ++ layout (pushedTree x ks)) (em 0 (now (out .entry)))) ⌝ }
 {
-    let a = put_head(head, line, side, out);
-    put_side(
+    let a = put_head(head, line, named.side, out);
+    put_one(
         query,
         table,
-        n,
         spots,
         pool,
         news,
-        side,
         line,
         constants,
-        at,
-        lines,
+        named,
         out,
         a,
     )
@@ -97,35 +94,27 @@ fn push_found(
     words: &[WordRow; 56],
     head: &[u8],
     query: &[u8],
-    from: usize,
     table: &[Entry; 1024],
-    n: usize,
     nodes: &[Node],
     spots: &mut [Spot],
-    outline: Outline,
-    joins: &[u16; 64],
     constants: &[u8],
-    at: &[u16; 64],
-    lines: &[u16; 64],
+    found: FoundSide,
     out: &mut [u8],
 ) -> Answer
-    requires { ⌜ ((x : Projection) × (ks : List Pair) × Outlined (now query) from (startsOf (now table)) (sizesOf (now table)) n (now spots) false (now constants) (now joins) (now at) (now lines) outline x [] ks) × Worded (now words) × Shaped (now words) (now nodes) (length (now nodes)) (length (now spots)) ⌝ }
-    ensures { λ r. ⌜ ((x : Projection) (ks : List Pair) → Outlined (now (query .entry)) from (startsOf (now (table .entry))) (sizesOf (now (table .entry))) n (now (spots .entry)) false (now (constants .entry)) (now (joins .entry)) (now (at .entry)) (now (lines .entry)) outline x [] ks → Answered (pushedBehind (now (head .entry)) x ks) (now (out .entry)) (now (out .exit)) r) ⌝ }
+    requires { ⌜ ((x : Projection) × (ks : List Pair) × IsFound (now query) (now table) (now spots) false (now constants) found x [] ks) × Worded (now words) × Shaped (now words) (now nodes) (length (now nodes)) (length (now spots)) ⌝ }
+    ensures { λ r. ⌜ ((x : Projection) (ks : List Pair) → IsFound (now (query .entry)) (now (table .entry)) (now (spots .entry)) false (now (constants .entry)) found x [] ks → Answered (pushedBehind (now (head .entry)) x ks) (now (out .entry)) (now (out .exit)) r) ⌝ }
 {
     let mut pool = [0u8; 16384];
     let mut news = [[0u16; 2]; 1024];
     let mut line = [0u8; 8336];
-    let side = name_found(
-        query,
-        from,
-        table,
-        n,
+    let named = name_one(
         words,
+        query,
+        table,
         nodes,
         spots,
         b'v',
-        outline,
-        joins,
+        found,
         &mut pool,
         &mut news,
         &mut line,
@@ -135,15 +124,12 @@ fn push_found(
         head,
         query,
         table,
-        n,
         spots,
         &pool,
         &news,
-        side,
         &line,
         constants,
-        at,
-        lines,
+        named,
         &mut none,
     );
     if out.len() < size {
@@ -153,15 +139,12 @@ fn push_found(
         head,
         query,
         table,
-        n,
         spots,
         &pool,
         &news,
-        side,
         &line,
         constants,
-        at,
-        lines,
+        named,
         out,
     );
     Answer::Written(put)
@@ -173,46 +156,46 @@ pub fn push_in_project(
     words: &[WordRow; 56],
     head: &[u8],
     query: &[u8],
-    from: usize,
+    standing: Standing,
     table: &[Entry; 1024],
-    n: usize,
     nodes: &[Node],
     spots: &mut [Spot],
     constants: &[u8],
     out: &mut [u8],
 ) -> Answer
-    requires { ⌜ ((x : Projection) × Stands (now query) from (startsOf (now table)) (sizesOf (now table)) n (now spots) (tree x)) × KnownTerms (now constants) × Worded (now words) × Shaped (now words) (now nodes) (length (now nodes)) (length (now spots)) ⌝ }
-    ensures { λ r. ⌜ ((x : Projection) (ks : List Pair) → Stands (now (query .entry)) from (startsOf (now (table .entry))) (sizesOf (now (table .entry))) n (now (spots .entry)) (tree x) → Terms (now (constants .entry)) ks → Answered (pushedBehind (now (head .entry)) x ks) (now (out .entry)) (now (out .exit)) r) ⌝ }
+    requires { ⌜ ((x : Projection) × Stands (now query) (standing .from) (startsOf (now table)) (sizesOf (now table)) (standing .n) (now spots) (tree x)) × KnownTerms (now constants) × Worded (now words) × Shaped (now words) (now nodes) (length (now nodes)) (length (now spots)) ⌝ }
+    ensures { λ r. ⌜ ((x : Projection) (ks : List Pair) → Stands (now (query .entry)) (standing .from) (startsOf (now (table .entry))) (sizesOf (now (table .entry))) (standing .n) (now (spots .entry)) (tree x) → Terms (now (constants .entry)) ks → Answered (pushedBehind (now (head .entry)) x ks) (now (out .entry)) (now (out .exit)) r) ⌝ }
 {
     let mut joins = [0u16; 64];
     let mut at = [0u16; 64];
-    let mut lines = [0u16; 64];
+    let mut starts = [0u16; 64];
     let Finding::Found(outline) = find_side(
         query,
-        from,
+        standing.from,
         &constants[..0],
         false,
         constants,
         &mut joins,
         &mut at,
-        &mut lines,
+        &mut starts,
     ) else {
         return Answer::Outside;
+    };
+    let places = Places { joins, at, starts };
+    let found = FoundSide {
+        standing,
+        outline,
+        places,
     };
     push_found(
         words,
         head,
         query,
-        from,
         table,
-        n,
         nodes,
         spots,
-        outline,
-        &joins,
         constants,
-        &at,
-        &lines,
+        found,
         out,
     )
 }

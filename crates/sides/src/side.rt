@@ -68,6 +68,19 @@ fn name_side(
     standardize_variables(text, table, n, &flags, prefix, joins, m, pool, news);
 }
 
+// Where a text's tree starts, and how many names it has.
+pub struct Standing {
+    pub from: usize,
+    pub n: usize,
+}
+
+// The positions that a side's lists name: of joins, of constants, and where the constants' lines start.
+pub struct Places {
+    pub joins: [u16; 64],
+    pub at: [u16; 64],
+    pub starts: [u16; 64],
+}
+
 // What is found of a side before its names: where its inner pattern starts, how many columns it has, which of them are joined
 // and which carry constants, and how many positions each list has.
 pub struct Outline {
@@ -118,39 +131,38 @@ pub fn find_side(
     })
 }
 
-// The new names of a side, by its m join positions: its tree is renamed; and where its line of renamed columns ends.
+// The new names of a side, by its join positions: its tree is renamed; and where its line of renamed columns ends.
 fn name_columns(
     text: &[u8],
-    from: usize,
-    inner: usize,
-    columns: usize,
+    standing: Standing,
+    outline: Outline,
     table: &[Entry; 1024],
-    n: usize,
     words: &[WordRow; 56],
     nodes: &[Node],
     spots: &mut [Spot],
     prefix: u8,
     at: &[u16; 64],
-    m: usize,
     pool: &mut [u8],
     news: &mut [Entry; 1024],
     line: &mut [u8],
 ) -> usize
-    requires { ⌜ Letter prefix × (16384 ≤ length (now pool)) × (length (now news) ≡ 1024) × ((i : ℕ) → getD (sizesOf (now news)) i 0 ≡ 0) × (length (now line) ≡ 8336) × (m ≤ 64) × (length (now at) ≡ 64) × ((x : Projection) × Placed (now text) from (startsOf (now table)) (sizesOf (now table)) n (now spots) inner columns x × (inside (x .columns) (take m (now at)) ≡ true)) × Worded (now words) × Shaped (now words) (now nodes) (length (now nodes)) (length (now spots)) ⌝ }
-    ensures { λ r. ⌜ (r ≤ 8336) × ((x : Projection) → Placed (now (text .entry)) from (startsOf (now (table .entry))) (sizesOf (now (table .entry))) n (now (spots .entry)) inner columns x → inside (x .columns) (take m (now (at .entry))) ≡ true → Renames (namesIn (now (text .entry)) (now (table .entry)) n) n (now (pool .exit)) (startsOf (now (news .exit))) (sizesOf (now (news .exit))) (sideName prefix (x .columns) (x .inner) (take m (now (at .entry)))) × (columnsIn (now (line .exit)) r ≡ map (sideName prefix (x .columns) (x .inner) (take m (now (at .entry)))) (x .columns))) ⌝ }
+    requires { ⌜ Letter prefix × (16384 ≤ length (now pool)) × (length (now news) ≡ 1024) × ((i : ℕ) → getD (sizesOf (now news)) i 0 ≡ 0) × (length (now line) ≡ 8336) × (outline .joins ≤ 64) × (length (now at) ≡ 64) × ((x : Projection) × Placed (now text) (standing .from) (startsOf (now table)) (sizesOf (now table)) (standing .n) (now spots) (outline .inner) (outline .columns) x × (inside (x .columns) (take (outline .joins) (now at)) ≡ true)) × Worded (now words) × Shaped (now words) (now nodes) (length (now nodes)) (length (now spots)) ⌝ }
+    ensures { λ r. ⌜ (r ≤ 8336) × ((x : Projection) → Placed (now (text .entry)) (standing .from) (startsOf (now (table .entry))) (sizesOf (now (table .entry))) (standing .n) (now (spots .entry)) (outline .inner) (outline .columns) x → inside (x .columns) (take (outline .joins) (now (at .entry))) ≡ true → Renames (namesIn (now (text .entry)) (now (table .entry)) (standing .n)) (standing .n) (now (pool .exit)) (startsOf (now (news .exit))) (sizesOf (now (news .exit))) (sideName prefix (x .columns) (x .inner) (take (outline .joins) (now (at .entry)))) × (columnsIn (now (line .exit)) r ≡ map (sideName prefix (x .columns) (x .inner) (take (outline .joins) (now (at .entry)))) (x .columns))) ⌝ }
     ensures renamed { λ _. ⌜ Renamed (sizesOf (now (news .exit))) (now (spots .entry)) 0 (now (spots .exit)) (length (now (spots .entry))) ⌝ }
 {
     let mut joins = [0u16; 64];
+    let n = standing.n;
+    let m = outline.joins;
     join_entries(spots, at, m, &mut joins);
     name_side(text, table, n, spots, prefix, &joins, m, pool, news);
     rename_tree(words, nodes, nodes.len(), spots, spots.len(), news);
     let size = put_renamed(
         text,
-        from,
-        inner,
+        standing.from,
+        outline.inner,
         spots,
         0,
-        columns,
+        outline.columns,
         table,
         n,
         pool,
@@ -175,36 +187,32 @@ pub struct Side {
 // Naming: the new names of a side that was found, and its line of renamed columns.
 pub fn name_found(
     text: &[u8],
-    from: usize,
+    standing: Standing,
+    outline: Outline,
     table: &[Entry; 1024],
-    n: usize,
     words: &[WordRow; 56],
     nodes: &[Node],
     spots: &mut [Spot],
     prefix: u8,
-    outline: Outline,
     joins: &[u16; 64],
     pool: &mut [u8],
     news: &mut [Entry; 1024],
     line: &mut [u8],
 ) -> Side
-    requires { ⌜ Letter prefix × (16384 ≤ length (now pool)) × (length (now news) ≡ 1024) × ((i : ℕ) → getD (sizesOf (now news)) i 0 ≡ 0) × (length (now line) ≡ 8336) × (length (now joins) ≡ 64) × ((second : Bool) × (constants : Bytes) × (x : Projection) × (js : List Pair) × (ks : List Pair) × (at : List ℕ) × (lines : List ℕ) × TreeIn (now text) from (startsOf (now table)) (sizesOf (now table)) n (now spots) (tree x) × (length (x .columns) ≤ 64) × (inside (x .columns) (positionsIn second js) ≡ true) × OutlineIs (now text) second constants x js ks (now joins) at lines outline) × Worded (now words) × Shaped (now words) (now nodes) (length (now nodes)) (length (now spots)) ⌝ }
-    ensures { λ r. ⌜ ((second : Bool) (constants : Bytes) (x : Projection) (js ks : List Pair) (at lines : List ℕ) → TreeIn (now (text .entry)) from (startsOf (now (table .entry))) (sizesOf (now (table .entry))) n (now (spots .entry)) (tree x) → length (x .columns) ≤ 64 → inside (x .columns) (positionsIn second js) ≡ true → OutlineIs (now (text .entry)) second constants x js ks (now (joins .entry)) at lines outline → SideIs (now (text .entry)) (startsOf (now (table .entry))) (sizesOf (now (table .entry))) n prefix second constants x js ks (now (pool .exit)) (startsOf (now (news .exit))) (sizesOf (now (news .exit))) (now (line .exit)) at lines r) ⌝ }
+    requires { ⌜ Letter prefix × (16384 ≤ length (now pool)) × (length (now news) ≡ 1024) × ((i : ℕ) → getD (sizesOf (now news)) i 0 ≡ 0) × (length (now line) ≡ 8336) × (length (now joins) ≡ 64) × ((second : Bool) × (constants : Bytes) × (x : Projection) × (js : List Pair) × (ks : List Pair) × (at : List ℕ) × (lines : List ℕ) × TreeIn (now text) (standing .from) (startsOf (now table)) (sizesOf (now table)) (standing .n) (now spots) (tree x) × (length (x .columns) ≤ 64) × (inside (x .columns) (positionsIn second js) ≡ true) × OutlineIs (now text) second constants x js ks (now joins) at lines outline) × Worded (now words) × Shaped (now words) (now nodes) (length (now nodes)) (length (now spots)) ⌝ }
+    ensures { λ r. ⌜ ((second : Bool) (constants : Bytes) (x : Projection) (js ks : List Pair) (at lines : List ℕ) → TreeIn (now (text .entry)) (standing .from) (startsOf (now (table .entry))) (sizesOf (now (table .entry))) (standing .n) (now (spots .entry)) (tree x) → length (x .columns) ≤ 64 → inside (x .columns) (positionsIn second js) ≡ true → OutlineIs (now (text .entry)) second constants x js ks (now (joins .entry)) at lines outline → SideIs (now (text .entry)) (startsOf (now (table .entry))) (sizesOf (now (table .entry))) (standing .n) prefix second constants x js ks (now (pool .exit)) (startsOf (now (news .exit))) (sizesOf (now (news .exit))) (now (line .exit)) at lines r) ⌝ }
     ensures renamed { λ _. ⌜ Renamed (sizesOf (now (news .exit))) (now (spots .entry)) 0 (now (spots .exit)) (length (now (spots .entry))) ⌝ }
 {
     let end = name_columns(
         text,
-        from,
-        outline.inner,
-        outline.columns,
+        standing,
+        outline,
         table,
-        n,
         words,
         nodes,
         spots,
         prefix,
         joins,
-        outline.joins,
         pool,
         news,
         line,

@@ -1,6 +1,7 @@
 // The lines of a side, written: its inner pattern under new names, with its constants bound.
 use crate::columns::put_columns;
 use crate::list::put_terms;
+use crate::side::Places;
 use crate::side::Side;
 use emit::put;
 use emit::put_all;
@@ -83,13 +84,12 @@ pub fn put_side(
     side: Side,
     line: &[u8],
     constants: &[u8],
-    positions: &[u16; 64],
-    lines: &[u16; 64],
+    places: Places,
     out: &mut [u8],
     at: usize,
 ) -> usize
-    requires { ⌜ ((from : ℕ) × (x : Projection) × (v : List (List ℕ)) × Placed (now text) from (startsOf (now table)) (sizesOf (now table)) n v (side .inner) (side .columns) x × Renamed (sizesOf (now news)) v 0 (now spots) (length v)) × (side .constants ≤ 64) × (length (now positions) ≡ 64) × (side .end ≤ length (now line)) × (ones (side .constant) ≡ length (picked 1 (side .constant) (columnsIn (now line) (side .end)))) ⌝ }
-    ensures { λ r. ⌜ ((from : ℕ) (x : Projection) (v : List (List ℕ)) (new : Bytes → Bytes) (ks : List Pair) → Placed (now (text .entry)) from (startsOf (now (table .entry))) (sizesOf (now (table .entry))) n v (side .inner) (side .columns) x → Renamed (sizesOf (now (news .entry))) v 0 (now (spots .entry)) (length v) → Renames (namesIn (now (text .entry)) (now (table .entry)) n) n (now (pool .entry)) (startsOf (now (news .entry))) (sizesOf (now (news .entry))) new → Kept (now (constants .entry)) ks false (now (positions .entry)) (now (lines .entry)) (side .constants) → (t : List Line) → puts (textOf t) (em r (now (out .exit))) ≡ puts (textOf (joinLine (side .constants) (put (renameInGraphPattern new (x .inner)) (valuesLines (side .constants) (ones (side .constant)) (picked 1 (side .constant) (columnsIn (now (line .entry)) (side .end))) (termsFrom ks 0 64) t)))) (em at (now (out .entry)))) ⌝ }
+    requires { ⌜ ((from : ℕ) × (x : Projection) × (v : List (List ℕ)) × Placed (now text) from (startsOf (now table)) (sizesOf (now table)) n v (side .inner) (side .columns) x × Renamed (sizesOf (now news)) v 0 (now spots) (length v)) × (side .constants ≤ 64) × (length (places .at) ≡ 64) × (side .end ≤ length (now line)) × (ones (side .constant) ≡ length (picked 1 (side .constant) (columnsIn (now line) (side .end)))) ⌝ }
+    ensures { λ r. ⌜ ((from : ℕ) (x : Projection) (v : List (List ℕ)) (new : Bytes → Bytes) (ks : List Pair) → Placed (now (text .entry)) from (startsOf (now (table .entry))) (sizesOf (now (table .entry))) n v (side .inner) (side .columns) x → Renamed (sizesOf (now (news .entry))) v 0 (now (spots .entry)) (length v) → Renames (namesIn (now (text .entry)) (now (table .entry)) n) n (now (pool .entry)) (startsOf (now (news .entry))) (sizesOf (now (news .entry))) new → Kept (now (constants .entry)) ks false (places .at) (places .starts) (side .constants) → (t : List Line) → puts (textOf t) (em r (now (out .exit))) ≡ puts (textOf (joinLine (side .constants) (put (renameInGraphPattern new (x .inner)) (valuesLines (side .constants) (ones (side .constant)) (picked 1 (side .constant) (columnsIn (now (line .entry)) (side .end))) (termsFrom ks 0 64) t)))) (em at (now (out .entry)))) ⌝ }
 {
     let a = put_join(side.constants, out, at);
     let b = put_renamed(
@@ -106,13 +106,15 @@ pub fn put_side(
         out,
         a,
     );
+    let positions = places.at;
+    let starts = places.starts;
     put_values(
         line,
         side.end,
         side.constant,
         constants,
-        positions,
-        lines,
+        &positions,
+        &starts,
         side.constants,
         out,
         b,

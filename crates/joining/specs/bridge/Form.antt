@@ -18,7 +18,7 @@ use Rattle.heads.specs.bridge.TreeAt.{headLine, TreeAt}
 use Rattle.merging.specs.Request.{made}
 use Rattle.merging.specs.Merge.{lists, mergeable, mergeTrees}
 use Rattle.names.specs.bridge.Names.{startsOf, sizesOf}
-use Rattle.projects.specs.declared.merge.Standing.{Standing}
+use Rattle.sides.specs.declared.side.Standing.{Standing}
 use Rattle.projects.specs.bridge.Joining.{KnownTree, KnownText}
 
 -- a tree without a head, as a query

@@ -4,10 +4,12 @@ use mathlib.Core.Path.{_≡_}
 use mathlib.Core.List.{List, [], _++_}
 use mathlib.Core.Bool.{Bool, true, false}
 use lib.ListN.{length, getD}
-use Rattle.text.specs.Text.{Bytes}
+use lib.Count.{ones}
+use Rattle.text.specs.Text.{Bytes, Line, textOf}
 use Rattle.algebra.specs.Tree.{Pattern}
 use Rattle.algebra.specs.Query.{Query, Pair}
-use Rattle.algebra.specs.Layout.{layout}
+use Rattle.algebra.specs.Layout.{put, layout}
+use Rattle.emit.specs.bridge.Emit.{Em, puts}
 use Rattle.algebra.specs.Reader.{reads}
 use Rattle.algebra.specs.Texts.{readTree, readQuery}
 use Rattle.algebra.specs.declared.Answer.{Answer as Check}
@@ -17,19 +19,22 @@ use Rattle.names.specs.bridge.Names.{listing, startsOf, sizesOf}
 use Rattle.lines.specs.bridge.Noded.{Roomy}
 use Rattle.lines.specs.bridge.Spotted.{Noted}
 use Rattle.scoping.specs.Numbering.{byPlace}
+use Rattle.scoping.specs.Rename.{renameInGraphPattern}
 use Rattle.scoping.specs.Premises.{inside, differentPositions}
 use Rattle.heads.specs.bridge.TreeAt.{TreeAt}
 use Rattle.merging.specs.Sides.{Constant, Pair as Joined}
 use Rattle.merging.specs.Request.{Projection, tree, readJoins, readConstants, joinPositions, byPosition, constantsIn, positions, request, allInside}
 use Rattle.merging.specs.Merge.{lists, mergeProjectPatterns, mergeTrees}
 use Rattle.merging.specs.Push.{pushConstantsInProjectPattern}
-use Rattle.projects.specs.declared.merge.Standing.{Standing}
+use Rattle.sides.specs.declared.side.Standing.{Standing}
+use Rattle.projects.specs.declared.one.FoundSide.{FoundSide}
+use Rattle.projects.specs.declared.one.NamedSide.{NamedSide}
 use Rattle.sides.specs.declared.side.Outline.{Outline}
 use Rattle.sides.specs.declared.side.Side.{Side}
 use Rattle.sides.specs.bridge.Columns.{columnsIn, maskOf, picked, goneBits}
 use Rattle.walking.specs.bridge.Renamed.{Renamed}
-use Rattle.sides.specs.bridge.Listed.{Listed, positionsIn}
-use Rattle.sides.specs.bridge.Side.{TreeIn, OutlineIs, SideIs}
+use Rattle.sides.specs.bridge.Listed.{Listed, positionsIn, Kept, termsFrom}
+use Rattle.sides.specs.bridge.Side.{TreeIn, Placed, Renames, OutlineIs, SideIs, joinLine, valuesLines}
 
 -- a tree stands in a text from a place on, and no project at its root has more than 64 columns
 pub record Stands (s : Bytes) (at : ℕ) (a l : List ℕ) (n : ℕ) (v : List (List ℕ)) (p : Pattern) : Type 0 where
@@ -97,6 +102,23 @@ pub record Sided (s : Bytes) (from : ℕ) (a l : List ℕ) (n : ℕ) (v : List (
   pub long : length at ≡ 64
   pub is : SideIs s a l n prefix second constants x js ks pool targets spans line at lines side
 
+-- the same of a side with what goes with it
+abbrev pub IsFound : Bytes → List (List ℕ) → List (List ℕ) → Bool → Bytes → FoundSide → Projection → List Pair → List Pair → Type 0
+IsFound s table v second constants f x js ks =
+    Outlined s (f .standing .from) (startsOf table) (sizesOf table) (f .standing .n) v second constants (f .places .joins) (f .places .at) (f .places .starts) (f .outline) x js ks
+
+abbrev pub IsNamed : Bytes → List (List ℕ) → List (List ℕ) → ℕ → Bool → Bytes → Bytes → List (List ℕ) → List ℕ → NamedSide → Projection → List Pair → List Pair → Type 0
+IsNamed s table v prefix second constants pool news line f x js ks =
+    Sided s (f .standing .from) (startsOf table) (sizesOf table) (f .standing .n) v prefix second constants pool (startsOf news) (sizesOf news) line (f .places .at) (f .places .starts) (f .side) x js ks
+
+-- the lines of a side are written, from one state of the output to another
+abbrev pub SideWritten : Bytes → List ℕ → List ℕ → ℕ → List (List ℕ) → List ℕ → List ℕ → List ℕ → Side → List ℕ → Bytes → List ℕ → List ℕ → Em → Em → Type 0
+SideWritten text starts sizes n spots pool targets spans s line constants at lines e e′ =
+    (from : ℕ) (x : Projection) (v : List (List ℕ)) (new : Bytes → Bytes) (ks : List Pair) → Placed text from starts sizes n v (s .inner) (s .columns) x → Renamed spans v 0 spots (length v)
+    → Renames (listing text starts sizes n) n pool targets spans new
+    → Kept constants ks false at lines (s .constants)
+    → (t : List Line) → puts (textOf t) e′ ≡ puts (textOf (joinLine (s .constants) (put (renameInGraphPattern new (x .inner)) (valuesLines (s .constants) (ones (s .constant)) (picked 1 (s .constant) (columnsIn line (s .end))) (termsFrom ks 0 64) t)))) e
+
 -- the tree with its constants
 abbrev pub pushedTree : Projection → List Pair → Pattern
 pushedTree x ks = pushConstantsInProjectPattern x (byPosition (constantsIn ks))
@@ -114,16 +136,6 @@ pub record Lists (pairs leftConstants rightConstants : Bytes) (js ks ls : List P
   pub joins : Listed pairs js
   pub left-terms : Terms leftConstants ks
   pub right-terms : Terms rightConstants ls
-
--- a side of two that was found
-abbrev pub OutlinedAt : ℕ → Bytes → Standing → List (List (List ℕ)) → List (List ℕ) → Bool → Bytes → List (List ℕ) → List (List ℕ) → List (List ℕ) → Outline → Projection → List Pair → List Pair → Type 0
-OutlinedAt i s t tables v second constants joins at starts o x js ks =
-    Outlined s (t .from) (startsOf (getD tables i [])) (sizesOf (getD tables i [])) (t .n) v second constants (getD joins i []) (getD at i []) (getD starts i []) o x js ks
-
--- a side of two that is ready
-abbrev pub SidedAt : ℕ → Bytes → Standing → List (List (List ℕ)) → List (List ℕ) → ℕ → Bool → Bytes → List Bytes → List (List (List ℕ)) → List (List ℕ) → List (List ℕ) → List (List ℕ) → Side → Projection → List Pair → List Pair → Type 0
-SidedAt i s t tables v prefix second constants pools news lines at starts side x js ks =
-    Sided s (t .from) (startsOf (getD tables i [])) (sizesOf (getD tables i [])) (t .n) v prefix second constants (getD pools i []) (startsOf (getD news i [])) (sizesOf (getD news i [])) (getD lines i []) (getD at i []) (getD starts i []) side x js ks
 
 -- the right columns that go: those with a constant, and those whose new names are joined columns' on the left
 abbrev pub goneMask : List ℕ → Side → List ℕ → Side → ℕ

@@ -36,4 +36,4 @@ push-of-spec =
     let c11 = c10 .before in
     let c15 = c11 .before .before .before .before in
     let p = c15 .pre in
-    let x = O.a-project _ _ _ ((c9 .tree-start .ensures .1 _ (p .0 .read)) .lines) _ (c8 .is-project .ensures) (c7 .if2 .left) in A.answered (pushedBehind (c6 .piece .result .now) (x .0) (p .1 .list)) (pushConstantsOutcome (c15 .args .query .now) (c15 .args .constants .now)) (c15 .args .out .now) (c3 .push-in-project .last .1 .1 .1 .1 .1 .1 .1 .1 .1 .0) (c3 .push-in-project .result) (Calls.pushes _ _ _ (p .0 .read) (p .1) (c11 .is-select-or-ask .result) (c11 .is-select-or-ask .ensures _ (p .0 .read)) (c10 .if1 .left) _ _ _ (c6 .piece .ensures) (c9 .tree-start .ensures .1 _ (p .0 .read)) (x .1)) (c3 .push-in-project .ensures (x .0) (p .1 .list) (KN.stands-as _ _ _ _ _ _ _ _ (x .2) (KN.query-stands _ _ _ _ _ (p .0) _ (c9 .tree-start .ensures .0) (c9 .tree-start .ensures .1 _ (p .0 .read)))) (p .1 .terms))))
+    let x = O.a-project _ _ _ ((c9 .tree-start .ensures .1 _ (p .0 .read)) .lines) _ (c8 .is-project .ensures) (c7 .if2 .left) in A.answered (pushedBehind (c6 .piece .result .now) (x .0) (p .1 .list)) (pushConstantsOutcome (c15 .args .query .now) (c15 .args .constants .now)) (c15 .args .out .now) (c3 .push-in-project .last .1 .1 .1 .1 .1 .1 .1 .1 .0) (c3 .push-in-project .result) (Calls.pushes _ _ _ (p .0 .read) (p .1) (c11 .is-select-or-ask .result) (c11 .is-select-or-ask .ensures _ (p .0 .read)) (c10 .if1 .left) _ _ _ (c6 .piece .ensures) (c9 .tree-start .ensures .1 _ (p .0 .read)) (x .1)) (c3 .push-in-project .ensures (x .0) (p .1 .list) (KN.stands-as _ _ _ _ _ _ _ _ (x .2) (KN.query-stands _ _ _ _ _ (p .0) _ (c9 .tree-start .ensures .0) (c9 .tree-start .ensures .1 _ (p .0 .read)))) (p .1 .terms))))

@@ -14,6 +14,6 @@ name-found-spec =
     (λ c. search needs)
     (λ c. search needs)
     (λ c. let n = c .before .before .before .before .before in let s = n .before .before .before .before .before .before .before .before in (
-      (λ second constants x js ks at lines t nar low is. S.named _ _ _ _ _ _ second constants x js ks _ at lines _ t nar low is _ _ _ _ _ _ (n .name-columns .ensures .0 .1 x (S.outline-placed _ _ _ _ _ _ second constants x js ks _ at lines _ t nar low is) (S.outline-inside _ _ _ _ _ _ second constants x js ks _ at lines _ t nar low is)) (let z = n .name-columns .ensures .0 .0 in let k = s .pre .4 in let q = n .name-columns .kept .1 .1 .1 .1 .1 .1 .1 .1 .1 .1 .1 .1 .1 .1 .0 in omega (arith, z, k, q))),
+      (λ second constants x js ks at lines t nar low is. S.named _ _ _ _ _ _ second constants x js ks _ at lines _ t nar low is _ _ _ _ _ _ (n .name-columns .ensures .0 .1 x (S.outline-placed _ _ _ _ _ _ second constants x js ks _ at lines _ t nar low is) (S.outline-inside _ _ _ _ _ _ second constants x js ks _ at lines _ t nar low is)) (let z = n .name-columns .ensures .0 .0 in let k = s .pre .4 in let q = n .name-columns .kept .1 .1 .1 .1 .1 .1 .1 .1 .1 .1 .1 .0 in omega (arith, z, k, q))),
       n .name-columns .ensures .1,
     )))
