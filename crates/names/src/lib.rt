@@ -34,6 +34,13 @@ pub fn new_table() -> [Entry; 1024]
     [[0; 2]; 1024]
 }
 
+// Two of them.
+pub fn two_tables() -> [[Entry; 1024]; 2]
+    ensures { λ r. ⌜ r ≡ replicate 2 (replicate 1024 (replicate 2 0)) ⌝ }
+{
+    [[[0; 2]; 1024]; 2]
+}
+
 // The table is cleared. Hints that are left from earlier names change no answer: a hint is compared with the name itself.
 pub fn clear(table: &mut [Entry; 1024])
     ensures { λ _. ⌜ now (table .exit) ≡ replicate 1024 (replicate 2 0) ⌝ }
@@ -70,7 +77,21 @@ fn hash_four(f: &[u8], i: usize, h: usize) -> usize
     (a + b + c + d) % 4294967296
 }
 
-// A name's hash, of 32 bits. A byte is added before the product, so that it reaches the top bits.
+// The hash behind the bytes from a place on, one by one. A byte is added before the product, so that it reaches the top bits.
+fn hash_rest(f: &[u8], from: usize, hash: usize) -> usize
+    requires { ⌜ (from ≤ length (now f)) × (hash < 4294967296) ⌝ }
+    ensures { λ r. ⌜ (r ≡ hashOf hash (drop from (now (f .entry)))) × (r < 4294967296) ⌝ }
+{
+    let mut h = hash;
+    let mut i = from;
+    while i < f.len() {
+        h = ((h + byte(f[i])) * 16777619) % 4294967296;
+        i += 1;
+    }
+    h
+}
+
+// A name's hash, of 32 bits.
 fn hash(f: &[u8]) -> usize
     ensures { λ r. ⌜ (r ≡ hashOf 0 (now (f .entry))) × (r < 4294967296) ⌝ }
 {
@@ -80,11 +101,7 @@ fn hash(f: &[u8]) -> usize
         h = hash_four(f, i, h);
         i += 4;
     }
-    while i < f.len() {
-        h = ((h + byte(f[i])) * 16777619) % 4294967296;
-        i += 1;
-    }
-    h
+    hash_rest(f, i, h)
 }
 
 // Where the search for a name's hint starts: the top eleven bits of its hash.
