@@ -300,7 +300,109 @@ fn merge_left(
     }
 }
 
-// The same for any texts. There are as many spots as pays: they are cleared first.
+// The same for texts of 1,536 bytes at most: room for their variables is cleared first, so there is as much as pays.
+fn merge_small(
+    query: bool,
+    words: &[WordRow; 56],
+    left: &[u8],
+    right: &[u8],
+    pairs: &[u8],
+    left_constants: &[u8],
+    right_constants: &[u8],
+    out: &mut [u8],
+) -> Answer
+    requires { ⌜ Worded (now words) × (length (now left) ≤ 1536) × (length (now right) ≤ 1536) ⌝ }
+    ensures { λ r. ⌜ Answered (mergeOutcome query (now (left .entry)) (now (right .entry)) (now (pairs .entry)) (now («left_constants» .entry)) (now («right_constants» .entry))) (now (out .entry)) (now (out .exit)) r ⌝ }
+{
+    let mut left_nodes = [[0u32; 3]; 512];
+    let mut left_spots = [[0u16; 3]; 512];
+    let mut right_nodes = [[0u32; 3]; 512];
+    let mut right_spots = [[0u16; 3]; 512];
+    merge_left(
+        query,
+        words,
+        left,
+        right,
+        &mut left_nodes,
+        &mut left_spots,
+        &mut right_nodes,
+        &mut right_spots,
+        pairs,
+        left_constants,
+        right_constants,
+        out,
+    )
+}
+
+// The same for texts of 6,144 bytes at most.
+fn merge_middle(
+    query: bool,
+    words: &[WordRow; 56],
+    left: &[u8],
+    right: &[u8],
+    pairs: &[u8],
+    left_constants: &[u8],
+    right_constants: &[u8],
+    out: &mut [u8],
+) -> Answer
+    requires { ⌜ Worded (now words) × (length (now left) ≤ 6144) × (length (now right) ≤ 6144) ⌝ }
+    ensures { λ r. ⌜ Answered (mergeOutcome query (now (left .entry)) (now (right .entry)) (now (pairs .entry)) (now («left_constants» .entry)) (now («right_constants» .entry))) (now (out .entry)) (now (out .exit)) r ⌝ }
+{
+    let mut left_nodes = [[0u32; 3]; 2048];
+    let mut left_spots = [[0u16; 3]; 2048];
+    let mut right_nodes = [[0u32; 3]; 2048];
+    let mut right_spots = [[0u16; 3]; 2048];
+    merge_left(
+        query,
+        words,
+        left,
+        right,
+        &mut left_nodes,
+        &mut left_spots,
+        &mut right_nodes,
+        &mut right_spots,
+        pairs,
+        left_constants,
+        right_constants,
+        out,
+    )
+}
+
+// The same for any texts.
+fn merge_large(
+    query: bool,
+    words: &[WordRow; 56],
+    left: &[u8],
+    right: &[u8],
+    pairs: &[u8],
+    left_constants: &[u8],
+    right_constants: &[u8],
+    out: &mut [u8],
+) -> Answer
+    requires { ⌜ Worded (now words) ⌝ }
+    ensures { λ r. ⌜ Answered (mergeOutcome query (now (left .entry)) (now (right .entry)) (now (pairs .entry)) (now («left_constants» .entry)) (now («right_constants» .entry))) (now (out .entry)) (now (out .exit)) r ⌝ }
+{
+    let mut left_nodes = [[0u32; 3]; 2048];
+    let mut left_spots = [[0u16; 3]; 5462];
+    let mut right_nodes = [[0u32; 3]; 2048];
+    let mut right_spots = [[0u16; 3]; 5462];
+    merge_left(
+        query,
+        words,
+        left,
+        right,
+        &mut left_nodes,
+        &mut left_spots,
+        &mut right_nodes,
+        &mut right_spots,
+        pairs,
+        left_constants,
+        right_constants,
+        out,
+    )
+}
+
+// The same with the table of words laid out, and as much room as the longer text asks for.
 pub fn merge_texts(
     query: bool,
     left: &[u8],
@@ -315,19 +417,11 @@ pub fn merge_texts(
     let words = all_words();
     let most = longer(left.len(), right.len());
     if most <= 1536 {
-        let mut left_nodes = [[0u32; 3]; 512];
-        let mut left_spots = [[0u16; 3]; 512];
-        let mut right_nodes = [[0u32; 3]; 512];
-        let mut right_spots = [[0u16; 3]; 512];
-        return merge_left(
+        return merge_small(
             query,
             &words,
             left,
             right,
-            &mut left_nodes,
-            &mut left_spots,
-            &mut right_nodes,
-            &mut right_spots,
             pairs,
             left_constants,
             right_constants,
@@ -335,38 +429,22 @@ pub fn merge_texts(
         );
     }
     if most <= 6144 {
-        let mut left_nodes = [[0u32; 3]; 2048];
-        let mut left_spots = [[0u16; 3]; 2048];
-        let mut right_nodes = [[0u32; 3]; 2048];
-        let mut right_spots = [[0u16; 3]; 2048];
-        return merge_left(
+        return merge_middle(
             query,
             &words,
             left,
             right,
-            &mut left_nodes,
-            &mut left_spots,
-            &mut right_nodes,
-            &mut right_spots,
             pairs,
             left_constants,
             right_constants,
             out,
         );
     }
-    let mut left_nodes = [[0u32; 3]; 2048];
-    let mut left_spots = [[0u16; 3]; 5462];
-    let mut right_nodes = [[0u32; 3]; 2048];
-    let mut right_spots = [[0u16; 3]; 5462];
-    merge_left(
+    merge_large(
         query,
         &words,
         left,
         right,
-        &mut left_nodes,
-        &mut left_spots,
-        &mut right_nodes,
-        &mut right_spots,
         pairs,
         left_constants,
         right_constants,

@@ -9,6 +9,7 @@ use lines::fields::Node;
 use lines::fields::Spot;
 use lists::check_constants;
 use names::Entry;
+use names::new_table;
 use projects::push::push_in_project;
 use reading::note_query;
 use sides::project::is_project;
@@ -92,7 +93,7 @@ fn push_with(
     requires { ⌜ HasRoom (now query) (now spots) × Worded (now words) × HasNodes (now query) (now nodes) ⌝ }
     ensures { λ r. ⌜ Answered (pushConstantsOutcome (now (query .entry)) (now (constants .entry))) (now (out .entry)) (now (out .exit)) r ⌝ }
 {
-    let mut table = [[0u16; 2]; 1024];
+    let mut table = new_table();
     let mut hints = [0u16; 2048];
     match note_query(query, words, &mut table, &mut hints, spots, nodes) {
         Noting::Good(n, k, m) => push_by(

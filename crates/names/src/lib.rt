@@ -34,13 +34,6 @@ pub fn new_table() -> [Entry; 1024]
     [[0; 2]; 1024]
 }
 
-// Two of them.
-pub fn two_tables() -> [[Entry; 1024]; 2]
-    ensures { λ r. ⌜ r ≡ replicate 2 (replicate 1024 (replicate 2 0)) ⌝ }
-{
-    [[[0; 2]; 1024]; 2]
-}
-
 // The table is cleared. Hints that are left from earlier names change no answer: a hint is compared with the name itself.
 pub fn clear(table: &mut [Entry; 1024])
     ensures { λ _. ⌜ now (table .exit) ≡ replicate 1024 (replicate 2 0) ⌝ }

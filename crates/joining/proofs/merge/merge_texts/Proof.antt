@@ -1,8 +1,6 @@
 -- `joining::merge/merge_texts` meets its contract. Assumes nothing.
 use borrow.Author.Needs.{needs}
 use native.Mathlib.Omega.{arith}
-use lib.ListN.{replicate}
-use Rattle.projects.proofs.Known as KN
 use Rattle.joining.proofs.merge.merge_texts.Statement.{statement}
 use Rattle.joining.proofs.merge.merge_texts.Tie as tie
 
@@ -12,24 +10,12 @@ merge-texts-spec =
     (tie.spec
     (λ c κs. search needs)
     (λ c κs. search needs)
+    (λ c κs. let c2 = c .before .before in let c3 = c2 .before in let c4 = c3 .before in let most = c2 .if1 .taken in let l = c3 .longer .ensures .0 in let r = c3 .longer .ensures .1 in (c4 .all-words .ensures, omega (arith, most, l), omega (arith, most, r)))
     (λ c. search needs)
     (λ c. search needs)
+    (λ c κs. let c2 = c .before .before in let c4 = c2 .before .before in let c5 = c4 .before in let most = c2 .if2 .taken in let l = c4 .longer .ensures .0 in let r = c4 .longer .ensures .1 in (c5 .all-words .ensures, omega (arith, most, l), omega (arith, most, r)))
     (λ c. search needs)
     (λ c. search needs)
-    (λ c κs. search needs)
-    (λ c. search needs)
-    (λ c. search needs)
-    (λ c. search needs)
-    (λ c. search needs)
-    (λ c. search needs)
-    (λ c. search needs)
-    (λ c κs. let c6 = c .before .before .before .before .before .before in let c8 = c6 .before .before in let c9 = c8 .before in let c16 = c9 .before .before .before .before .before .before .before in let most = c6 .if2 .taken in let l = c8 .longer .ensures .0 in let r = c8 .longer .ensures .1 in (KN.has-room (c16 .args .left .now) 2048 (replicate 3 0) (λ h. omega (arith, most, l)), KN.has-room (c16 .args .right .now) 2048 (replicate 3 0) (λ h. omega (arith, most, r)), c9 .all-words .ensures, KN.has-nodes (c16 .args .left .now) 2048 (replicate 3 0) (λ h m g k. k), KN.has-nodes (c16 .args .right .now) 2048 (replicate 3 0) (λ h m g k. k)))
-    (λ c. search needs)
-    (λ c. search needs)
-    (λ c. search needs)
-    (λ c. search needs)
-    (λ c. search needs)
-    (λ c. search needs)
-    (λ c κs. let c9 = c .before .before .before .before .before .before .before .before .before in let c16 = c9 .before .before .before .before .before .before .before in (KN.has-room (c16 .args .left .now) 5462 (replicate 3 0) (λ h. omega (arith, h)), KN.has-room (c16 .args .right .now) 5462 (replicate 3 0) (λ h. omega (arith, h)), c9 .all-words .ensures, KN.has-nodes (c16 .args .left .now) 2048 (replicate 3 0) (λ h m g k. k), KN.has-nodes (c16 .args .right .now) 2048 (replicate 3 0) (λ h m g k. k)))
+    (λ c κs. let c5 = c .before .before .before .before .before in c5 .all-words .ensures)
     (λ c. search needs)
     (λ c. search needs))

@@ -1,0 +1,19 @@
+-- `joining::merge/merge_large` meets its contract. Assumes nothing.
+use borrow.Author.Needs.{needs}
+use native.Mathlib.Omega.{arith}
+use lib.ListN.{replicate}
+use Rattle.projects.proofs.Known as KN
+use Rattle.joining.proofs.merge.merge_large.Statement.{statement}
+use Rattle.joining.proofs.merge.merge_large.Tie as tie
+
+pub merge-large-spec : {M : Type 1} → statement M
+merge-large-spec =
+    tie.close
+    (tie.spec
+    (λ c. search needs)
+    (λ c. search needs)
+    (λ c. search needs)
+    (λ c. search needs)
+    (λ c κs. let c11 = c .before .before .before .before .before .before .before .before .before .before .before in (KN.has-room (c11 .args .left .now) 5462 (replicate 3 0) (λ h. omega (arith, h)), KN.has-room (c11 .args .right .now) 5462 (replicate 3 0) (λ h. omega (arith, h)), c11 .pre, KN.has-nodes (c11 .args .left .now) 2048 (replicate 3 0) (λ h m g k. k), KN.has-nodes (c11 .args .right .now) 2048 (replicate 3 0) (λ h m g k. k)))
+    (λ c. search needs)
+    (λ c. search needs))
