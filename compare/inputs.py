@@ -1,5 +1,5 @@
 #!/usr/bin/env python3
-"""Random inputs of the programs `merge`, `merge_queries`, `push`, `negate`, `bindings` and `filters`. A seed always gives the same inputs.
+"""Random inputs of the calls but for scope and rename. A seed always gives the same inputs.
 
     inputs.py PROGRAM COUNT SEED    prints COUNT inputs, each followed by a line ====
 
@@ -15,19 +15,13 @@ import sys
 sys.dont_write_bytecode = True
 sys.path.append(str(pathlib.Path(__file__).resolve().parent.parent / "tests"))
 
+import calls
 import random_texts
 import trees
 import values
 
-# The kinds of text that a program reads, in order.
-TEXTS = {
-    "merge": ["tree", "tree", "joins", "constants", "constants"],
-    "merge_queries": ["query", "query", "joins", "constants", "constants"],
-    "push": ["query", "constants"],
-    "negate": ["query"],
-    "bindings": ["tree", "bindings"],
-    "filters": ["tree", "filters"],
-}
+# The kinds of text that a call reads, in order.
+TEXTS = {row.name: row.kinds for row in calls.ROWS if row.name not in ("scope", "rename")}
 BAR = b"--\n"
 HUGE = 4294967295
 TERMS = trees.IRIS + trees.LITERALS + [b"<k%d>" % number for number in range(trees.COLUMNS)]

@@ -1,15 +1,19 @@
-"""The two sides: nemo's Rust in the driver, and ours: the programs, one case a process, or `vectors`, many cases a process."""
+"""The two sides: nemo's Rust in the driver, and ours: the program `call`, one case a process, or `vectors`, many cases a process."""
 
 import concurrent.futures
 import os
 import pathlib
 import re
 import subprocess
+import sys
 import tempfile
 
 HERE = pathlib.Path(__file__).resolve().parent
+sys.path.append(str(HERE.parent / "tests"))
+
+import calls
+
 ROOM = 65536  # bytes of a program's answer; a longer one is refusal 6
-PROGRAMS = ["scope", "rename", "merge", "merge_queries", "push", "negate", "bindings", "filters"]  # by their kinds in `vectors`
 
 
 def build(rust, out):
@@ -37,7 +41,7 @@ class Driver:
 
 
 class Batch:
-    """The program `vectors` of a folder: what the program of each name writes, for all cases in one process."""
+    """The program `vectors` of a folder: what the program `call` writes for a name, for all cases in one process."""
 
     def __init__(self, folder):
         self.path = pathlib.Path(folder).resolve() / "vectors"
@@ -46,7 +50,7 @@ class Batch:
         with tempfile.TemporaryDirectory() as room:
             with open(pathlib.Path(room) / "cases", "wb") as file:
                 for number, case in enumerate(cases):
-                    file.write(b"%d\t%d\t==== %d\n%s\n" % (PROGRAMS.index(program), len(case), number, case))
+                    file.write(b"%d\t%d\t==== %d\n%s\n" % (calls.NAMES.index(program), len(case), number, case))
             done = subprocess.run([self.path], cwd=room, stdout=subprocess.PIPE)
         answers = re.split(rb"(?m)^==== [0-9]+\n", done.stdout)[1:]
         if done.returncode:
@@ -55,13 +59,13 @@ class Batch:
 
 
 class Programs:
-    """The programs of a folder."""
+    """The program `call` of a folder."""
 
     def __init__(self, folder):
         self.folder = pathlib.Path(folder).resolve()
 
     def answer(self, program, case):
-        done = subprocess.run([self.folder / program], input=case, stdout=subprocess.PIPE, timeout=60)
+        done = subprocess.run([self.folder / "call", program], input=case, stdout=subprocess.PIPE, timeout=60)
         return done.stdout if done.returncode >= 0 else b"stopped by signal %d\n" % -done.returncode
 
     def answers(self, program, cases):
@@ -70,5 +74,5 @@ class Programs:
 
 
 def ours(folder):
-    """Our side: `vectors`, if the folder has it, else the programs."""
+    """Our side: `vectors`, if the folder has it, else the program `call`."""
     return Batch(folder) if (pathlib.Path(folder) / "vectors").exists() else Programs(folder)

@@ -1,5 +1,5 @@
 #!/usr/bin/env python3
-"""The programs' recorded inputs with their answers.
+"""The calls' recorded inputs with their answers.
 
     python3 make_vectors.py OUTDIR
 
@@ -10,25 +10,24 @@ by hand from the rules of docs/SPECIFICATION.md, then the calls of that page. It
 stops where second_calls.py writes another answer.
 
 vectors/NAME.txt: a head, then the cases; a line ==== follows each of them. A
-case is what the program NAME reads, a line ->, and what it must write. `%` and
+case is what the call NAME reads, a line ->, and what it must write. `%` and
 two hexadecimal digits stand for a byte.
 
 cases: for each record a line `DIGIT TAB LENGTH TAB LABEL`, then LENGTH bytes
-and a line end; DIGIT is the program: 0 scope, 1 rename, 2 merge, 3
-merge_queries, 4 push, 5 negate, 6 bindings, 7 filters. expected: for each record
-a line with its label, then what the program writes.
+and a line end; DIGIT is the call's number in calls.txt. expected: for each record
+a line with its label, then what the program `call` writes.
 """
 import os
 import sys
 import urllib.parse
 
+import calls
 import second_calls
 import specification
 import written_merges
 import written_placings
 from written_texts import BAR, LONG, MALFORMED, OVER, padded, refused, text
 
-PROGRAMS = ["scope", "rename", "merge", "merge_queries", "push", "negate", "bindings", "filters"]
 HERE = os.path.dirname(os.path.abspath(__file__))
 
 
@@ -82,7 +81,7 @@ WRITTEN = [
 
 
 def records():
-    for program in PROGRAMS:
+    for program in calls.NAMES:
         for number, (given, answer) in enumerate(recorded(program), 1):
             yield program, "%s-%d" % (program, number), given, answer
     for program, name, given, answer in WRITTEN + written_merges.WRITTEN + written_placings.WRITTEN:
@@ -96,7 +95,7 @@ def main(outdir):
     with open(os.path.join(outdir, "cases"), "wb") as cases, open(os.path.join(outdir, "expected"), "wb") as expected:
         for program, label, given, answer in records():
             assert second_calls.answer(program, given) == answer, label
-            cases.write(b"%d\t%d\t%s\n" % (PROGRAMS.index(program), len(given), label.encode()))
+            cases.write(b"%d\t%d\t%s\n" % (calls.NAMES.index(program), len(given), label.encode()))
             cases.write(given + b"\n")
             expected.write(label.encode() + b"\n" + answer)
 

@@ -1,7 +1,7 @@
 #!/usr/bin/env python3
-"""The eight calls a second time, from docs/SPECIFICATION.md alone.
+"""The calls a second time, from docs/SPECIFICATION.md alone.
 
-answer(program, data) is what the program of that name writes. It shares no code
+answer(program, data) is what the call of that name writes. It shares no code
 with the product: texts are judged by second_reader.py, a tree is a line's fields
 with the nodes below it, and every rule is told as its section tells it.
 
@@ -9,19 +9,11 @@ with the nodes below it, and every rule is told as its section tells it.
 """
 import sys
 
+import calls
 from second_reader import number
 
 ROOM = 65536
-TEXTS = {  # what each program reads
-    "scope": ["tree"],
-    "rename": ["tree", "mapping"],
-    "merge": ["tree", "tree", "joins", "constants", "constants"],
-    "merge_queries": ["query", "query", "joins", "constants", "constants"],
-    "push": ["query", "constants"],
-    "negate": ["query"],
-    "bindings": ["tree", "bindings"],
-    "filters": ["tree", "filters"],
-}
+TEXTS = {row.name: row.kinds for row in calls.ROWS}  # what each call reads
 ONE = b"graph project distinct reduced slice service exists plus neg not asc desc agg un".split()
 TWO = b"join union minus filter extend or and eq same gt ge lt le add sub mul div bin".split()
 THREE = b"if tern".split()

@@ -1,5 +1,5 @@
--- No program's outcome refuses with 0, so what a program prints is what its outcome says (`program-prints`). Assumes nothing.
-use Prim.Native.Nat.{ℕ, _+_}
+-- No call's outcome refuses with 0, so what a program prints is what its outcome says (`program-prints`). Assumes nothing.
+use Prim.Native.Nat.{ℕ}
 use mathlib.Core.Path.{_≡_}
 use mathlib.Core.Bool.{Bool, true, false, cond}
 use mathlib.Core.List.{List}
@@ -28,8 +28,9 @@ use Rattle.negating.specs.Projections.{outermostProjection}
 use Rattle.filtering.specs.IfFound.{ifFound}
 use Rattle.filtering.specs.Bindings.{positionsInside, valuesUsable, bindingsOutcome}
 use Rattle.filtering.specs.Filters.{referencesInside, filtersOutcome}
-use Rattle.answering.specs.Answering.{inputOutcome, scopeInput, renameInput, mergeInput, mergeQueriesInput, pushInput, negateInput, bindingsInput, filtersInput}
+use Rattle.answering.specs.Answering.{called, callInput}
 use Rattle.answering.specs.Printed.{printed, Prints}
+use Rattle.answering.proofs.Laws.{by-number}
 
 -- ---- calls
 
@@ -75,36 +76,19 @@ filters-numbered tree filters =
 
 -- ---- programs
 
-module _ (s : Bytes) where
-  input-numbered : (n : ℕ) (call : List Bytes → Outcome) → ((ts : List Bytes) → Numbered (call ts)) → Numbered (inputOutcome n call s)
-  unfolding inputOutcome Numbered
-  input-numbered n call f =
-      either-numbered (leb (length s) 65536) _ _
-      (either-numbered (eqb (length (texts s)) (n + 1)) (call (texts s)) (refused 1) (f (texts s)) (λ z. omega arith)) (λ z. omega arith)
+called-numbered : (k : ℕ) (ts : List Bytes) → Numbered (called k ts)
+unfolding called Numbered
+called-numbered k ts =
+    by-number (λ k. Numbered (called k ts)) (of 1 _ (scope-numbered _)) (of 2 _ (rename-numbered _ _)) (of 5 _ (merge-patterns-numbered _ _ _ _ _))
+    (of 5 _ (merge-queries-numbered _ _ _ _ _)) (of 2 _ (push-numbered _ _)) (of 1 _ (negate-numbered _)) (of 2 _ (bindings-numbered _ _)) (of 2 _ (filters-numbered _ _))
+    (λ k. of 0 (refused 1) (λ z. omega arith)) k
+  where
+    of : (n : ℕ) (o : Outcome) → Numbered o → Numbered (cond (eqb (length ts) n) o (refused 1))
+    of n o f = either-numbered (eqb (length ts) n) o (refused 1) f (λ z. omega arith)
 
-  pub scope-input-numbered : Numbered (scopeInput s)
-  scope-input-numbered = input-numbered 0 _ λ ts. scope-numbered _
-
-  pub rename-input-numbered : Numbered (renameInput s)
-  rename-input-numbered = input-numbered 1 _ λ ts. rename-numbered _ _
-
-  pub merge-input-numbered : Numbered (mergeInput s)
-  merge-input-numbered = input-numbered 4 _ λ ts. merge-patterns-numbered _ _ _ _ _
-
-  pub merge-queries-input-numbered : Numbered (mergeQueriesInput s)
-  merge-queries-input-numbered = input-numbered 4 _ λ ts. merge-queries-numbered _ _ _ _ _
-
-  pub push-input-numbered : Numbered (pushInput s)
-  push-input-numbered = input-numbered 1 _ λ ts. push-numbered _ _
-
-  pub negate-input-numbered : Numbered (negateInput s)
-  negate-input-numbered = input-numbered 0 _ λ ts. negate-numbered _
-
-  pub bindings-input-numbered : Numbered (bindingsInput s)
-  bindings-input-numbered = input-numbered 1 _ λ ts. bindings-numbered _ _
-
-  pub filters-input-numbered : Numbered (filtersInput s)
-  filters-input-numbered = input-numbered 1 _ λ ts. filters-numbered _ _
+pub call-input-numbered : (k : ℕ) (s : Bytes) → Numbered (callInput k s)
+unfolding callInput Numbered
+call-input-numbered k s = either-numbered (leb (length s) 65536) (called k (texts s)) (refused 2) (called-numbered k (texts s)) (λ z. omega arith)
 
 -- the contract of `put_printed` and that of the program's call, together
 pub program-prints : (o : Outcome) (before answered now : Bytes) (a : Answer) (r : ℕ) → Numbered o → length before ≡ 65536 → Answered o before answered a → Prints a answered now r → take r now ≡ printed o

@@ -1,10 +1,12 @@
--- What a program makes of its input: docs/SPECIFICATION.md, "Programs". Assumes nothing.
+-- The calls, and what a program makes of its input: docs/SPECIFICATION.md, "Programs". Assumes nothing.
 use Prim.Native.Nat.{ℕ, _+_}
-use mathlib.Core.List.{List, []}
+use Prim.Native.String.{String}
+use mathlib.Core.List.{List, [], _∷_}
 use mathlib.Core.Bool.{cond}
 use lib.ListN.{length, getD}
 use lib.Dec.{leb, eqb}
-use Rattle.text.specs.Text.{Bytes}
+use Rattle.text.specs.Text.{Bytes, same}
+use Rattle.text.specs.Word.{bytes}
 use Rattle.parted.specs.Parted.{texts}
 use Rattle.answers.specs.Outcome.{Outcome, refused}
 use Rattle.renaming.specs.Scope.{scopeOutcome}
@@ -15,39 +17,54 @@ use Rattle.merging.specs.Negate.{negateOutcome}
 use Rattle.filtering.specs.Bindings.{bindingsOutcome}
 use Rattle.filtering.specs.Filters.{filtersOutcome}
 
--- first the length (2), then the number of lines `--` (1): with n of them there are n + 1 texts, and the call decides
-unfoldable pub inputOutcome : ℕ → (List Bytes → Outcome) → Bytes → Outcome
-unfolding texts
-inputOutcome n call s = cond (leb (length s) 65536) (cond (eqb (length (texts s)) (n + 1)) (call (texts s)) (refused 1)) (refused 2)
+-- a call: its name, how many texts it reads, and its outcome of them
+pub record Call : Type 0 where
+  pub name : Bytes
+  pub reads : ℕ
+  pub outcome : List Bytes → Outcome
 
--- the program `scope` reads a tree
-abbrev pub scopeInput : Bytes → Outcome
-scopeInput = inputOutcome 0 (λ ts. scopeOutcome (getD ts 0 []))
+-- a call that reads one text, two, or five
+abbrev pub one : String → (Bytes → Outcome) → Call
+one n f = record { name = bytes n; reads = 1; outcome = λ ts. f (getD ts 0 []) }
 
--- the program `rename` reads a tree and a mapping
-abbrev pub renameInput : Bytes → Outcome
-renameInput = inputOutcome 1 (λ ts. renameOutcome (getD ts 0 []) (getD ts 1 []))
+abbrev pub two : String → (Bytes → Bytes → Outcome) → Call
+two n f = record { name = bytes n; reads = 2; outcome = λ ts. f (getD ts 0 []) (getD ts 1 []) }
 
--- the program `merge` reads two trees, a join list and two constant lists
-abbrev pub mergeInput : Bytes → Outcome
-mergeInput = inputOutcome 4 (λ ts. mergePatternsOutcome (getD ts 0 []) (getD ts 1 []) (getD ts 2 []) (getD ts 3 []) (getD ts 4 []))
+abbrev pub five : String → (Bytes → Bytes → Bytes → Bytes → Bytes → Outcome) → Call
+five n f = record { name = bytes n; reads = 5; outcome = λ ts. f (getD ts 0 []) (getD ts 1 []) (getD ts 2 []) (getD ts 3 []) (getD ts 4 []) }
 
--- the program `merge_queries` reads the same with queries
-abbrev pub mergeQueriesInput : Bytes → Outcome
-mergeQueriesInput = inputOutcome 4 (λ ts. mergeQueriesOutcome (getD ts 0 []) (getD ts 1 []) (getD ts 2 []) (getD ts 3 []) (getD ts 4 []))
+-- the calls by their numbers, from 0
+abbrev pub calls : List Call
+calls =
+    one "scope" scopeOutcome
+    ∷ two "rename" renameOutcome
+    ∷ five "merge" mergePatternsOutcome
+    ∷ five "merge_queries" mergeQueriesOutcome
+    ∷ two "push" pushConstantsOutcome
+    ∷ one "negate" negateOutcome
+    ∷ two "bindings" bindingsOutcome
+    ∷ two "filters" filtersOutcome
+    ∷ []
 
--- the program `push` reads a query and constants
-abbrev pub pushInput : Bytes → Outcome
-pushInput = inputOutcome 1 (λ ts. pushConstantsOutcome (getD ts 0 []) (getD ts 1 []))
+-- behind the last one: it reads no text, so that every input has too many
+abbrev pub noCall : Call
+noCall = record { name = []; reads = 0; outcome = λ ts. refused 1 }
 
--- the program `negate` reads a query
-abbrev pub negateInput : Bytes → Outcome
-negateInput = inputOutcome 0 (λ ts. negateOutcome (getD ts 0 []))
+-- the call of a number with some texts: another number of texts than it reads is 1, otherwise it decides
+unfoldable pub called : ℕ → List Bytes → Outcome
+called k ts = cond (eqb (length ts) (getD calls k noCall .reads)) (getD calls k noCall .outcome ts) (refused 1)
 
--- the program `bindings` reads a tree and binding sets
-abbrev pub bindingsInput : Bytes → Outcome
-bindingsInput = inputOutcome 1 (λ ts. bindingsOutcome (getD ts 0 []) (getD ts 1 []))
+-- an input: first its length (2), then how many texts it has, one more than lines `--` (1), then the call
+unfoldable pub callInput : ℕ → Bytes → Outcome
+unfolding called texts
+callInput k s = cond (leb (length s) 65536) (called k (texts s)) (refused 2)
 
--- the program `filters` reads a tree and filters
-abbrev pub filtersInput : Bytes → Outcome
-filtersInput = inputOutcome 1 (λ ts. filtersOutcome (getD ts 0 []) (getD ts 1 []))
+-- the number of the first call that is named so; a name that none has is the number behind the last
+unfoldable pub numberIn : List Call → Bytes → ℕ
+unfolding same
+numberIn [] f = 0
+numberIn (c ∷ cs) f = cond (same f (c .name)) 0 (numberIn cs f + 1)
+
+unfoldable pub callNumber : Bytes → ℕ
+unfolding numberIn
+callNumber f = numberIn calls f

@@ -3,6 +3,7 @@ use mathlib.Core.Path.{_≡_, refl}
 use mathlib.Core.List.{[], _∷_, map}
 use Rattle.text.specs.Word.{bytes}
 use Rattle.answers.specs.Outcome.{refused, written}
+use Rattle.answering.specs.Answering.{callNumber, callInput}
 use Rattle.answering.specs.Printed.{refusalLine, printed}
 
 lines : map refusalLine (1 ∷ 7 ∷ 10 ∷ 17 ∷ []) ≡ bytes "refused\t1\n" ∷ bytes "refused\t7\n" ∷ bytes "refused\t10\n" ∷ bytes "refused\t17\n" ∷ []
@@ -12,3 +13,13 @@ lines = refl
 outcomes : map printed (refused 3 ∷ written (bytes "bgp\t0\n") ∷ written [] ∷ []) ≡ bytes "refused\t3\n" ∷ bytes "bgp\t0\n" ∷ [] ∷ []
 unfolding printed
 outcomes = refl
+
+-- a call's number by its name, and of a name that no call has
+numbers : map callNumber (bytes "scope" ∷ bytes "merge" ∷ bytes "filters" ∷ bytes "Merge" ∷ [] ∷ []) ≡ 0 ∷ 2 ∷ 7 ∷ 8 ∷ 8 ∷ []
+unfolding callNumber
+numbers = refl
+
+-- another number of texts than the call reads
+texts-of-calls : callInput 1 (bytes "bgp\t0\n--\n--\n") ∷ callInput 8 [] ∷ [] ≡ refused 1 ∷ refused 1 ∷ []
+unfolding callInput
+texts-of-calls = refl

@@ -1,4 +1,4 @@
-// What the programs share: an input's texts go to a call, and its answer to standard output.
+// The calls by number and name: an input's texts go to one, and its answer to standard output.
 use answers::Answer;
 use answers::number;
 use answers::size_of;
@@ -16,165 +16,143 @@ use parted::part_texts;
 use parted::text_at;
 use renaming::rename::rename;
 use renaming::scope::scope;
+use text::equal;
 use text::piece;
 ghost use mathlib.Core.Path.{_≡_};
+ghost use mathlib.Core.List.{[], _∷_};
 ghost use Prim.Native.Nat.{_≤_};
 ghost use lib.ListN.{length, take};
 ghost use Rattle.answers.specs.Outcome.{Answered};
-ghost use Rattle.answering.specs.Answering.{scopeInput, renameInput, mergeInput, mergeQueriesInput, pushInput, negateInput, bindingsInput, filtersInput};
+ghost use Rattle.answering.specs.Answering.{called, callInput, callNumber};
 ghost use Rattle.answering.specs.Printed.{refusalLine, Prints};
 
 // The bytes of the longest input, and of the longest answer.
 const LIMIT: usize = 65536;
 
-// The program `scope`: a tree.
-pub fn answer_scope(input: &[u8], out: &mut [u8]) -> Answer
-    ensures { λ r. ⌜ Answered (scopeInput (now (input .entry))) (now (out .entry)) (now (out .exit)) r ⌝ }
+const SCOPE: [u8; 5] = *b"scope";
+
+const RENAME: [u8; 6] = *b"rename";
+
+const MERGE: [u8; 5] = *b"merge";
+
+const MERGE_QUERIES: [u8; 13] = *b"merge_queries";
+
+const PUSH: [u8; 4] = *b"push";
+
+const NEGATE: [u8; 6] = *b"negate";
+
+const BINDINGS: [u8; 8] = *b"bindings";
+
+const FILTERS: [u8; 7] = *b"filters";
+
+// A call's number by its name; 8 is no call's.
+pub fn call_number(name: &[u8]) -> u32
+    ensures { λ r. ⌜ r ≡ callNumber (now (name .entry)) ⌝ }
 {
-    if LIMIT < input.len() {
-        return Answer::OverBound;
+    if equal(name, &SCOPE) {
+        return 0;
     }
-    let mut ends = [0usize; 5];
-    let n = part_texts(input, &mut ends);
-    if n != 0 {
-        return Answer::Malformed;
+    if equal(name, &RENAME) {
+        return 1;
     }
-    scope(text_at(input, &ends, n, 0), out)
+    if equal(name, &MERGE) {
+        return 2;
+    }
+    if equal(name, &MERGE_QUERIES) {
+        return 3;
+    }
+    if equal(name, &PUSH) {
+        return 4;
+    }
+    if equal(name, &NEGATE) {
+        return 5;
+    }
+    if equal(name, &BINDINGS) {
+        return 6;
+    }
+    if equal(name, &FILTERS) {
+        return 7;
+    }
+    8
 }
 
-// The program `rename`: a tree and a mapping.
-pub fn answer_rename(input: &[u8], out: &mut [u8]) -> Answer
-    ensures { λ r. ⌜ Answered (renameInput (now (input .entry))) (now (out .entry)) (now (out .exit)) r ⌝ }
+// A call's answer to one text.
+fn of_one(call: u32, a: &[u8], out: &mut [u8]) -> Answer
+    ensures { λ r. ⌜ Answered (called call (now (a .entry) ∷ [])) (now (out .entry)) (now (out .exit)) r ⌝ }
 {
-    if LIMIT < input.len() {
-        return Answer::OverBound;
+    if call == 0 {
+        return scope(a, out);
     }
-    let mut ends = [0usize; 5];
-    let n = part_texts(input, &mut ends);
-    if n != 1 {
-        return Answer::Malformed;
+    if call == 5 {
+        return negate(a, out);
     }
-    rename(
-        text_at(input, &ends, n, 0),
-        text_at(input, &ends, n, 1),
-        out,
-    )
+    Answer::Malformed
 }
 
-// The program `merge`: two trees, a join list, left and right constants.
-pub fn answer_merge(input: &[u8], out: &mut [u8]) -> Answer
-    ensures { λ r. ⌜ Answered (mergeInput (now (input .entry))) (now (out .entry)) (now (out .exit)) r ⌝ }
+// A call's answer to two texts.
+fn of_two(call: u32, a: &[u8], b: &[u8], out: &mut [u8]) -> Answer
+    ensures { λ r. ⌜ Answered (called call (now (a .entry) ∷ now (b .entry) ∷ [])) (now (out .entry)) (now (out .exit)) r ⌝ }
 {
-    if LIMIT < input.len() {
-        return Answer::OverBound;
+    if call == 1 {
+        return rename(a, b, out);
     }
-    let mut ends = [0usize; 5];
-    let n = part_texts(input, &mut ends);
-    if n != 4 {
-        return Answer::Malformed;
+    if call == 4 {
+        return push_constants(a, b, out);
     }
-    merge_patterns(
-        text_at(input, &ends, n, 0),
-        text_at(input, &ends, n, 1),
-        text_at(input, &ends, n, 2),
-        text_at(input, &ends, n, 3),
-        text_at(input, &ends, n, 4),
-        out,
-    )
+    if call == 6 {
+        return bindings(a, b, out);
+    }
+    if call == 7 {
+        return filters(a, b, out);
+    }
+    Answer::Malformed
 }
 
-// The program `merge_queries`: the same with queries.
-pub fn answer_merge_queries(input: &[u8], out: &mut [u8]) -> Answer
-    ensures { λ r. ⌜ Answered (mergeQueriesInput (now (input .entry))) (now (out .entry)) (now (out .exit)) r ⌝ }
+// A call's answer to five texts.
+fn of_five(call: u32, a: &[u8], b: &[u8], c: &[u8], d: &[u8], e: &[u8], out: &mut [u8]) -> Answer
+    ensures { λ r. ⌜ Answered (called call (now (a .entry) ∷ now (b .entry) ∷ now (c .entry) ∷ now (d .entry) ∷ now (e .entry) ∷ [])) (now (out .entry)) (now (out .exit)) r ⌝ }
 {
-    if LIMIT < input.len() {
-        return Answer::OverBound;
+    if call == 2 {
+        return merge_patterns(a, b, c, d, e, out);
     }
-    let mut ends = [0usize; 5];
-    let n = part_texts(input, &mut ends);
-    if n != 4 {
-        return Answer::Malformed;
+    if call == 3 {
+        return merge_queries(a, b, c, d, e, out);
     }
-    merge_queries(
-        text_at(input, &ends, n, 0),
-        text_at(input, &ends, n, 1),
-        text_at(input, &ends, n, 2),
-        text_at(input, &ends, n, 3),
-        text_at(input, &ends, n, 4),
-        out,
-    )
+    Answer::Malformed
 }
 
-// The program `push`: a query and constants.
-pub fn answer_push(input: &[u8], out: &mut [u8]) -> Answer
-    ensures { λ r. ⌜ Answered (pushInput (now (input .entry))) (now (out .entry)) (now (out .exit)) r ⌝ }
+// A call's answer to an input, whose texts are parted by lines `--`.
+pub fn answer(call: u32, input: &[u8], out: &mut [u8]) -> Answer
+    ensures { λ r. ⌜ Answered (callInput call (now (input .entry))) (now (out .entry)) (now (out .exit)) r ⌝ }
 {
     if LIMIT < input.len() {
         return Answer::OverBound;
     }
     let mut ends = [0usize; 5];
     let n = part_texts(input, &mut ends);
-    if n != 1 {
-        return Answer::Malformed;
+    if n == 0 {
+        return of_one(call, text_at(input, &ends, n, 0), out);
     }
-    push_constants(
-        text_at(input, &ends, n, 0),
-        text_at(input, &ends, n, 1),
-        out,
-    )
-}
-
-// The program `negate`: a query.
-pub fn answer_negate(input: &[u8], out: &mut [u8]) -> Answer
-    ensures { λ r. ⌜ Answered (negateInput (now (input .entry))) (now (out .entry)) (now (out .exit)) r ⌝ }
-{
-    if LIMIT < input.len() {
-        return Answer::OverBound;
+    if n == 1 {
+        return of_two(
+            call,
+            text_at(input, &ends, n, 0),
+            text_at(input, &ends, n, 1),
+            out,
+        );
     }
-    let mut ends = [0usize; 5];
-    let n = part_texts(input, &mut ends);
-    if n != 0 {
-        return Answer::Malformed;
+    if n == 4 {
+        return of_five(
+            call,
+            text_at(input, &ends, n, 0),
+            text_at(input, &ends, n, 1),
+            text_at(input, &ends, n, 2),
+            text_at(input, &ends, n, 3),
+            text_at(input, &ends, n, 4),
+            out,
+        );
     }
-    negate(text_at(input, &ends, n, 0), out)
-}
-
-// The program `bindings`: a tree and binding sets.
-pub fn answer_bindings(input: &[u8], out: &mut [u8]) -> Answer
-    ensures { λ r. ⌜ Answered (bindingsInput (now (input .entry))) (now (out .entry)) (now (out .exit)) r ⌝ }
-{
-    if LIMIT < input.len() {
-        return Answer::OverBound;
-    }
-    let mut ends = [0usize; 5];
-    let n = part_texts(input, &mut ends);
-    if n != 1 {
-        return Answer::Malformed;
-    }
-    bindings(
-        text_at(input, &ends, n, 0),
-        text_at(input, &ends, n, 1),
-        out,
-    )
-}
-
-// The program `filters`: a tree and filters.
-pub fn answer_filters(input: &[u8], out: &mut [u8]) -> Answer
-    ensures { λ r. ⌜ Answered (filtersInput (now (input .entry))) (now (out .entry)) (now (out .exit)) r ⌝ }
-{
-    if LIMIT < input.len() {
-        return Answer::OverBound;
-    }
-    let mut ends = [0usize; 5];
-    let n = part_texts(input, &mut ends);
-    if n != 1 {
-        return Answer::Malformed;
-    }
-    filters(
-        text_at(input, &ends, n, 0),
-        text_at(input, &ends, n, 1),
-        out,
-    )
+    Answer::Malformed
 }
 
 const REFUSED: [u8; 8] = *b"refused\t";

@@ -1,5 +1,6 @@
 // Reads two trees, a join list and constants of both from standard input, and writes the merged tree.
-use answering::answer_merge;
+use answering::answer;
+use answering::call_number;
 use answering::write_answer;
 use libc::STDIN_FILENO;
 
@@ -7,6 +8,6 @@ fn main() {
     let mut input = [0u8; 65537];
     let n = io::read_full(STDIN_FILENO, &mut input);
     let mut out = [0u8; 65536];
-    let answer = answer_merge(&input[..n], &mut out);
+    let answer = answer(call_number(b"merge"), &input[..n], &mut out);
     write_answer(answer, &mut out);
 }

@@ -26,29 +26,29 @@ module _ (s : Bytes) (ends : List ℕ) where
         left = λ i. st .left i ∙ ap (λ (x : ℕ). getD (textsFrom s x) i []) (sym a);
       }
 
-  pub parted-start : (e : ℕ) → length ends ≡ 5 → Ends s 0 e → Parted s (set ends 0 e) 0
-  parted-start e l f = record {
+  pub parted-start : (m e : ℕ) → 0 < m → length ends ≡ m → Ends s 0 e → Parted s (set ends 0 e) m 0
+  parted-start m e some l f = record {
     each = λ k h u. go k h;
     going = λ k h u. absurd (omega arith);
   }
     where
       go : (k : ℕ) → k ≤ 0 → Stands s (set ends 0 e) k
-      go zero h = record { ended = subst (Ends s 0) (sym (getD-set-same ends 0 e 0 (omega (arith, l)))) f; left = λ i. let z : 0 + i ≡ i = omega arith in ap (λ (j : ℕ). getD (texts s) j []) z ∙ at-start s i }
+      go zero h = record { ended = subst (Ends s 0) (sym (getD-set-same ends 0 e 0 (omega (arith, l, some)))) f; left = λ i. let z : 0 + i ≡ i = omega arith in ap (λ (j : ℕ). getD (texts s) j []) z ∙ at-start s i }
       go (suc k) h = absurd (omega arith)
 
-  module _ (n end : ℕ) (p : Parted s ends n) (at : n < 5 → getD ends n 0 ≡ end) (more : end < length s) where
-    going-on : (k : ℕ) → k < n + 1 → k < 5 → Dec (k < n) → getD ends k 0 < length s
+  module _ (m n end : ℕ) (p : Parted s ends m n) (at : n < m → getD ends n 0 ≡ end) (more : end < length s) where
+    going-on : (k : ℕ) → k < n + 1 → k < m → Dec (k < n) → getD ends k 0 < length s
     going-on k l u (yes y) = p .going k y u
     going-on k l u (no z) = let q : k ≡ n = omega arith in let r : getD ends k 0 ≡ end = ap (λ (j : ℕ). getD ends j 0) q ∙ at (omega arith) in omega (arith, r, more)
 
-    -- beyond the first five nothing is kept
-    pub parted-past : 5 ≤ n + 1 → Parted s ends (n + 1)
+    -- beyond the first m nothing is kept
+    pub parted-past : m ≤ n + 1 → Parted s ends m (n + 1)
     parted-past h = record {
       each = λ k l u. p .each k (omega arith) u;
       going = λ k l u. going-on k l u (decLt k n);
     }
 
-    module _ (e : ℕ) (f : Ends s (end + 3) e) (few : n + 1 < 5) (long : length ends ≡ 5) where
+    module _ (e : ℕ) (f : Ends s (end + 3) e) (few : n + 1 < m) (long : length ends ≡ m) where
       this : Stands s (set ends (n + 1) e) (suc n)
       this =
           let h = at (omega arith) in
@@ -66,26 +66,29 @@ module _ (s : Bytes) (ends : List ℕ) where
                 ∙ ap₂ (λ (x j : ℕ). getD (textsFrom s x) j []) (ap (λ (x : ℕ). x + 3) h ∙ sym a) (let q : suc i - 1 ≡ i = omega arith in q);
           }
 
-      stands-on : (k : ℕ) → k ≤ n + 1 → k < 5 → Dec (k < n + 1) → Stands s (set ends (n + 1) e) k
+      stands-on : (k : ℕ) → k ≤ n + 1 → k < m → Dec (k < n + 1) → Stands s (set ends (n + 1) e) k
       stands-on k l u (yes y) = stands-kept (n + 1) e k y (p .each k (omega arith) u)
       stands-on k l u (no z) = subst (Stands s (set ends (n + 1) e)) (let q : suc n ≡ k = omega arith in q) this
 
-      pub parted-next : Parted s (set ends (n + 1) e) (n + 1)
+      pub parted-next : Parted s (set ends (n + 1) e) m (n + 1)
       parted-next = record {
         each = λ k l u. stands-on k l u (decLt k (n + 1));
         going = λ k l u. let d : k ≡ n + 1 → ⊥ = omega arith in let q = getD-set-other ends (n + 1) k e 0 d in let g = going-on k l u (decLt k n) in omega (arith, q, g);
       }
 
 -- a text from its start to its end
-pub parted-text : (s : Bytes) (ends : List ℕ) (n k : ℕ) → Parted s ends n → k ≤ n → k < 5 → part (startOf ends k) (getD ends k 0) s ≡ getD (texts s) k []
-parted-text s ends n k p l u =
+pub parted-text : (s : Bytes) (ends : List ℕ) (m n k : ℕ) → Parted s ends m n → k ≤ n → k < m → part (startOf ends k) (getD ends k 0) s ≡ getD (texts s) k []
+parted-text s ends m n k p l u =
     let st = p .each k l u in
     let z : k + 0 ≡ k = omega arith in
     sym (ap (λ (j : ℕ). getD (texts s) j []) (sym z) ∙ st .left 0 ∙ at-here s (startOf ends k) (getD ends k 0) 0 (st .ended) refl)
+
+pub parted-same : (s : Bytes) (ends : List ℕ) (m k n : ℕ) → m ≡ k → Parted s ends m n → Parted s ends k n
+parted-same s ends m k n e p = subst (λ (x : ℕ). Parted s ends x n) e p
 
 pub start-next : (ends : List ℕ) (k : ℕ) → (k ≡ 0 → ⊥) → getD ends (k - 1) 0 + 3 ≡ startOf ends k
 start-next ends zero h = absurd (h refl)
 start-next ends (suc k) h = ap (λ (j : ℕ). getD ends j 0 + 3) (let q : suc k - 1 ≡ k = omega arith in q)
 
-pub set-end : (ends : List ℕ) (k e : ℕ) → length ends ≡ 5 → k < 5 → getD (set ends k e) k 0 ≡ e
-set-end ends k e l h = getD-set-same ends k e 0 (omega (arith, l))
+pub set-end : (ends : List ℕ) (m k e : ℕ) → length ends ≡ m → k < m → getD (set ends k e) k 0 ≡ e
+set-end ends m k e l h = getD-set-same ends k e 0 (omega (arith, l))

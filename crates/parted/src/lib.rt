@@ -44,10 +44,10 @@ fn text_end(s: &[u8], from: usize) -> usize
     s.len()
 }
 
-// The texts' ends, of the first five, and how many lines `--` the input has.
-pub fn part_texts(s: &[u8], ends: &mut [usize; 5]) -> usize
-    requires { ⌜ length (now ends) ≡ 5 ⌝ }
-    ensures { λ r. ⌜ (length (texts (now (s .entry))) ≡ r + 1) × Parted (now (s .entry)) (now (ends .exit)) r ⌝ }
+// The texts' ends, of as many as there is room for, and how many lines `--` the input has.
+pub fn part_texts(s: &[u8], ends: &mut [usize]) -> usize
+    requires { ⌜ 0 < length (now ends) ⌝ }
+    ensures { λ r. ⌜ (length (texts (now (s .entry))) ≡ r + 1) × Parted (now (s .entry)) (now (ends .exit)) (length (now (ends .entry))) r ⌝ }
 {
     let mut n = 0;
     let mut end = text_end(s, 0);
@@ -55,7 +55,7 @@ pub fn part_texts(s: &[u8], ends: &mut [usize; 5]) -> usize
     while end < s.len() {
         n += 1;
         end = text_end(s, end + 3);
-        if n < 5 {
+        if n < ends.len() {
             ends[n] = end;
         }
     }
@@ -63,8 +63,8 @@ pub fn part_texts(s: &[u8], ends: &mut [usize; 5]) -> usize
 }
 
 // Where a text starts: at the beginning, or behind the line `--` that ends the one before.
-fn text_start(ends: &[usize; 5], k: usize) -> usize
-    requires { ⌜ (k < 5) × ((k ≡ 0 → ⊥) → getD (now ends) (k - 1) 0 < 65536) ⌝ }
+fn text_start(ends: &[usize], k: usize) -> usize
+    requires { ⌜ (k < length (now ends)) × ((k ≡ 0 → ⊥) → getD (now ends) (k - 1) 0 + 3 < 18446744073709551616) ⌝ }
     ensures { λ r. ⌜ r ≡ startOf (now (ends .entry)) k ⌝ }
 {
     if k == 0 {
@@ -74,8 +74,8 @@ fn text_start(ends: &[usize; 5], k: usize) -> usize
 }
 
 // The text of a number, counted from 0.
-pub fn text_at<'a>(s: &'a [u8], ends: &[usize; 5], n: usize, k: usize) -> &'a [u8]
-    requires { ⌜ (length (now s) ≤ 65536) × (k < 5) × (k ≤ n) × Parted (now s) (now ends) n ⌝ }
+pub fn text_at<'a>(s: &'a [u8], ends: &[usize], n: usize, k: usize) -> &'a [u8]
+    requires { ⌜ (k < length (now ends)) × (k ≤ n) × Parted (now s) (now ends) (length (now ends)) n ⌝ }
     ensures { λ r. ⌜ now r ≡ getD (texts (now (s .entry))) k [] ⌝ }
 {
     let from = text_start(ends, k);

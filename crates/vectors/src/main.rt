@@ -1,34 +1,13 @@
-// The programs' answers: for each record of the file `cases` a line of its label, then what the program writes for its text.
-// The kinds are 0 scope, 1 rename, 2 merge, 3 merge_queries, 4 push, 5 negate, 6 bindings and 7 filters.
-use answering::answer_bindings;
-use answering::answer_filters;
-use answering::answer_merge;
-use answering::answer_merge_queries;
-use answering::answer_negate;
-use answering::answer_push;
-use answering::answer_rename;
-use answering::answer_scope;
+// The calls' answers: for each record of the file `cases` a line of its label, then what the program `call` writes for its text.
+// A record's kind is its call's number: 0 scope, 1 rename, 2 merge, 3 merge_queries, 4 push, 5 negate, 6 bindings and 7 filters.
+use answering::answer;
 use answering::write_answer;
-use answers::Answer;
 use libc::STDOUT_FILENO;
 use records::LIMIT;
 use records::NONE;
 use records::read_record;
 use text::piece;
 ghost use Prim.Native.Nat.{_<_};
-
-fn answer_to(kind: u32, input: &[u8], out: &mut [u8]) -> Answer {
-    match kind {
-        0 => answer_scope(input, out),
-        1 => answer_rename(input, out),
-        2 => answer_merge(input, out),
-        3 => answer_merge_queries(input, out),
-        4 => answer_push(input, out),
-        5 => answer_negate(input, out),
-        6 => answer_bindings(input, out),
-        _ => answer_filters(input, out),
-    }
-}
 
 // The record at a place of the file, and where the next one starts.
 fn turn(fd: i32, at: u64, window: &mut [u8], out: &mut [u8]) -> u64
@@ -46,7 +25,7 @@ fn turn(fd: i32, at: u64, window: &mut [u8], out: &mut [u8]) -> u64
     }
     io::write_all(STDOUT_FILENO, piece(window, r.label, r.label_size));
     io::write_all(STDOUT_FILENO, b"\n");
-    let answer = answer_to(r.kind, piece(window, r.text, r.text_size), out);
+    let answer = answer(r.kind, piece(window, r.text, r.text_size), out);
     write_answer(answer, out);
     next
 }

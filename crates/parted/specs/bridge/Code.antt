@@ -38,11 +38,12 @@ abbrev pub startOf : List ℕ → ℕ → ℕ
 startOf ends zero = 0
 startOf ends (suc k) = getD ends k 0 + 3
 
--- of the texts up to number n, each of the first five stands between its start and its end
+-- a text stands between its start and its end
 pub record Stands (s : Bytes) (ends : List ℕ) (k : ℕ) : Type 0 where
   pub ended : Ends s (startOf ends k) (getD ends k 0)
   pub left : (i : ℕ) → getD (texts s) (k + i) [] ≡ getD (textsFrom s (startOf ends k)) i []
 
-pub record Parted (s : Bytes) (ends : List ℕ) (n : ℕ) : Type 0 where
-  pub each : (k : ℕ) → k ≤ n → k < 5 → Stands s ends k
-  pub going : (k : ℕ) → k < n → k < 5 → getD ends k 0 < length s
+-- of the texts up to number n, each of the first m does
+pub record Parted (s : Bytes) (ends : List ℕ) (m n : ℕ) : Type 0 where
+  pub each : (k : ℕ) → k ≤ n → k < m → Stands s ends k
+  pub going : (k : ℕ) → k < n → k < m → getD ends k 0 < length s
