@@ -84,7 +84,8 @@ def pairs():
     timed = named("bench/calls", r"\b([0-9]+):(\w+)")
     yield "bench/calls", timed, [(numbers[name], name) for _, name in timed]
     for program in "bench_calls", "vectors":
-        yield f"crates/{program}", named(f"crates/{program}/src/main.rt", r"\b([0-9]+) ([a-z_]+)(?:,| and|\.)"), [(numbers[name], name) for name in NAMES]
+        said = named(f"crates/{program}/src/main.rt", r"\b([0-9]+) ([a-z_]+)(?:,| and|\.)")
+        yield f"crates/{program}", said, [(numbers[name], name) for name in NAMES]
     yield "bench/stack", named("bench/stack", r"for call in (.*); do")[0].split(), NAMES
     yield "bench/stack.c", dict(named("bench/stack.c", r'call, "(\w+)"\)\) return (\w+)\(')), {row.name: row.c for row in ROWS}
     yield "compare/driver", set(NAMES) - set(named("compare/driver/main.rs", r'"(\w+)" =>')), set()

@@ -90,6 +90,6 @@ pub call-input-numbered : (k : ℕ) (s : Bytes) → Numbered (callInput k s)
 unfolding callInput Numbered
 call-input-numbered k s = either-numbered (leb (length s) 65536) (called k (texts s)) (refused 2) (called-numbered k (texts s)) (λ z. omega arith)
 
--- the contract of `put_printed` and that of the program's call, together
-pub program-prints : (o : Outcome) (before answered now : Bytes) (a : Answer) (r : ℕ) → Numbered o → length before ≡ 65536 → Answered o before answered a → Prints a answered now r → take r now ≡ printed o
-program-prints o before answered now a r h l e p = p o before (not-zero o h) l e
+-- the contract of `put_printed` and that of `answer`, together: what a program prints of a call and an input
+pub program-prints : (k : ℕ) (s before answered now : Bytes) (a : Answer) (r : ℕ) → length before ≡ 65536 → Answered (callInput k s) before answered a → Prints a answered now r → take r now ≡ printed (callInput k s)
+program-prints k s before answered now a r l e p = p (callInput k s) before (not-zero (callInput k s) (call-input-numbered k s)) l e
