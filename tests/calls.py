@@ -81,6 +81,7 @@ def pairs():
     yield "rooms proved", sorted(named("crates/room/specs/Room.antt", r"pub (\w+)Room :")), rooms(str.lower)
     yield "run --help", helped(), counted("name")
     yield "run", {name: int(count) - 1 for count, name in named("run", r'"([0-9]) (\w+)"') if name in NAMES}, counted("name")
+    yield "install", {"call", "merge"} - set(named("install", r'programs="(.*)"')[0].split()), set()
     timed = named("bench/calls", r"\b([0-9]+):(\w+)")
     yield "bench/calls", timed, [(numbers[name], name) for _, name in timed]
     for program in "bench_calls", "vectors":
