@@ -1,5 +1,5 @@
 #!/usr/bin/env python3
-"""What a reviewer has to believe: the definition files that the public contracts and the demands' theorems cite, found from the sources.
+"""What a reviewer has to believe: the definition files that the public contracts and the theorems of demands and requests cite.
 
     believe.py    run in the repository; holds docs/BELIEVE.md against them
 
@@ -14,10 +14,10 @@ import sys
 CRATES = pathlib.Path("crates")
 PAGE = pathlib.Path("docs/BELIEVE.md")
 
-# Where the public contracts stand, and the theorems of the demands.
+# Where the public contracts stand, and the theorems of the demands and requests.
 START = [
-    "gandeuch/src/lib.rt", "answering/src/lib.rt", "demand3/proofs/Theorem.antt", "demand3/proofs/Returned.antt", "scoping/proofs/Standard.antt", "renaming/proofs/Standard.antt",
-    "room/proofs/Theorem.antt",
+    "gandeuch/src/lib.rt", "answering/src/lib.rt", "demand3/proofs/Theorem.antt", "demand3/proofs/Returned.antt", "merging/proofs/Order.antt",
+    "scoping/proofs/Standard.antt", "renaming/proofs/Standard.antt", "room/proofs/Theorem.antt",
 ]
 APART = ("Examples", "Cases")
 USE = re.compile(r"^\s*(?:pub )?(?:ghost )?use Rattle·(\w+?)(?:·specs|·proofs)?\.specs\.([\w.]+)", re.M)

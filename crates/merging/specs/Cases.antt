@@ -59,6 +59,11 @@ cases =
     -- beyond the ten: constants on both sides by rising position, and a head line
     ∷ gives (mergeQueries "query\task\t-\t<b>\nproject\t?a\t?b\t?c\nbgp\t0\n" "query\task\t-\t<b>\nproject\t?d\nbgp\t0\n" "1\t0\n" "2\t\"x\"\n0\t<k>\n" "")
     "query\task\t-\t<b>\nproject\t?j0\njoin\njoin\nbgp\t0\nvalues\t2\t1\ncols\t?l0\t?l2\nrow\t<k>\t\"x\"\nbgp\t0\n"
+    -- lists by falling position on both sides: a Values each, the left side's first
+    ∷ gives (mergePatterns "project\t?a\t?b\nbgp\t0\n" "project\t?c\t?d\nbgp\t0\n" "" "1\t<l>\n0\t<k>\n" "1\t<n>\n0\t<m>\n")
+    "project\njoin\njoin\nbgp\t0\nvalues\t2\t1\ncols\t?l0\t?l1\nrow\t<k>\t<l>\njoin\nbgp\t0\nvalues\t2\t1\ncols\t?r0\t?r1\nrow\t<m>\t<n>\n"
+    -- the same for a push
+    ∷ gives (pushConstants "query\tselect\t-\t-\nproject\t?a\t?b\t?c\nbgp\t0\n" "2\t<m>\n0\t<k>\n") "query\tselect\t-\t-\nproject\t?v1\njoin\nbgp\t0\nvalues\t2\t1\ncols\t?v0\t?v2\nrow\t<k>\t<m>\n"
     -- push copies what it can't take, and says 3 only where it can
     ∷ gives (pushConstants "query\tconstruct\t-\t-\nproject\t?a\nbgp\t0\n" "7\t<k>\n") "query\tconstruct\t-\t-\nproject\t?a\nbgp\t0\n"
     ∷ gives (pushConstants "query\tselect\t-\t-\ndistinct\nproject\t?a\nbgp\t0\n" "7\t<k>\n") "query\tselect\t-\t-\ndistinct\nproject\t?a\nbgp\t0\n"

@@ -5,4 +5,6 @@ pub mod Push
 pub mod Negate
 pub mod Names
 pub mod Asked
+pub mod Order
 pub mod Cases
+pub mod Examples
