@@ -1,4 +1,6 @@
 """Inputs of merge, merge_queries, push and negate with answers written by hand."""
+import itertools
+
 from written_texts import BAR, LONG, MALFORMED, OVER, padded, refused, text
 
 SELECT = "query select - -/"
@@ -64,6 +66,22 @@ CONSTANTS = [
     push("constants-falling", SELECT + "project/join/bgp 0/values 2 1/cols ?v0 ?v1/row <k> <l>", SELECT + "project ?a ?b/bgp 0", "1 <l>/0 <k>"),
     push("constant-of-twin", SELECT + "project ?v0/join/bgp 0/values 1 1/cols ?v0/row <l>", SELECT + "project ?a ?a/bgp 0", "1 <l>"),
     push("no-columns", SELECT + "project/bgp 1/t ?v0 <p> ?v1", SELECT + "project/bgp 1/t ?a <p> ?b"),
+]
+
+# The order of constants: one answer for every order of a list's lines, 9 before 10, a Values for each side.
+TEN = "project " + " ".join("?c%d" % i for i in range(11)) + "/bgp 0"
+TEN_PUSHED = "project " + " ".join("?v%d" % i for i in range(9)) + "/join/bgp 0/values 2 1/cols ?v9 ?v10/row <k> <l>"
+THREE = "project ?a ?b ?c/bgp 1/t ?a ?b ?c"
+THREE_PUSHED = "project/join/bgp 1/t ?v0 ?v1 ?v2/values 3 1/cols ?v0 ?v1 ?v2/row <m> <l> <k>"
+BOUND = "project/join/join/bgp 1/t ?l0 <by> ?j0/values 2 1/cols ?l0 ?j0/row <z> <y>/join/bgp 1/t ?j0 <in> ?r1/values 2 1/cols ?j0 ?r1/row <y> <x>"
+LEFT_LISTS, RIGHT_LISTS = ("0 <z>/1 <y>", "1 <y>/0 <z>"), ("0 <y>/1 <x>", "1 <x>/0 <y>")
+ORDERS = [
+    *[merge("order-%d" % i, BOUND, EVENT, BAY, "1 0", *lists) for i, lists in enumerate(itertools.product(LEFT_LISTS, RIGHT_LISTS), 1)],
+    *[merge_queries("order-%d" % i, SELECT + BOUND, SELECT + EVENT, SELECT + BAY, "1 0", *lists)
+      for i, lists in enumerate(itertools.product(LEFT_LISTS, RIGHT_LISTS), 1)],
+    *[push("order-%d" % i, SELECT + THREE_PUSHED, SELECT + THREE, "/".join(lines))
+      for i, lines in enumerate(itertools.permutations(("0 <m>", "1 <l>", "2 <k>")), 1)],
+    *[push("order-of-%s" % name, SELECT + TEN_PUSHED, SELECT + TEN, lines) for name, lines in (("nine", "9 <k>/10 <l>"), ("ten", "10 <l>/9 <k>"))],
 ]
 
 # Roots and kinds: what is copied, and how far down a negation goes.
@@ -158,4 +176,4 @@ def limits():
     return [("merge", "longest-input-and-answer", given, written), ("merge", "answer-too-long", over, refused(6))]
 
 
-WRITTEN = CASES + CONSTANTS + KINDS + FIVE + ORDER + BARS + limits()
+WRITTEN = CASES + CONSTANTS + ORDERS + KINDS + FIVE + ORDER + BARS + limits()
