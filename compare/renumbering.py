@@ -1,7 +1,8 @@
 """Answers of nemo's Rust with its own sets beside ours: the same up to a bijection of generated numbers.
 
 What a text has at generated names is its numbers; all else is its shape. The numbers behind `j` come from the join list and
-have to be the same. Constants' columns are in the order of a hash map in the Rust, so they are put in the order of their terms.
+have to be the same. The Rust has constants' columns in the order of a hash map, so its columns are put by rising position; ours
+are taken as they stand.
 """
 
 import itertools
@@ -25,10 +26,10 @@ def renamed(scope):
 
 
 class Shape:
-    """The shape of an answer and its generated numbers, taken line by line."""
+    """The shape of an answer and its generated numbers, taken line by line; `rust` tells whose answer it is."""
 
-    def __init__(self, text):
-        self.lines = iter(trees.records(text))
+    def __init__(self, text, rust=False):
+        self.lines, self.rust = iter(trees.records(text)), rust
         self.fixed, self.numbers = [], []
 
     def name(self, field):
@@ -67,7 +68,11 @@ class Shape:
         self.line()
         columns, row = next(self.lines, []), next(self.lines, [])
         self.fixed.append([len(columns), len(row)])
-        for column, term in sorted(zip(columns[1:], row[1:]), key=lambda pair: pair[1]):
+        pairs = list(zip(columns[1:], row[1:]))
+        if self.rust:
+            positions = {term: int(position) for position, term in trees.records(constants)}
+            pairs.sort(key=lambda pair: positions.get(pair[1], -1))
+        for column, term in pairs:
             self.name(column)
             self.fixed.append(term)
 
@@ -83,9 +88,9 @@ def shape_of_tree(text, tree, names):
     return shape
 
 
-def shape_of_merge(text, texts, names):
+def shape_of_merge(text, texts, names, rust):
     """Of two merged trees."""
-    shape = Shape(text)
+    shape = Shape(text, rust)
     shape.project()
     shape.line()
     for tree, own, constants in zip(texts[:2], names, texts[3:]):
@@ -94,9 +99,9 @@ def shape_of_merge(text, texts, names):
     return shape
 
 
-def shape_of_push(text, tree, names, constants):
+def shape_of_push(text, tree, names, constants, rust):
     """Of a tree with pushed constants."""
-    shape = Shape(text)
+    shape = Shape(text, rust)
     shape.project()
     shape.bound(trees.records(tree)[1:], names, constants)
     shape.end()
@@ -121,8 +126,8 @@ def own_trees(program, texts):
 
 
 def comparable(program, case, answer):
-    """Whether the answer is a renamed tree with an order of its own: no name ends in LabelLabel, no term stands twice in a
-    constant list."""
+    """Whether the answer is a renamed tree whose names and columns can be told: no name ends in LabelLabel, no term stands
+    twice in a constant list."""
     texts = inputs.parted(case)
     if answer.startswith(b"refused"):
         return False
@@ -134,16 +139,16 @@ def comparable(program, case, answer):
     return not any(name.endswith(b"LabelLabel") for name in names) and all(len(set(row)) == len(row) for row in terms)
 
 
-def shape(program, case, names, answer):
+def shape(program, case, names, answer, rust):
     texts = inputs.parted(case)
     if program == "push":
-        return shape_of_push(without_head(answer), without_head(texts[0]), names[0], texts[1])
+        return shape_of_push(without_head(answer), without_head(texts[0]), names[0], texts[1], rust)
     if program == "merge_queries":
-        return shape_of_merge(without_head(answer), [*map(without_head, texts[:2]), *texts[2:]], names)
-    return shape_of_merge(answer, texts, names)
+        return shape_of_merge(without_head(answer), [*map(without_head, texts[:2]), *texts[2:]], names, rust)
+    return shape_of_merge(answer, texts, names, rust)
 
 
 def renumbered(program, case, names, ours, theirs):
     """Whether two answers to a case are the same up to a renumbering; `names` are each tree's renamed names."""
     heads = program == "merge" or ours.split(b"\n")[0] == theirs.split(b"\n")[0]
-    return heads and same(shape(program, case, names, ours), shape(program, case, names, theirs))
+    return heads and same(shape(program, case, names, ours, False), shape(program, case, names, theirs, True))
