@@ -19,7 +19,7 @@ use Rattle.heads.proofs.Cut.{text-append}
 use Rattle.filtering.specs.bridge.FilterLines.{partsBelow, expressionLines, Walked, inFront, andThen, severalParts, treeToExpression}
 use Rattle.placing.proofs.Repeated.{with-true, and-next}
 use Rattle.expressing.specs.declared.express.Walked.{Walked as Said}
-use Rattle.expressing.specs.bridge.Heads.{Heads}
+use Rattle.operators.specs.bridge.Heads.{Heads}
 use Rattle.expressing.specs.bridge.Walks.{Walks}
 
 no-text : (e : Em) → e ≡ puts (textOf []) e

@@ -1,4 +1,3 @@
-pub mod Headed
 pub mod Expressed
 pub mod Counted
 pub mod Whole

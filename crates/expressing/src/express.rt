@@ -1,8 +1,8 @@
 // From a filter to an expression: a filter calls itself on its parts, the lines left falling.
-use crate::head::parts_below;
-use crate::head::put_head;
 use cursor::Cursor;
 use names::Entry;
+use operators::head::parts_below;
+use operators::head::put_head;
 use placing::steps::both;
 use words::table::WordRow;
 use words::word_at;

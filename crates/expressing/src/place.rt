@@ -1,9 +1,9 @@
 // The filters that are placed: how many, and their expressions' lines one after the other.
 use crate::express::Walked;
 use crate::express::tree_to_expression;
-use crate::head::is_constant_true;
 use cursor::Cursor;
 use names::Entry;
+use operators::head::is_constant_true;
 use placing::steps::both;
 use words::table::WordRow;
 ghost use mathlib.Core.Path.{_≡_};

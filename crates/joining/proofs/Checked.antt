@@ -16,7 +16,7 @@ use Rattle.reading.specs.bridge.Variables.{treeNames, queryNames}
 use Rattle.reading.specs.bridge.Charted.{Charted, treeStart, queryStart}
 use Rattle.reading.proofs.ChartSaid.{chart-malformed, chart-over}
 use Rattle.heads.specs.bridge.TreeAt.{TreeAt}
-use Rattle.walking.specs.bridge.Renamed.{Shaped}
+use Rattle.descending.specs.bridge.Renamed.{Shaped}
 use Rattle.merging.specs.Request.{made}
 use Rattle.merging.specs.Merge.{mergeable}
 use Rattle.names.specs.bridge.Names.{startsOf, sizesOf}

@@ -26,7 +26,7 @@ ghost use Rattle.answers.specs.Outcome.{Answered};
 ghost use Rattle.algebra.specs.Tree.{Pattern};
 ghost use Rattle.projects.specs.bridge.Joining.{StandsAt, HasRoom, HasNodes, Lists, mergedBehind, ListsRead, TermsChecked, ListsChecked};
 ghost use Rattle.words.specs.bridge.Words.{Worded};
-ghost use Rattle.walking.specs.bridge.Renamed.{Shaped};
+ghost use Rattle.descending.specs.bridge.Renamed.{Shaped};
 ghost use Rattle.joining.specs.bridge.Form.{mergeOutcome, KnownAt};
 
 // The check of two constant lists, in the specification's order.

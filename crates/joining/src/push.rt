@@ -23,7 +23,7 @@ ghost use Rattle.projects.specs.bridge.Joining.{HasRoom, HasNodes, KnownText, K
 ghost use lib.ListN.{length};
 ghost use Rattle.names.specs.bridge.Names.{startsOf, sizesOf};
 ghost use Rattle.words.specs.bridge.Words.{Worded};
-ghost use Rattle.walking.specs.bridge.Renamed.{Shaped};
+ghost use Rattle.descending.specs.bridge.Renamed.{Shaped};
 
 // push_constants, for a query and constants that were checked.
 fn push_of(

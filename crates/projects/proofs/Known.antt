@@ -35,7 +35,7 @@ use Rattle.scoping.specs.bridge.Skip.{skip}
 use Rattle.scoping.proofs.FirstPlaces.{by-place-query}
 use Rattle.lines.specs.bridge.Noded.{nodeAt, nodesOf, Noded, Roomy}
 use Rattle.lines.specs.bridge.Spotted.{spotAt, spotsOf, Noted}
-use Rattle.walking.specs.bridge.Renamed.{Shaped}
+use Rattle.descending.specs.bridge.Renamed.{Shaped}
 use Rattle.walking.proofs.Noted.{shaped-tree}
 use Rattle.lines.specs.declared.check.Noting.{Noting}
 use Rattle.lines.specs.declared.check.Noting.the-variants.{Good}

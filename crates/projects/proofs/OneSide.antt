@@ -11,7 +11,7 @@ use Rattle.algebra.specs.Query.{Pair}
 use Rattle.algebra.specs.Layout.{put}
 use Rattle.scoping.specs.Premises.{inside}
 use Rattle.merging.specs.Request.{Projection, tree}
-use Rattle.walking.specs.bridge.Renamed.{Renamed}
+use Rattle.descending.specs.bridge.Renamed.{Renamed}
 use Rattle.sides.specs.bridge.Columns.{columnsIn, picked}
 use Rattle.sides.specs.bridge.Listed.{Listed, positionsIn}
 use Rattle.sides.specs.bridge.Side.{TreeIn, Placed, Asked, OutlineIs, FindingIs, SideIs}

@@ -34,7 +34,7 @@ ghost use Rattle.merging.specs.Request.{Projection, tree};
 ghost use Rattle.sides.specs.bridge.Columns.{columnsIn, picked};
 ghost use Rattle.projects.specs.bridge.Joining.{StandsAt, IsFound, IsNamed, goneMask, mergedTree, Lists, joinedBehind, ListsRead};
 ghost use Rattle.words.specs.bridge.Words.{Worded};
-ghost use Rattle.walking.specs.bridge.Renamed.{Shaped};
+ghost use Rattle.descending.specs.bridge.Renamed.{Shaped};
 
 const PROJECT: [u8; 7] = *b"project";
 

@@ -35,7 +35,7 @@ ghost use Rattle.sides.specs.bridge.Columns.{columnsIn, picked};
 ghost use Rattle.projects.specs.bridge.Joining.{Stands, IsFound, IsNamed, pushedTree, Terms, KnownTerms, pushedBehind};
 ghost use Rattle.names.specs.bridge.Names.{startsOf, sizesOf};
 ghost use Rattle.words.specs.bridge.Words.{Worded};
-ghost use Rattle.walking.specs.bridge.Renamed.{Shaped};
+ghost use Rattle.descending.specs.bridge.Renamed.{Shaped};
 
 const PROJECT: [u8; 7] = *b"project";
 

@@ -33,7 +33,7 @@ use Rattle.scoping.specs.bridge.Sets.{Once}
 use Rattle.scoping.specs.Numbering.{byPlace}
 use Rattle.scoping.proofs.FirstPlaces.{by-place-once}
 use Rattle.walking.specs.bridge.Code.{Named, Inside, Marked}
-use Rattle.walking.specs.bridge.Renamed.{Renamed, Shaped}
+use Rattle.descending.specs.bridge.Renamed.{Renamed, Shaped}
 use Rattle.walking.proofs.Remarked.{renamed-marked, renamed-inside, renamed-stands}
 use Rattle.heads.specs.bridge.Known.{Known}
 use Rattle.lines.specs.bridge.Noded.{Noded, Roomy}

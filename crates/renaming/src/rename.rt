@@ -1,6 +1,7 @@
 // The call rename: a tree under the names that a mapping gives.
 use algebra::Answer as Check;
 use answers::Answer;
+use descending::tree::rename_tree;
 use lines::check::Noting;
 use lines::fields::Node;
 use lines::fields::Spot;
@@ -12,7 +13,6 @@ use names::find_name;
 use names::new_table;
 use reading::note_tree;
 use walking::places::put_renamed;
-use walking::tree::rename_tree;
 use words::table::WordRow;
 use words::table::all_words;
 ghost use mathlib.Core.Path.{_≡_};

@@ -29,7 +29,7 @@ use Rattle.scoping.specs.bridge.Becomes.{replacement, chosen}
 use Rattle.walking.specs.bridge.Code.{renames, Inside, Marked}
 use Rattle.walking.specs.bridge.Flags.{flagAll}
 use Rattle.walking.specs.bridge.Rewritten.{rewritten, flagSpots, Stands}
-use Rattle.walking.specs.bridge.Renamed.{Renamed}
+use Rattle.descending.specs.bridge.Renamed.{Renamed}
 use Rattle.walking.proofs.Remarked.{renamed-marked, renamed-inside, renamed-stands, renamed-rewritten}
 use Rattle.walking.proofs.Noted.{spots-take, flagged-tree, column-count, rewritten-inner, stands-inner, rewritten-columns, stands-columns}
 use Rattle.walking.proofs.Chosen.{chosen-in-scope, chosen-hidden}

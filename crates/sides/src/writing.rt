@@ -22,7 +22,7 @@ ghost use Rattle.emit.specs.bridge.Emit.{em, puts};
 ghost use Rattle.scoping.specs.Rename.{renameInGraphPattern};
 ghost use Rattle.algebra.specs.Layout.{put};
 ghost use Rattle.merging.specs.Request.{Projection};
-ghost use Rattle.walking.specs.bridge.Renamed.{Renamed};
+ghost use Rattle.descending.specs.bridge.Renamed.{Renamed};
 ghost use Rattle.sides.specs.bridge.Columns.{columnsIn, picked};
 ghost use Rattle.sides.specs.bridge.Listed.{Kept, termsFrom};
 ghost use Rattle.sides.specs.bridge.Side.{Renames, Placed, joinLine, valuesLines};

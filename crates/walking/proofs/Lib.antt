@@ -12,8 +12,4 @@ pub mod Chosen
 pub mod Sizes
 pub mod Fields
 pub mod Grown
-pub mod Marks
-pub mod ByNumber
-pub mod Descent
-pub mod Whole
 pub mod Remarked

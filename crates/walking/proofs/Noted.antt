@@ -35,7 +35,7 @@ use Rattle.lines.specs.bridge.Noded.{nodeAt, nodesOf, Noded}
 use Rattle.lines.specs.bridge.Spotted.{spotAt, spotsOf, Spotted, Noted}
 use Rattle.walking.specs.bridge.Walk.{Output}
 use Rattle.walking.specs.bridge.Code.{Inside}
-use Rattle.walking.specs.bridge.Renamed.{Shaped}
+use Rattle.descending.specs.bridge.Renamed.{Shaped}
 use Rattle.walking.specs.bridge.Flags.{flagAll}
 use Rattle.walking.specs.bridge.Rewritten.{rewritten, flagSpots, Stands}
 use Rattle.walking.proofs.After.{line}

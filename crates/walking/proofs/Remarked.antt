@@ -9,7 +9,7 @@ use Rattle.emit.specs.bridge.Emit.{Em, puts}
 use Rattle.scoping.specs.bridge.Spots.{Spot}
 use Rattle.lines.specs.bridge.Spotted.{spotsOf}
 use Rattle.walking.specs.bridge.Code.{Inside, Marked}
-use Rattle.walking.specs.bridge.Renamed.{newMark, renamedSpot, Renamed}
+use Rattle.descending.specs.bridge.Renamed.{newMark, renamedSpot, Renamed}
 use Rattle.walking.specs.bridge.Rewritten.{rewritten, Stands}
 
 -- the same variables at the same places, whatever their marks

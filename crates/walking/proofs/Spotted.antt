@@ -27,8 +27,8 @@ use Rattle.walking.proofs.Stretches.{part-append, stands-lower, stands-
 use Rattle.walking.proofs.Noted.{spots-long, spots-at}
 use Rattle.scoping.specs.bridge.Becomes.{replacement}
 use Rattle.walking.specs.bridge.Code.{renames, Inside, Stay, NextRenamed, Marked, Unmarked, NextMarked}
-use Rattle.walking.specs.bridge.Renamed.{newMark}
-use Rattle.walking.proofs.Marks.{mark-stays, mark-becomes}
+use Rattle.descending.specs.bridge.Renamed.{newMark}
+use Rattle.descending.proofs.Marks.{mark-stays, mark-becomes}
 
 -- ---- marks
 

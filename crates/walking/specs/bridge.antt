@@ -2,4 +2,3 @@ pub mod Walk
 pub mod Code
 pub mod Flags
 pub mod Rewritten
-pub mod Renamed

@@ -32,7 +32,7 @@ use Rattle.projects.specs.declared.one.NamedSide.{NamedSide}
 use Rattle.sides.specs.declared.side.Outline.{Outline}
 use Rattle.sides.specs.declared.side.Side.{Side}
 use Rattle.sides.specs.bridge.Columns.{columnsIn, maskOf, picked, goneBits}
-use Rattle.walking.specs.bridge.Renamed.{Renamed}
+use Rattle.descending.specs.bridge.Renamed.{Renamed}
 use Rattle.sides.specs.bridge.Listed.{Listed, positionsIn, Kept, termsFrom}
 use Rattle.sides.specs.bridge.Side.{TreeIn, Placed, Renames, OutlineIs, SideIs, joinLine, valuesLines}
 

@@ -18,7 +18,7 @@ use Rattle.lists.specs.bridge.Pairs.{PairsTold}
 use Rattle.emit.specs.bridge.Emit.{Em, em, puts}
 use Rattle.scoping.specs.bridge.Becomes.{replacement, chosen}
 use Rattle.walking.specs.bridge.Code.{renames}
-use Rattle.walking.specs.bridge.Renamed.{Renamed}
+use Rattle.descending.specs.bridge.Renamed.{Renamed}
 use Rattle.walking.specs.bridge.Rewritten.{rewritten}
 use Rattle.heads.specs.bridge.Known.{Known}
 use Rattle.renaming.specs.Rename.{becomes}

@@ -7,7 +7,7 @@ use Rattle.text.specs.Text.{Bytes}
 use Rattle.names.specs.bridge.Names.{listing, Hinted}
 use Rattle.scoping.specs.bridge.Sets.{Once}
 use Rattle.scoping.specs.bridge.Becomes.{replacement}
-use Rattle.walking.specs.bridge.Renamed.{newMark}
+use Rattle.descending.specs.bridge.Renamed.{newMark}
 
 -- the names of the table are told apart, and each is found
 pub record Named (s : Bytes) (starts sizes hints : List ℕ) (n : ℕ) : Type 0 where

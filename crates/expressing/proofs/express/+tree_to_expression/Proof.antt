@@ -16,8 +16,8 @@ use borrow.Fn.PlainCycle.{Measures, is, falls, and}
 use Rattle.expressing.proofs.express.tree_to_expression.Reads as tree-to-expression
 use Rattle.expressing.proofs.express.tree_to_expression.Kinds as tree-to-expression-kinds
 use Rattle.expressing.proofs.express.+tree_to_expression.Lts-tree_to_expression as tree-to-expression-lts
-use Rattle.expressing.proofs.head.parts_below.Reads as parts-below-reads
-use Rattle.expressing.proofs.head.put_head.Reads as put-head-reads
+use Rattle.operators.proofs.head.parts_below.Reads as parts-below-reads
+use Rattle.operators.proofs.head.put_head.Reads as put-head-reads
 use Rattle.placing.proofs.steps.both.Reads as both-reads
 use Rattle.expressing.proofs.express.line_from.Reads as line-from-reads
 use Rattle.cursor.proofs.Cursor.awaiting.Reads as awaiting-reads

@@ -1,0 +1,4 @@
+pub mod Marks
+pub mod ByNumber
+pub mod Descent
+pub mod Whole
