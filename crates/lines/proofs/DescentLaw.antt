@@ -148,11 +148,6 @@ module _ (s : Bytes) (ρ : More) (ws : List Want) (x : Check) (n level first sec
 abbrev pub Goes : Bytes → List ℕ → List ℕ → List ℕ → Place → List ℕ → List ℕ → List ℕ → List Want → Place → Type 0
 Goes s a b h p a′ b′ h′ us r = (ρ : More) (ws : List Want) (m : Tally) → Stood s a b h p m → Went s a′ b′ h′ ρ ws (run bounds (linesFrom s (p .cursor .at)) ρ (us ++ ws) m) r
 
--- from a place that is told by another cursor
-pub goes-moved : (s a b h : List ℕ) (p q : Place) (a′ b′ h′ : List ℕ) (us : List Want) (r : Place) → SamePlace p q → Goes s a b h q a′ b′ h′ us r → Goes s a b h p a′ b′ h′ us r
-goes-moved s a b h p q a′ b′ h′ us r e g ρ ws m st =
-    subst (λ (i : ℕ). Went s a′ b′ h′ ρ ws (run bounds (linesFrom s i) ρ (us ++ ws) m) r) (e .at) (g ρ ws m (stood-moved s a b h q p m (record { at = sym (e .at); lines = sym (e .lines); names = sym (e .names); fault = sym (e .fault) }) st))
-
 -- of what was to come at p, the vs are left at q
 abbrev pub Rest : Bytes → List ℕ → List ℕ → List ℕ → Place → List ℕ → List ℕ → List ℕ → List Want → List Want → Place → Type 0
 Rest s a b h p a′ b′ h′ us vs q = (ρ : More) (ws : List Want) (m : Tally) → Stood s a b h p m → Went s a′ b′ h′ ρ (vs ++ ws) (run bounds (linesFrom s (p .cursor .at)) ρ (us ++ ws) m) q
@@ -161,15 +156,16 @@ Rest s a b h p a′ b′ h′ us vs q = (ρ : More) (ws : List Want) (m : Tally)
 pub onward-fault : (s a b h : List ℕ) (p : Place) (us vs ws : List Want) (ρ : More) (x : Check) → (p .fault ≡ 0 → ⊥) → Went s a b h ρ (us ++ ws) x p → Went s a b h ρ (vs ++ ws) x p
 onward-fault s a b h p us vs ws ρ x nz w = went-stop s ρ a b h (us ++ ws) (vs ++ ws) x p w nz
 
-pub onward-goes : (s a b h : List ℕ) (p : Place) (a′ b′ h′ : List ℕ) (us : List Want) (r : Place) (ws : List Want) (ρ : More) (x : Check) → p .fault ≡ 0 → Goes s a b h p a′ b′ h′ us r → Went s a b h ρ (us ++ ws) x p → Went s a′ b′ h′ ρ ws x r
-onward-goes s a b h p a′ b′ h′ us r ws ρ x z g w = went-on s ρ a b h a′ b′ h′ (us ++ ws) ws x p r w z (λ m st. g ρ ws m st)
-
 pub onward-rest : (s a b h : List ℕ) (p : Place) (a′ b′ h′ : List ℕ) (us vs : List Want) (r : Place) (ws : List Want) (ρ : More) (x : Check) → p .fault ≡ 0 → Rest s a b h p a′ b′ h′ us vs r → Went s a b h ρ (us ++ ws) x p → Went s a′ b′ h′ ρ (vs ++ ws) x r
 onward-rest s a b h p a′ b′ h′ us vs r ws ρ x z g w = went-on s ρ a b h a′ b′ h′ (us ++ ws) (vs ++ ws) x p r w z (λ m st. g ρ ws m st)
 
 pub rest-moved : (s a b h : List ℕ) (p q : Place) (a′ b′ h′ : List ℕ) (us vs : List Want) (r : Place) → SamePlace p q → Rest s a b h q a′ b′ h′ us vs r → Rest s a b h p a′ b′ h′ us vs r
 rest-moved s a b h p q a′ b′ h′ us vs r e g ρ ws m st =
     subst (λ (i : ℕ). Went s a′ b′ h′ ρ (vs ++ ws) (run bounds (linesFrom s i) ρ (us ++ ws) m) r) (e .at) (g ρ ws m (stood-moved s a b h q p m (record { at = sym (e .at); lines = sym (e .lines); names = sym (e .names); fault = sym (e .fault) }) st))
+
+-- from a place that is told by another cursor
+pub goes-moved : (s a b h : List ℕ) (p q : Place) (a′ b′ h′ : List ℕ) (us : List Want) (r : Place) → SamePlace p q → Goes s a b h q a′ b′ h′ us r → Goes s a b h p a′ b′ h′ us r
+goes-moved s a b h p q a′ b′ h′ us r e g = rest-moved s a b h p q a′ b′ h′ us [] r e g
 
 -- one after the other
 pub rest-then : (s a b h : List ℕ) (p : Place) (a′ b′ h′ : List ℕ) (us vs : List Want) (q : Place) (a″ b″ h″ : List ℕ) (ws : List Want) (r : Place) → Rest s a b h p a′ b′ h′ us vs q → q .fault ≡ 0 → Rest s a′ b′ h′ q a″ b″ h″ vs ws r → Rest s a b h p a″ b″ h″ us ws r

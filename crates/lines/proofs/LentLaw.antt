@@ -1,6 +1,5 @@
 -- What is had from call to call where one line reader goes over a text: the text's slice, of which a reader is made at each place; the place that the last call gave; and, as wholes, the other tokens and what is said of the `&mut` parameters.
 --     to-start     a function without parameters is called, and all is kept
---     to-first     its place and a reader at 0 go to the check of the tree, with all else for good; the slice is kept
 --     to-over      a reader behind the tree is asked what is left over
 --     to-end       place and answer are put together
 -- Assumes `Given`.
@@ -69,14 +68,6 @@ module _ {M : Type 1} (𝓤 : URA M) (H : Heap 𝓤) (A : Atoms 𝓤) (W : Given
 
   pub to-start : (P : SProp 𝓤) → ent 𝓤 P (H .⇛ ((emp 𝓤 ∗ emp 𝓤) ∗ P))
   to-start P = qed W (raw P ∷ []) ∵ updating ! $ nothing ! $ nothing ! $ at-once ! $ join ! $ done !
-
-  pub to-first : (p : Place) (Y X : SProp 𝓤) → ent 𝓤 ((emp 𝓤 ∗ ⟦ Pl p ⟧) ∗ (emp 𝓤 ∗ ((⟦ T₀ ⟧ ∗ Y) ∗ (⟦ Tx ⟧ ∗ X)))) (H .⇛ (((⟦ T₀ ⟧ ∗ Y) ∗ (⟦ Rd 0 ⟧ ∗ (⟦ Pl p ⟧ ∗ X))) ∗ ⟦ Tx ⟧))
-  to-first p Y X =
-      qed W ((‵ ftrue ⊛ ‵ (Pl p)) ∷ (‵ ftrue ⊛ raw (⟦ T₀ ⟧ ∗ Y) ⊛ (‵ Tx ⊛ raw X)) ∷ []) ∵ updating ! $ split ! $ drop ! $ move ! (1 ∷ []) $ split3 ! $ drop ! $ move ! (1 ∷ []) $ split ! $
-      -- [text; what goes on; the tokens; place]
-      use1 W (‵ Tx ⊛ ‵ Tx) (shr-slice-copy 𝓤 H A W (named 0) (κs .0) u8 .twice s (slice-vals s)) $ split ! $ use1 W (‵ (Rd 0)) (together 𝓤 H A W (namedLft 6 0 tt κs) s 0 (omega arith)) $ at-once ! $
-      -- [reader; text; what goes on; the tokens; place]
-      move ! (0 ∷ 4 ∷ 2 ∷ []) $ group ! 3 $ move ! (2 ∷ 0 ∷ []) $ join ! $ done !
 
   pub to-over : (q : Place) (Y said : SProp 𝓤) → ent 𝓤 (((⟦ T₀ ⟧ ∗ Y) ∗ ⟦ Pl q ⟧) ∗ (said ∗ ⟦ Tx ⟧)) (H .⇛ (((⟦ T₀ ⟧ ∗ emp 𝓤) ∗ (⟦ Rd (q .cursor .at) ⟧ ∗ emp 𝓤)) ∗ (Y ∗ (⟦ Pl q ⟧ ∗ said))))
   to-over q Y said =

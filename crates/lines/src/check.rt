@@ -10,7 +10,8 @@ use reader::LineReader;
 use words::table::WordRow;
 ghost use mathlib.Core.Path.{_≡_};
 ghost use Prim.Native.Nat.{ℕ, _≤_, pred};
-ghost use lib.Dec.{ltb};
+ghost use mathlib.Core.Bool.{cond, not, _&&_};
+ghost use lib.Dec.{ltb, eqb};
 ghost use lib.ListN.{length};
 ghost use mathlib.Core.List.{[], _∷_};
 ghost use Rattle.text.specs.Text.{Bytes};
@@ -20,8 +21,8 @@ ghost use Rattle.names.specs.bridge.Names.{startsOf, sizesOf, HoldsIn};
 ghost use Rattle.algebra.specs.declared.Answer.the-variants.{Good as GoodOf};
 ghost use Rattle.words.specs.bridge.Code.{sortAt};
 ghost use Rattle.words.specs.bridge.Words.{Worded};
-ghost use Rattle.lines.specs.bridge.Run.{Told, Onward, Begins, levelFor, Tells};
-ghost use Rattle.lines.specs.bridge.Walks.{TreeNotes, HeadNotes, ReadTo, answerOf, Charts};
+ghost use Rattle.lines.specs.bridge.Run.{Told, Begins, treeSort, levelFor, Tells};
+ghost use Rattle.lines.specs.bridge.Walks.{Reads, ReadTo, answerOf, Charts};
 ghost use Rattle.lines.specs.declared.check.Noting.the-variants.{Good};
 
 // What a check that ended here says: a fault, lines that are left over, or the number of names.
@@ -40,13 +41,38 @@ fn told(p: Place, left: bool) -> Answer
     Answer::OverBound
 }
 
-// The line from a place of the text on, with all that it asks for; nothing where a fault was met before.
+// Only a query has a head line.
+fn lacks_head(head: bool, sort: u8) -> bool
+    ensures { λ r. ⌜ r ≡ (head && not (eqb sort 7)) ⌝ }
+{
+    if head {
+        return sort != 7;
+    }
+    false
+}
+
+// The sort of a text's head line, or of its tree: a query's is a pattern.
+fn part_sort(head: bool, sort: u8) -> u8
+    ensures { λ r. ⌜ r ≡ cond head sort (treeSort sort) ⌝ }
+{
+    if head {
+        return sort;
+    }
+    if sort == 7 {
+        return 2;
+    }
+    sort
+}
+
+// A part of a text of a sort, from a place on: its head line, which only a query has, or its tree with all that it asks for.
+// Nothing where a fault was met before.
 fn check_from(
     text: &[u8],
     next: usize,
     p: Place,
     sort: u8,
     level: u8,
+    head: bool,
     words: &[WordRow; 56],
     table: &mut [Entry; 1024],
     hints: &mut [u16; 2048],
@@ -54,10 +80,12 @@ fn check_from(
     nodes: &mut [Node],
 ) -> Place
     requires { ⌜ Begins (now text) next p sort (now words) ⌝ }
-    ensures { λ r. ⌜ Onward (now (text .entry)) (now (table .entry)) (now (hints .entry)) p (want (sortAt sort) level 0 ∷ []) [] (now (table .exit)) (now (hints .exit)) r ⌝ }
-    ensures walks { λ r. ⌜ TreeNotes (now (text .entry)) (now (words .entry)) (now (table .entry)) (now (spots .entry)) (now (nodes .entry)) p sort level (now (table .exit)) (now (spots .exit)) (now (nodes .exit)) r ⌝ }
+    ensures { λ r. ⌜ Reads head (now (text .entry)) (now (words .entry)) (now (table .entry)) (now (hints .entry)) (now (spots .entry)) (now (nodes .entry)) p sort level (now (table .exit)) (now (hints .exit)) (now (spots .exit)) (now (nodes .exit)) r ⌝ }
 {
     if p.fault != 0 {
+        return p;
+    }
+    if lacks_head(head, sort) {
         return p;
     }
     let mut q = p;
@@ -66,14 +94,14 @@ fn check_from(
     check_entry(
         q,
         level,
-        sort,
+        part_sort(head, sort),
         text,
         words,
         table,
         hints,
         spots,
         nodes,
-        true,
+        !head,
     )
 }
 
@@ -83,6 +111,7 @@ fn check_lent<'a>(
     p: Place,
     sort: u8,
     level: u8,
+    head: bool,
     words: &[WordRow; 56],
     table: &mut [Entry; 1024],
     hints: &mut [u16; 2048],
@@ -90,8 +119,7 @@ fn check_lent<'a>(
     nodes: &mut [Node],
 ) -> Place
     requires { ⌜ Begins (now (reader .text)) (reader .next) p sort (now words) ⌝ }
-    ensures { λ r. ⌜ Onward (now (reader .entry .text)) (now (table .entry)) (now (hints .entry)) p (want (sortAt sort) level 0 ∷ []) [] (now (table .exit)) (now (hints .exit)) r ⌝ }
-    ensures walks { λ r. ⌜ TreeNotes (now (reader .entry .text)) (now (words .entry)) (now (table .entry)) (now (spots .entry)) (now (nodes .entry)) p sort level (now (table .exit)) (now (spots .exit)) (now (nodes .exit)) r ⌝ }
+    ensures { λ r. ⌜ Reads head (now (reader .entry .text)) (now (words .entry)) (now (table .entry)) (now (hints .entry)) (now (spots .entry)) (now (nodes .entry)) p sort level (now (table .exit)) (now (hints .exit)) (now (spots .exit)) (now (nodes .exit)) r ⌝ }
 {
     check_from(
         reader.text,
@@ -99,58 +127,7 @@ fn check_lent<'a>(
         p,
         sort,
         level,
-        words,
-        table,
-        hints,
-        spots,
-        nodes,
-    )
-}
-
-// A query's head line, from a place of the text on.
-fn head_from(
-    text: &[u8],
-    next: usize,
-    p: Place,
-    level: u8,
-    words: &[WordRow; 56],
-    table: &mut [Entry; 1024],
-    hints: &mut [u16; 2048],
-    spots: &mut [Spot],
-    nodes: &mut [Node],
-) -> Place
-    requires { ⌜ Begins (now text) next p 7 (now words) × (p .fault ≡ 0) ⌝ }
-    ensures { λ r. ⌜ Onward (now (text .entry)) (now (table .entry)) (now (hints .entry)) p (want (sortAt 7) level 0 ∷ []) (want (sortAt 2) level 0 ∷ []) (now (table .exit)) (now (hints .exit)) r ⌝ }
-    ensures walks { λ r. ⌜ HeadNotes (now (text .entry)) (now (words .entry)) (now (table .entry)) (now (spots .entry)) (now (nodes .entry)) p (now (table .exit)) (now (spots .exit)) (now (nodes .exit)) r ⌝ }
-    ensures few { λ r. ⌜ (r .fault ≡ 0 → r .lines ≤ r .cursor .at) ⌝ }
-{
-    let cursor = p.cursor.moved_to(next);
-    let mut q = p;
-    q.cursor = cursor;
-    check_entry(q, level, 7, text, words, table, hints, spots, nodes, false)
-}
-
-// The same by a line reader.
-fn head_lent<'a>(
-    reader: LineReader<'a>,
-    p: Place,
-    level: u8,
-    words: &[WordRow; 56],
-    table: &mut [Entry; 1024],
-    hints: &mut [u16; 2048],
-    spots: &mut [Spot],
-    nodes: &mut [Node],
-) -> Place
-    requires { ⌜ Begins (now (reader .text)) (reader .next) p 7 (now words) × (p .fault ≡ 0) ⌝ }
-    ensures { λ r. ⌜ Onward (now (reader .entry .text)) (now (table .entry)) (now (hints .entry)) p (want (sortAt 7) level 0 ∷ []) (want (sortAt 2) level 0 ∷ []) (now (table .exit)) (now (hints .exit)) r ⌝ }
-    ensures walks { λ r. ⌜ HeadNotes (now (reader .entry .text)) (now (words .entry)) (now (table .entry)) (now (spots .entry)) (now (nodes .entry)) p (now (table .exit)) (now (spots .exit)) (now (nodes .exit)) r ⌝ }
-    ensures few { λ r. ⌜ (r .fault ≡ 0 → r .lines ≤ r .cursor .at) ⌝ }
-{
-    head_from(
-        reader.text,
-        reader.next,
-        p,
-        level,
+        head,
         words,
         table,
         hints,
@@ -179,67 +156,8 @@ pub struct Ended {
     pub left: bool,
 }
 
-// One line reader goes over a text that is one line of a sort: it is lent to the check of the tree, and asked behind it what is left over.
-fn read_tree(
-    s: &[u8],
-    sort: u8,
-    level: u8,
-    words: &[WordRow; 56],
-    table: &mut [Entry; 1024],
-    hints: &mut [u16; 2048],
-    spots: &mut [Spot],
-    nodes: &mut [Node],
-) -> Ended
-    requires { ⌜ (sort ≤ 11) × (length (now s) ≤ 16384) × HoldsIn (now s) (now table) (now hints) 0 [] × Worded (now words) ⌝ }
-    ensures { λ r. ⌜ ReadTo (now (s .entry)) (now (words .entry)) (now (table .entry)) (now (spots .entry)) (now (nodes .entry)) (now (table .exit)) (now (hints .exit)) (now (spots .exit)) (now (nodes .exit)) sort level (r .place) (r .left) ⌝ }
-{
-    let reader = LineReader { text: s, next: 0 };
-    let q = check_lent(
-        reader,
-        start(),
-        sort,
-        level,
-        words,
-        table,
-        hints,
-        spots,
-        nodes,
-    );
-    let left = left_over(LineReader {
-        text: reader.text,
-        next: q.cursor.at,
-    });
-    Ended { place: q, left }
-}
-
-// The same for a query: the reader takes the head line, is lent behind it to the check of the tree, and asked behind that.
-fn read_query(
-    s: &[u8],
-    level: u8,
-    words: &[WordRow; 56],
-    table: &mut [Entry; 1024],
-    hints: &mut [u16; 2048],
-    spots: &mut [Spot],
-    nodes: &mut [Node],
-) -> Ended
-    requires { ⌜ (length (now s) ≤ 16384) × HoldsIn (now s) (now table) (now hints) 0 [] × Worded (now words) ⌝ }
-    ensures { λ r. ⌜ ReadTo (now (s .entry)) (now (words .entry)) (now (table .entry)) (now (spots .entry)) (now (nodes .entry)) (now (table .exit)) (now (hints .exit)) (now (spots .exit)) (now (nodes .exit)) 7 level (r .place) (r .left) ⌝ }
-{
-    let reader = LineReader { text: s, next: 0 };
-    let p = head_lent(reader, start(), level, words, table, hints, spots, nodes);
-    let behind = LineReader {
-        text: reader.text,
-        next: p.cursor.at,
-    };
-    let q = check_lent(behind, p, 2, level, words, table, hints, spots, nodes);
-    let left = left_over(LineReader {
-        text: reader.text,
-        next: q.cursor.at,
-    });
-    Ended { place: q, left }
-}
-
-// A text that is one line of a sort, read to its end or to the first fault.
+// One line reader goes over a text of a sort: it takes a query's head line, is lent behind it to the check of the tree,
+// and asked behind that what is left over.
 fn read_one(
     s: &[u8],
     sort: u8,
@@ -253,10 +171,40 @@ fn read_one(
     requires { ⌜ (sort ≤ 11) × (length (now s) ≤ 16384) × HoldsIn (now s) (now table) (now hints) 0 [] × Worded (now words) ⌝ }
     ensures { λ r. ⌜ ReadTo (now (s .entry)) (now (words .entry)) (now (table .entry)) (now (spots .entry)) (now (nodes .entry)) (now (table .exit)) (now (hints .exit)) (now (spots .exit)) (now (nodes .exit)) sort level (r .place) (r .left) ⌝ }
 {
-    if sort == 7 {
-        return read_query(s, level, words, table, hints, spots, nodes);
-    }
-    read_tree(s, sort, level, words, table, hints, spots, nodes)
+    let reader = LineReader { text: s, next: 0 };
+    let p = check_lent(
+        reader,
+        start(),
+        sort,
+        level,
+        true,
+        words,
+        table,
+        hints,
+        spots,
+        nodes,
+    );
+    let behind = LineReader {
+        text: reader.text,
+        next: p.cursor.at,
+    };
+    let q = check_lent(
+        behind,
+        p,
+        sort,
+        level,
+        false,
+        words,
+        table,
+        hints,
+        spots,
+        nodes,
+    );
+    let left = left_over(LineReader {
+        text: reader.text,
+        next: q.cursor.at,
+    });
+    Ended { place: q, left }
 }
 
 // A text that is one line of a sort with all that it asks for.

@@ -1,10 +1,9 @@
 -- Straight code of a function with a signature: from what its contract owns at entry, through calls of functions with contracts, to what it promises (`Straight.antt`).
---     Known R              what a walk knows of a type: how its values are spelled, and that they are of their types.        uint, struct, shr, mut, shr-slice, mut-slice     each kind of parameter
+--     Known R              what a walk knows of a type: how its values are spelled, and that they are of their types.        uint, boolean, struct, shr, mut, shr-slice, mut-slice     each kind of parameter
 --     meets                a function meets its contract if its body is good from what it owns at entry, with the parameters' machine values written out
 --     call-then            a call of a function that meets its contract: what it asks is had beside R, and what it gives is had beside R, at some result and last values; last comes that the code passes what the contract is told of.
 --     call-some            the same with lifetimes that are made for the call
 --     hands-on, hands-back   all goes to one callee, whose first two parameters the first one becomes
---     both-told, both-shown, all-told, all-shown   two or three clauses that are facts
 --     finish               what a contract promises, from the tokens and the result, what is said of the last values, and the `ensures`
 -- Assumes `Given`.
 use mathlib.Core.Path.{_≡_, refl, sym, subst, ap, _∙_}
@@ -104,6 +103,9 @@ single-struct D L = record { known = struct D L .known; val = LL.val D L; one = 
 
 abbrev pub single-bool : Single Boolean
 single-bool = record { known = record { vals = bool-vals; tells = bool-tells; lawful = λ 𝓤 H A W. bool-lawful 𝓤 H A W }; val = vbool; one = λ x. refl }
+
+abbrev pub boolean : Param
+boolean = record { type = Boolean; known = single-bool .known }
 
 typed-one : (τs : List Ty) (v : Val) → Typed τs (v ∷ []) → WT v
 typed-one [] v t = absurd t
@@ -262,20 +264,6 @@ module _ {M : Type 1} (𝓤 : URA M) (H : Heap 𝓤) (A : Atoms 𝓤) (W : Given
       let Q : SProp 𝓤 = tok ∗ (y₁ ∗ (y₂ ∗ rest)) in
       via 𝓤 Q (monoR 𝓤 tok (via 𝓤 ((y₁ ∗ y₂) ∗ rest) (monoL 𝓤 rest h) (assoc∗ 𝓤 y₁ y₂ rest)))
       (via 𝓤 (Q ∗ emp 𝓤) (via 𝓤 (emp 𝓤 ∗ Q) (emp∗ 𝓤 Q) (comm∗ 𝓤 (emp 𝓤) Q)) (W .laws .⇛-intro (Q ∗ emp 𝓤)))
-
-  -- two clauses that are facts: what they tell, and how they are shown
-  pub both-told : (φ ψ : Type 0) → fact 𝓤 φ ∗ fact 𝓤 ψ ⊢ fact 𝓤 (φ × ψ)
-  both-told φ ψ = via 𝓤 (conj 𝓤 (fact 𝓤 φ) (fact 𝓤 ψ)) (sep→conj 𝓤 (fact 𝓤 φ) (fact 𝓤 ψ)) (both-say 𝓤 H A φ ψ (id⊢ 𝓤 (fact 𝓤 φ)) (id⊢ 𝓤 (fact 𝓤 ψ)))
-
-  pub both-shown : (φ ψ : Type 0) → φ → ψ → emp 𝓤 ⊢ fact 𝓤 φ ∗ fact 𝓤 ψ
-  both-shown φ ψ x y = via 𝓤 (emp 𝓤 ∗ emp 𝓤) (emp∗ 𝓤 (emp 𝓤)) (mono∗ 𝓤 (factI 𝓤 φ (emp 𝓤) x) (factI 𝓤 ψ (emp 𝓤) y))
-
-  -- three of them
-  pub all-told : (φ ψ χ : Type 0) → fact 𝓤 φ ∗ (fact 𝓤 ψ ∗ fact 𝓤 χ) ⊢ fact 𝓤 (φ × (ψ × χ))
-  all-told φ ψ χ = via 𝓤 (fact 𝓤 φ ∗ fact 𝓤 (ψ × χ)) (monoR 𝓤 (fact 𝓤 φ) (both-told ψ χ)) (both-told φ (ψ × χ))
-
-  pub all-shown : (φ ψ χ : Type 0) → φ → ψ → χ → emp 𝓤 ⊢ fact 𝓤 φ ∗ (fact 𝓤 ψ ∗ fact 𝓤 χ)
-  all-shown φ ψ χ x y z = via 𝓤 (emp 𝓤 ∗ emp 𝓤) (emp∗ 𝓤 (emp 𝓤)) (mono∗ 𝓤 (factI 𝓤 φ (emp 𝓤) x) (both-shown ψ χ y z))
 
   -- ---- the end
   module _ (T : Ended) (c : Clauses 𝓤 T) (y : tripleOf 𝓤 H A (T .signature) (closing 𝓤 H A T c) .Ghost) (v : Val) (r : Res (T .signature) (y .0 .0)) (ws : Lasts T (y .0 .0) (y .0 .3)) where

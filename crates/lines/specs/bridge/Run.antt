@@ -2,7 +2,8 @@
 use Prim.Native.Nat.{ℕ, zero, suc, _≤_, _<_}
 use mathlib.Core.Path.{_≡_}
 use mathlib.Core.List.{List, _++_}
-use mathlib.Core.Bool.{true}
+use mathlib.Core.Bool.{true, cond}
+use lib.Dec.{eqb}
 use lib.ListN.{length}
 use Rattle.text.specs.Text.{Bytes, linesFrom}
 use Rattle.algebra.specs.Tally.{Tally, bounds}
@@ -62,6 +63,10 @@ pub record Begins (s : Bytes) (next : ℕ) (p : Place) (sort : ℕ) (words : Lis
   pub short : length s ≤ 16384
   pub few : p .fault ≡ 0 → p .lines ≤ p .cursor .at
   pub worded : Worded words
+
+-- the sort of a text's tree: a query's stands behind its head line
+abbrev pub treeSort : ℕ → ℕ
+treeSort sort = cond (eqb sort 7) 2 sort
 
 -- what a good line from p on asks for is of known sorts, and its numbers are those of a field
 pub record Sound (s : Bytes) (p : Place) (sort level : ℕ) (r : Taken) : Type 0 where

@@ -21,7 +21,7 @@ use Rattle.lines.specs.declared.check.Noting.{Noting}
 use Rattle.lines.specs.declared.check.Noting.the-variants as N
 use Rattle.algebra.specs.Tally.{bounds}
 use Rattle.algebra.specs.bridge.Machine.{want, done, checkText}
-use Rattle.lines.specs.bridge.Run.{Started, Went}
+use Rattle.lines.specs.bridge.Run.{Started, Went, Onward, treeSort}
 use Rattle.lines.specs.bridge.Says.{below}
 use Rattle.lines.specs.bridge.Noded.{Noded, Roomy}
 use Rattle.lines.specs.bridge.Spotted.{markAt, Spotted}
@@ -103,6 +103,15 @@ TreeNotes s words t v b p sort level t′ v′ b′ r = r .fault ≡ 0 → (p .f
 -- where the check of a query's head met no fault, it was walked
 abbrev pub HeadNotes : Bytes → List (List ℕ) → List (List ℕ) → List (List ℕ) → List (List ℕ) → Place → List (List ℕ) → List (List ℕ) → List (List ℕ) → Place → Type 0
 HeadNotes s words t v b p t′ v′ b′ r = r .fault ≡ 0 → HeadWalks s (bookIn t v words b p) p (bookIn t′ v′ words b′ r) r
+
+-- of a text of a sort its head line, which only a query has, or its tree was read from p to r: the run, and the walk where no fault was met
+pub record Reads (head : Bool) (s : Bytes) (words t : List (List ℕ)) (h : List ℕ) (v b : List (List ℕ)) (p : Place) (sort level : ℕ) (t′ : List (List ℕ)) (h′ : List ℕ) (v′ b′ : List (List ℕ)) (r : Place) : Type 0 where
+  pub few : r .fault ≡ 0 → r .lines ≤ r .cursor .at
+  pub head-runs : head ≡ true → Onward s t h p (want (sortAt sort) level 0 ∷ []) (want (sortAt (treeSort sort)) level 0 ∷ []) t′ h′ r
+  pub head-notes : head ≡ true → sort ≡ 7 → HeadNotes s words t v b p t′ v′ b′ r
+  pub no-head : head ≡ true → (sort ≡ 7 → ⊥) → (r ≡ p) × (bookIn t′ v′ words b′ r ≡ bookIn t v words b p)
+  pub tree-runs : head ≡ false → Onward s t h p (want (sortAt (treeSort sort)) level 0 ∷ []) [] t′ h′ r
+  pub tree-notes : head ≡ false → TreeNotes s words t v b p (treeSort sort) level t′ v′ b′ r
 
 -- a text that is one line of a sort with all that it asks for was read to a place: the run, and the walk where no fault was met; and whether something is left over
 pub record ReadTo (s : Bytes) (words t : List (List ℕ)) (v b t′ : List (List ℕ)) (h′ : List ℕ) (v′ b′ : List (List ℕ)) (sort level : ℕ) (p : Place) (left : Bool) : Type 0 where

@@ -25,15 +25,13 @@ use denote.Triple.Statement.{Contract, Triple}
 use denote.Triple.Spec.{Meets, tripleOf}
 use denote.Triple.Table.{entered, cited}
 use denote.Triple.Clauses.{Lasts}
-use Rattle.algebra.specs.bridge.Machine.{want}
-use Rattle.words.specs.bridge.Code.{sortAt}
-use Rattle.lines.specs.bridge.Run.{Begins, Onward}
-use Rattle.lines.specs.bridge.Walks.{TreeNotes}
+use Rattle.lines.specs.bridge.Run.{Begins}
+use Rattle.lines.specs.bridge.Walks.{Reads}
 use Rattle.reader.proofs.LineReader as T
 use Rattle.reader.proofs.LineReader.Laws as T′
 use Rattle.lines.proofs.place.Place as P
 use Rattle.lines.proofs.place.Place.Laws as P′
-use Rattle.reader.proofs.Signed.{Knowns, Single, all-known, uint, struct, shr, mut, mut-slice, tail, single-struct, meets, spelled-out, call-then, hands-on, hands-back, both-told, both-shown}
+use Rattle.reader.proofs.Signed.{Knowns, Single, all-known, boolean, uint, struct, shr, mut, mut-slice, tail, single-struct, meets, spelled-out, call-then, hands-on, hands-back}
 use Rattle.reader.proofs.Taken.{slice, reader, apart}
 use Rattle.lines.proofs.check.check_from as callee
 use Rattle.lines.proofs.check.check_from.Symbol as callee-def
@@ -50,20 +48,20 @@ rest = tail (taken.signature .params)
 
 -- what is known of the parameters
 abbrev params : (κs : Lfts 6) → Knowns (typesAt (taken.signature .params) κs)
-params κs = all-known (struct (T.the-type (namedLft 6 0 tt κs)) (T′.the-laws (namedLft 6 0 tt κs)) ∷ struct P.the-type P′.the-laws ∷ uint w8 ∷ uint w8 ∷ shr (namedLft 6 1 tt κs) (Array (Array u64 2) 56) ∷ mut (namedLft 6 2 tt κs) (Array (Array u16 2) 1024) ∷ mut (namedLft 6 3 tt κs) (Array u16 2048) ∷ mut-slice (namedLft 6 4 tt κs) (Array u16 3) ∷ mut-slice (namedLft 6 5 tt κs) (Array u32 3) ∷ [])
+params κs = all-known (struct (T.the-type (namedLft 6 0 tt κs)) (T′.the-laws (namedLft 6 0 tt κs)) ∷ struct P.the-type P′.the-laws ∷ uint w8 ∷ uint w8 ∷ boolean ∷ shr (namedLft 6 1 tt κs) (Array (Array u64 2) 56) ∷ mut (namedLft 6 2 tt κs) (Array (Array u16 2) 1024) ∷ mut (namedLft 6 3 tt κs) (Array u16 2048) ∷ mut-slice (namedLft 6 4 tt κs) (Array u16 3) ∷ mut-slice (namedLft 6 5 tt κs) (Array u32 3) ∷ [])
 
 abbrev one : (κs : Lfts 6) → Single P.the-row
 one κs = single-struct P.the-type P′.the-laws
 
 -- the contract: what is asked of the parameters a, and what is told of the result r and the last values ws
 abbrev Asks : (κs : Lfts 6) → Args taken.signature κs → Type 0
-Asks κs a = Begins (now (a .0 .text)) (a .0 .next) (a .1 .0) (a .1 .1 .0) (now (a .1 .1 .1 .1 .0))
+Asks κs a = Begins (now (a .0 .text)) (a .0 .next) (a .1 .0) (a .1 .1 .0) (now (a .1 .1 .1 .1 .1 .0))
 
-abbrev Runs : (κs : Lfts 6) (a : Args taken.signature κs) → Res taken.signature κs → Lasts taken.ended κs a → Type 0
-Runs κs a r ws = Onward (now (a .0 .text)) (now (a .1 .1 .1 .1 .1 .0)) (now (a .1 .1 .1 .1 .1 .1 .0)) (a .1 .0) (want (sortAt (a .1 .1 .0)) (a .1 .1 .1 .0) 0 ∷ []) [] (ws .1 .1 .1 .1 .1 .0) (ws .1 .1 .1 .1 .1 .1 .0) r
-
-abbrev Walks : (κs : Lfts 6) (a : Args taken.signature κs) → Res taken.signature κs → Lasts taken.ended κs a → Type 0
-Walks κs a r ws = TreeNotes (now (a .0 .text)) (now (a .1 .1 .1 .1 .0)) (now (a .1 .1 .1 .1 .1 .0)) (now (a .1 .1 .1 .1 .1 .1 .1 .0)) (now (a .1 .1 .1 .1 .1 .1 .1 .1 .0)) (a .1 .0) (a .1 .1 .0) (a .1 .1 .1 .0) (ws .1 .1 .1 .1 .1 .0) (ws .1 .1 .1 .1 .1 .1 .1 .0) (ws .1 .1 .1 .1 .1 .1 .1 .1 .0) r
+abbrev Does : (κs : Lfts 6) (a : Args taken.signature κs) → Res taken.signature κs → Lasts taken.ended κs a → Type 0
+Does κs a r ws =
+    let xs = a .1 .1 .1 .1 .1 in
+    let us = ws .1 .1 .1 .1 .1 .1 in
+    Reads (a .1 .1 .1 .1 .0) (now (a .0 .text)) (now (xs .0)) (now (xs .1 .0)) (now (xs .1 .1 .0)) (now (xs .1 .1 .1 .0)) (now (xs .1 .1 .1 .1 .0)) (a .1 .0) (a .1 .1 .0) (a .1 .1 .1 .0) (us .0) (us .1 .0) (us .1 .1 .0) (us .1 .1 .1 .0) r
 
 module _ {M : Type 1} (𝓤 : URA M) (H : Heap 𝓤) (A : Atoms 𝓤) (W : Given 𝓤 H A) (mem : Memory → SProp 𝓤) (run : Routine → Fun 𝓤) where
   -- the contracts of this function and of the one that it calls
@@ -81,10 +79,10 @@ module _ {M : Type 1} (𝓤 : URA M) (H : Heap 𝓤) (A : Atoms 𝓤) (W : Given
         let us = spelled-out taken.signature params κs a in
         let y : CheckLent .Ghost = ((κs, qs, bounds, a, us), g) in
         let z : CheckFrom .Ghost = ((κs, qs, tt, (d .text, (d .next, a .1)), (slice-vals (d .text), (uint-vals w64 (d .next), us .1))), tt) in
-        call-then 𝓤 H A W C Λ fm callee.ended (callee.clauses 𝓤 H A mem run) one z (λ r ws. Runs κs a r (tt, ws .1 .1) × Walks κs a r (tt, ws .1 .1)) (emp 𝓤) (λ r ws. both-told 𝓤 H A W (Runs κs a r (tt, ws .1 .1)) (Walks κs a r (tt, ws .1 .1)))
+        call-then 𝓤 H A W C Λ fm callee.ended (callee.clauses 𝓤 H A mem run) one z (λ r ws. Does κs a r (tt, ws .1 .1)) (emp 𝓤) (λ r ws. id⊢ 𝓤 (fact 𝓤 (Does κs a r (tt, ws .1 .1))))
         (code.function .locals) bs #lines·check·check-from known _ _ _ _ _ (factI 𝓤 (Asks κs a) (emp 𝓤) ready)
         (hands-on 𝓤 H A W (alive 𝓤 H A taken.signature κs qs) (sem 𝓤 H A (reader 𝓤 H A W α d)) (sem 𝓤 H A (slice 𝓤 H A W α (d .text))) (sem 𝓤 H A (usize .own (d .next) (uint-vals w64 (d .next)))) (sem 𝓤 H A (owns (typesAt rest κs) (a .1) (us .1))) (apart 𝓤 H A W α d))
-        (λ x. record { lower = hands-back 𝓤 H A W taken.ended (taken.clauses 𝓤 H A mem run) y (P′.lowered (x .0)) (x .0) (tt, x .1 .1 .1) (both-shown 𝓤 H A W (Runs κs a (x .0) (tt, x .1 .1 .1)) (Walks κs a (x .0) (tt, x .1 .1 .1)) (x .2 .0) (x .2 .1)) }) cc)
+        (λ x. record { lower = hands-back 𝓤 H A W taken.ended (taken.clauses 𝓤 H A mem run) y (P′.lowered (x .0)) (x .0) (tt, x .1 .1 .1) (factI 𝓤 (Does κs a (x .0) (tt, x .1 .1 .1)) (emp 𝓤) (x .2)) }) cc)
 
 pub check-lent-spec : {M : Type 1} → stated.statement M
 unfolding code.routine tablesOf
