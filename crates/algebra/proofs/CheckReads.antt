@@ -54,30 +54,30 @@ module _ (β : Limits) where
 
 -- ---- within the specification's bounds, and by number
 
-pub check-tree : (s : Bytes) → checkText bounds done (want patterns 64 0 ∷ []) s ≡ checked tally (readTree s)
+pub check-tree : (s : Bytes) → checkText bounds done (want patterns (bounds .depth) 0 ∷ []) s ≡ checked tally (readTree s)
 unfolding readTree
 check-tree s = check-reads bounds s
 
-pub check-query : (s : Bytes) → checkText bounds done (want heads 64 0 ∷ []) s ≡ checked tallyQuery (readQuery s)
+pub check-query : (s : Bytes) → checkText bounds done (want heads (bounds .depth) 0 ∷ []) s ≡ checked tallyQuery (readQuery s)
 unfolding readQuery
 check-query s = check-reads-query bounds s
 
-pub check-sets : (s : Bytes) → checkText bounds (entries 64 sets 1) [] s ≡ checked tallySets (readSets s)
+pub check-sets : (s : Bytes) → checkText bounds (entries (bounds .entries) sets 1) [] s ≡ checked tallySets (readSets s)
 unfolding readSets
 check-sets s = check-reads-sets bounds s
 
-pub check-filters : (s : Bytes) → checkText bounds (entries 64 parts 64) [] s ≡ checked tallyFilters (readFilters s)
+pub check-filters : (s : Bytes) → checkText bounds (entries (bounds .entries) parts (bounds .depth)) [] s ≡ checked tallyFilters (readFilters s)
 unfolding readFilters
 check-filters s = check-reads-filters bounds s
 
-pub tree-number : (s : Bytes) → checkNumber (checkText bounds done (want patterns 64 0 ∷ []) s) ≡ number-of (readTree s)
+pub tree-number : (s : Bytes) → checkNumber (checkText bounds done (want patterns (bounds .depth) 0 ∷ []) s) ≡ number-of (readTree s)
 tree-number s = ap checkNumber (check-tree s) ∙ check-number tally (readTree s)
 
-pub query-number : (s : Bytes) → checkNumber (checkText bounds done (want heads 64 0 ∷ []) s) ≡ number-of (readQuery s)
+pub query-number : (s : Bytes) → checkNumber (checkText bounds done (want heads (bounds .depth) 0 ∷ []) s) ≡ number-of (readQuery s)
 query-number s = ap checkNumber (check-query s) ∙ check-number tallyQuery (readQuery s)
 
-pub sets-number : (s : Bytes) → checkNumber (checkText bounds (entries 64 sets 1) [] s) ≡ number-of (readSets s)
+pub sets-number : (s : Bytes) → checkNumber (checkText bounds (entries (bounds .entries) sets 1) [] s) ≡ number-of (readSets s)
 sets-number s = ap checkNumber (check-sets s) ∙ check-number tallySets (readSets s)
 
-pub filters-number : (s : Bytes) → checkNumber (checkText bounds (entries 64 parts 64) [] s) ≡ number-of (readFilters s)
+pub filters-number : (s : Bytes) → checkNumber (checkText bounds (entries (bounds .entries) parts (bounds .depth)) [] s) ≡ number-of (readFilters s)
 filters-number s = ap checkNumber (check-filters s) ∙ check-number tallyFilters (readFilters s)

@@ -42,7 +42,7 @@ unfolding small numbered
 read = refl
 
 -- and line by line: three lines, two columns, two names
-line-by-line : checkText bounds done (want patterns 64 0 ∷ []) (bytes "project\t?event\t?relay\nbgp\t1\nt\t?event\t<by>\t?relay\n") ≡ good (record { lines = 3; wide = 2; names = bytes "?event" ∷ bytes "?relay" ∷ [] })
+line-by-line : checkText bounds done (want patterns (bounds .depth) 0 ∷ []) (bytes "project\t?event\t?relay\nbgp\t1\nt\t?event\t<by>\t?relay\n") ≡ good (record { lines = 3; wide = 2; names = bytes "?event" ∷ bytes "?relay" ∷ [] })
 unfolding numbered checkText run lineOf rowIn
 line-by-line = refl
 

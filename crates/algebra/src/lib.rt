@@ -1,6 +1,16 @@
-// The answer of a check: a good text with the number of its distinct names, or the refusal.
+// The answer of a check: a good text with the number of its distinct names, or the refusal; and the bounds that code goes by.
 ghost use mathlib.Core.Path.{_≡_};
 ghost use Rattle.algebra.specs.bridge.Answers.{answerNumber};
+
+// What `bounds` says of the levels of a tree, the columns of one project and the entries of one list.
+pub const DEPTH: u8 = 64;
+
+pub const COLUMNS: usize = 64;
+
+pub const ENTRIES: usize = 64;
+
+// A number for each entry of a list.
+pub type PerEntry = [u16; ENTRIES];
 
 pub enum Answer {
     Good(usize),

@@ -61,7 +61,7 @@ module _ (s a l h : List ℕ) (c : Cursor) (e : ℕ) (d : Cursor) (i : InLine s 
       pub is-late : 2048 ≤ m .lines → LineIs s a l h c sort level width m OverBound
       is-late n = over (within-no-lines (said .terms) m (rowOf row .tail) n)
 
-      pub is-wide : 64 < k → LineIs s a l h c sort level width m OverBound
+      pub is-wide : bounds .columns < k → LineIs s a l h c sort level width m OverBound
       is-wide n = over (within-no-columns (said .terms) m (rowOf row .tail) (rw (says .whole z .4) n))
 
       pub is-deep : (t : Bool) → t ≡ opens (sortAt sort) → t ≡ true → level ≡ 0 → LineIs s a l h c sort level width m OverBound
@@ -75,7 +75,7 @@ module _ (s a l h : List ℕ) (c : Cursor) (e : ℕ) (d : Cursor) (i : InLine s 
         pub is-full : 1024 < n → LineIs s a l h c sort level width m OverBound
         is-full g = over (within-no-names (said .terms) m (rowOf row .tail) (keeps-said .over g))
 
-        pub is-asked : (number j : ℕ) → m .wide ≤ 64 → m .lines < 2048 → k ≤ 64 → n ≤ 1024 → (opens (sortAt sort) ≡ true → level ≡ 0 → ⊥) → Tidy sort f → LineIs s a l h c sort level width m (Asks (record { number = number; row = row; first = x; second = y; names = n; spots = j }))
+        pub is-asked : (number j : ℕ) → m .wide ≤ bounds .columns → m .lines < 2048 → k ≤ bounds .columns → n ≤ 1024 → (opens (sortAt sort) ≡ true → level ≡ 0 → ⊥) → Tidy sort f → LineIs s a l h c sort level width m (Asks (record { number = number; row = row; first = x; second = y; names = n; spots = j }))
         unfolding LineIs
         is-asked number j wide lines cols room shallow tidy =
             let long : length (notes (said .terms) (m .names)) ≤ 1024 = let g = holds-long s a l h n _ keeps-said room in omega arith in

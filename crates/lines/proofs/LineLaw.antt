@@ -117,26 +117,26 @@ module _ (ts : List Bytes) (m : Tally) where
   counted-wide value = omega arith
 
   module _ (t : Tail) where
-    within-is : within bounds (counted t ts m) ≡ (leb (suc (m .lines)) 2048 && (leb (max (m .wide) (columnsOf t ts)) 64 && leb (length (notes ts (m .names))) 1024))
+    within-is : within bounds (counted t ts m) ≡ (leb (suc (m .lines)) 2048 && (leb (max (m .wide) (columnsOf t ts)) (bounds .columns) && leb (length (notes ts (m .names))) 1024))
     unfolding within
     within-is = rw (counted-lines t, counted-wide t, counted-names t)
 
-    pub within-yes : m .wide ≤ 64 → m .lines < 2048 → columnsOf t ts ≤ 64 → length (notes ts (m .names)) ≤ 1024 → (within bounds (counted t ts m) ≡ true) × (counted t ts m .wide ≤ 64)
+    pub within-yes : m .wide ≤ bounds .columns → m .lines < 2048 → columnsOf t ts ≤ bounds .columns → length (notes ts (m .names)) ≤ 1024 → (within bounds (counted t ts m) ≡ true) × (counted t ts m .wide ≤ bounds .columns)
     within-yes w l c n =
-        let a : max (m .wide) (columnsOf t ts) ≤ 64 = omega arith in
-        (within-is ∙ rw (le-leb (suc (m .lines)) 2048 l, le-leb (max (m .wide) (columnsOf t ts)) 64 a, le-leb (length (notes ts (m .names))) 1024 n), rw (counted-wide t) a)
+        let a : max (m .wide) (columnsOf t ts) ≤ bounds .columns = omega arith in
+        (within-is ∙ rw (le-leb (suc (m .lines)) 2048 l, le-leb (max (m .wide) (columnsOf t ts)) (bounds .columns) a, le-leb (length (notes ts (m .names))) 1024 n), rw (counted-wide t) a)
 
     pub within-no-lines : 2048 ≤ m .lines → within bounds (counted t ts m) ≡ false
     within-no-lines h = let a : 2048 < suc (m .lines) = omega arith in within-is ∙ rw (lt-leb (suc (m .lines)) 2048 a)
 
-    pub within-no-columns : 64 < columnsOf t ts → within bounds (counted t ts m) ≡ false
+    pub within-no-columns : bounds .columns < columnsOf t ts → within bounds (counted t ts m) ≡ false
     within-no-columns h =
-        let a : 64 < max (m .wide) (columnsOf t ts) = omega arith in
-        within-is ∙ rw (lt-leb (max (m .wide) (columnsOf t ts)) 64 a) (no-right (leb (suc (m .lines)) 2048))
+        let a : bounds .columns < max (m .wide) (columnsOf t ts) = omega arith in
+        within-is ∙ rw (lt-leb (max (m .wide) (columnsOf t ts)) (bounds .columns) a) (no-right (leb (suc (m .lines)) 2048))
 
     pub within-no-names : 1024 < length (notes ts (m .names)) → within bounds (counted t ts m) ≡ false
     within-no-names h =
-        within-is ∙ rw (lt-leb (length (notes ts (m .names))) 1024 h, no-right (leb (max (m .wide) (columnsOf t ts)) 64)) (no-right (leb (suc (m .lines)) 2048))
+        within-is ∙ rw (lt-leb (length (notes ts (m .names))) 1024 h, no-right (leb (max (m .wide) (columnsOf t ts)) (bounds .columns))) (no-right (leb (suc (m .lines)) 2048))
 
 -- the names of more fields
 pub notes-more : (a b ns : List Bytes) → notes (a ++ b) ns ≡ notes b (notes a ns)

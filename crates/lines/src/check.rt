@@ -5,6 +5,7 @@ use crate::fields::Spot;
 use crate::place::Place;
 use crate::place::start;
 use algebra::Answer;
+use algebra::ENTRIES;
 use names::Entry;
 use reader::LineReader;
 use words::table::WordRow;
@@ -297,7 +298,7 @@ fn fewer(left: usize) -> usize
     left - 1
 }
 
-// A text that is a list of such entries, 64 at most.
+// A text that is a list of such entries.
 pub fn check_list(
     s: &[u8],
     sort: u8,
@@ -307,13 +308,13 @@ pub fn check_list(
     hints: &mut [u16; 2048],
 ) -> Answer
     requires { ⌜ (sort ≤ 11) × HoldsIn (now s) (now table) (now hints) 0 [] × Worded (now words) ⌝ }
-    ensures { λ r. ⌜ Tells (now (s .entry)) (startsOf (now (table .exit))) (sizesOf (now (table .exit))) (now (hints .exit)) (checkText bounds (entries 64 (sortAt sort) level) [] (now (s .entry))) r ⌝ }
+    ensures { λ r. ⌜ Tells (now (s .entry)) (startsOf (now (table .exit))) (sizesOf (now (table .exit))) (now (hints .exit)) (checkText bounds (entries (bounds .entries) (sortAt sort) level) [] (now (s .entry))) r ⌝ }
 {
     if 16384 < s.len() {
         return Answer::OverBound;
     }
     let mut p = start();
-    let mut left = 64;
+    let mut left = ENTRIES;
     let mut no_spots: [Spot; 1] = [[0, 0, 0]];
     let mut no_nodes: [Node; 1] = [[0, 0, 0]];
     while p.cursor.at < s.len() {

@@ -4,6 +4,7 @@ use crate::slots::slots;
 use crate::slots::tail;
 use crate::sorts::opens_level;
 use crate::wanted::Wanted;
+use algebra::COLUMNS;
 use cursor::Cursor;
 use names::Entry;
 use words::Found;
@@ -17,7 +18,7 @@ ghost use Prim.Native.Nat.{ℕ, _+_, _≤_};
 ghost use mathlib.Core.List.{List, []};
 ghost use mathlib.Core.Bool.{cond, true};
 ghost use lib.Dec.{eqb};
-ghost use Rattle.algebra.specs.Tally.{notes, Tally};
+ghost use Rattle.algebra.specs.Tally.{notes, Tally, bounds};
 ghost use Rattle.algebra.specs.bridge.Table.{opens};
 ghost use Rattle.names.specs.bridge.Names.{startsOf, sizesOf, HoldsIn};
 ghost use Rattle.words.specs.bridge.Code.{rowOf, sortAt, fitsIn};
@@ -118,7 +119,7 @@ pub fn read_line(
     k: usize,
 ) -> Line
     requires { ⌜ InLine (now s) c × (c .at ≤ c .end) × (w .sort ≤ 11) × Worded (now words) ⌝ }
-    ensures { λ r. ⌜ ((m : Tally) → m .lines ≡ lines → m .wide ≤ 64 → HoldsIn (now (s .entry)) (now (table .entry)) (now (hints .entry)) n (m .names) → LineIs (now (s .entry)) (startsOf (now (table .exit))) (sizesOf (now (table .exit))) (now (hints .exit)) c (w .sort) (w .level) (w .width) m r) ⌝ }
+    ensures { λ r. ⌜ ((m : Tally) → m .lines ≡ lines → m .wide ≤ bounds .columns → HoldsIn (now (s .entry)) (now (table .entry)) (now (hints .entry)) n (m .names) → LineIs (now (s .entry)) (startsOf (now (table .exit))) (sizesOf (now (table .exit))) (now (hints .exit)) c (w .sort) (w .level) (w .width) m r) ⌝ }
     ensures small { λ r. ⌜ Small (now (words .entry)) c (w .sort) (w .level) lines r ⌝ }
     ensures notes { λ r. ⌜ (w .sort ≤ 7 → LineNotes (now (s .entry)) (startsOf (now (table .entry))) (sizesOf (now (table .entry))) n (now (spots .entry)) k (startsOf (now (table .exit))) (sizesOf (now (table .exit))) (now (spots .exit)) c (w .sort) (w .mark) r) ⌝ }
 {
@@ -136,7 +137,7 @@ pub fn read_line(
             if 2048 <= lines {
                 return Line::OverBound;
             }
-            if 64 < f.columns {
+            if COLUMNS < f.columns {
                 return Line::OverBound;
             }
             if 1024 < f.names {

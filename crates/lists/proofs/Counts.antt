@@ -1,4 +1,4 @@
--- What a pair adds to what is counted, and that 64 lines are within the bounds. Assumes nothing.
+-- What a pair adds to what is counted, and that so many lines are within the bounds. Assumes nothing.
 use Prim.Native.Nat.{_+_, _≤_}
 use mathlib.Core.Path.{_≡_, refl}
 use mathlib.Core.List.{List, [], _∷_, _++_, map-append}
@@ -36,7 +36,7 @@ new-to κ f xs = go (unique κ)
     go true = refl
     go false = refl
 
-pub in-bounds : (κ : PairList) (xs : List Pair) → length xs ≤ 64 → within bounds (state κ xs) ≡ true
+pub in-bounds : (κ : PairList) (xs : List Pair) → length xs ≤ bounds .entries → within bounds (state κ xs) ≡ true
 unfolding within
 in-bounds κ xs h =
     let i : length xs ≤ 2048 = omega arith in

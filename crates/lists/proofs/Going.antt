@@ -12,6 +12,7 @@ use Rattle.algebra.specs.Reader.{readText}
 use Rattle.algebra.specs.Texts.{readPairs}
 use Rattle.algebra.specs.declared.Answer.{Answer}
 use Rattle.algebra.specs.declared.Answer.the-variants.{Good, OverBound}
+use Rattle.algebra.specs.Tally.{bounds}
 use Rattle.lists.specs.bridge.Pairs.{Stands, pairsIn, PairsChecked}
 use Rattle.text.proofs.Places.{lines-start, lines-end}
 use Rattle.lists.proofs.Reading.{told, told-start, told-end}
@@ -22,10 +23,10 @@ Done s first second apart keys r = (κ : PairList) → Stands κ first second ap
 
 -- what holds at a line's start, where the first n entries tell the pairs before it
 pub record Going (s : Bytes) (first second : ℕ) (apart : Bool) (keys : List (List ℕ)) (at n : ℕ) : Type 0 where
-  pub room : length keys ≡ 64
-  pub most : n ≤ 64
+  pub room : length keys ≡ bounds .entries
+  pub most : n ≤ bounds .entries
   pub here : at ≤ length s
-  pub so : (κ : PairList) → Stands κ first second apart → readPairs κ s ≡ told κ (64 - n) (pairsIn s keys n) (linesFrom s at)
+  pub so : (κ : PairList) → Stands κ first second apart → readPairs κ s ≡ told κ (bounds .entries - n) (pairsIn s keys n) (linesFrom s at)
 
 -- a text over the bound on bytes
 pub too-long : (s : Bytes) (first second : ℕ) (apart : Bool) (keys : List (List ℕ)) → 16384 < length s → Done s first second apart keys OverBound
@@ -33,7 +34,7 @@ unfolding PairsChecked readPairs readText
 too-long s first second apart keys k κ st = rw (lt-ltb 16384 (length s) k)
 
 -- the first line
-pub going-start : (s : Bytes) (first second : ℕ) (apart : Bool) (keys : List (List ℕ)) (at : ℕ) → at ≡ 0 → length s ≤ 16384 → length keys ≡ 64 → Going s first second apart keys at 0
+pub going-start : (s : Bytes) (first second : ℕ) (apart : Bool) (keys : List (List ℕ)) (at : ℕ) → at ≡ 0 → length s ≤ 16384 → length keys ≡ bounds .entries → Going s first second apart keys at 0
 unfolding readPairs readText pairsIn
 going-start s first second apart keys at z k e =
     record {
@@ -46,4 +47,4 @@ going-start s first second apart keys at z k e =
 -- no line is left
 pub done-end : (s : Bytes) (first second : ℕ) (apart : Bool) (keys : List (List ℕ)) (at n : ℕ) → Going s first second apart keys at n → length s ≤ at → Done s first second apart keys (Good n)
 unfolding PairsChecked
-done-end s first second apart keys at n g e κ st = record { room = g .room; few = g .most; read = g .so κ st ∙ rw (lines-end s at e) (told-end κ (64 - n) (pairsIn s keys n)) }
+done-end s first second apart keys at n g e κ st = record { room = g .room; few = g .most; read = g .so κ st ∙ rw (lines-end s at e) (told-end κ (bounds .entries - n) (pairsIn s keys n)) }

@@ -26,7 +26,7 @@ behind xs (refuses n) = refuses n
 unfoldable pub told : PairList → ℕ → List Pair → List Line → Outcome (List Pair)
 told κ k xs ls = behind xs (outcome (several k (pair bounds κ 1) (pair bounds κ 0) ls (state κ xs)))
 
-pub told-start : (κ : PairList) (ls : List Line) → outcome (pairs bounds κ ls start) ≡ told κ 64 [] ls
+pub told-start : (κ : PairList) (ls : List Line) → outcome (pairs bounds κ ls start) ≡ told κ (bounds .entries) [] ls
 unfolding told
 told-start κ ls =
     whole (outcome (pairs bounds κ ls start))
@@ -115,7 +115,7 @@ module _ (κ : PairList) (xs : List Pair) (ls : List Line) where
     abbrev pub more : List Pair
     more = xs ++ (record { first = f; second = g } ∷ [])
 
-    pub told-next : (k : ℕ) → length more ≤ 64 → told κ (suc k) xs ((f ∷ g ∷ []) ∷ ls) ≡ told κ k more ls
+    pub told-next : (k : ℕ) → length more ≤ bounds .entries → told κ (suc k) xs ((f ∷ g ∷ []) ∷ ls) ≡ told κ k more ls
     unfolding told several one kept end fresh
     told-next k h =
         let t : tallyPair κ f (state κ xs) ≡ state κ more = counted κ xs (record { first = f; second = g }) in

@@ -12,6 +12,7 @@ use Rattle.text.proofs.Texts.{AllClean}
 use Rattle.algebra.specs.Query.{PairList, Pair, firstKind, secondKind, unique}
 use Rattle.algebra.specs.Texts.{readPairs}
 use Rattle.algebra.specs.declared.Answer.the-variants.{Malformed, OverBound}
+use Rattle.algebra.specs.Tally.{bounds}
 use Rattle.cursor.specs.bridge.Cursor.{left}
 use Rattle.cursor.specs.declared.Cursor.{Cursor}
 use Rattle.cursor.specs.declared.Field.{Field}
@@ -31,7 +32,7 @@ module _ (s : Bytes) (first second : ℕ) (apart : Bool) (keys : List (List ℕ)
     -- the line is not ended
     pub done-open : (keys′ : List (List ℕ)) → at < length s → c .end ≡ length s → Done s first second apart keys′ Malformed
     unfolding isPair PairsChecked
-    done-open keys′ k e κ st = g .so κ st ∙ rw (lines-open s at (c .end) k f e) (told-bad κ before [] (64 - n) [] tt refl)
+    done-open keys′ k e κ st = g .so κ st ∙ rw (lines-open s at (c .end) k f e) (told-bad κ before [] (bounds .entries - n) [] tt refl)
 
     module _ (x : Field) (finds : Finds s (kindAt first) (kindAt second) c x) (ended : c .end ≡ length s → ⊥) where
       less : c .end < length s
@@ -40,7 +41,7 @@ module _ (s : Bytes) (first second : ℕ) (apart : Bool) (keys : List (List ℕ)
       abbrev rest : List Line
       rest = linesFrom s (c .end + 1)
 
-      line : (κ : PairList) → Stands κ first second apart → readPairs κ s ≡ told κ (64 - n) before (left s (c .at) (c .end) ∷ rest)
+      line : (κ : PairList) → Stands κ first second apart → readPairs κ s ≡ told κ (bounds .entries - n) before (left s (c .at) (c .end) ∷ rest)
       line κ st = g .so κ st ∙ rw (line-next s at (c .end) f less, same)
 
       neat : AllClean (left s (c .at) (c .end))
@@ -51,7 +52,7 @@ module _ (s : Bytes) (first second : ℕ) (apart : Bool) (keys : List (List ℕ)
       unfolding Finds PairsChecked
       done-bad keys′ e κ st =
           let q : isPair (kindAt first) (kindAt second) (left s (c .at) (c .end)) ≡ false = rw e at finds in
-          line κ st ∙ told-bad κ before rest (64 - n) (left s (c .at) (c .end)) neat (rw (st .firsts, st .seconds) q)
+          line κ st ∙ told-bad κ before rest (bounds .entries - n) (left s (c .at) (c .end)) neat (rw (st .firsts, st .seconds) q)
 
       module _ (to : ℕ) (d : Cursor) (is : x ≡ At to d) where
         -- its two fields
@@ -73,14 +74,14 @@ module _ (s : Bytes) (first second : ℕ) (apart : Bool) (keys : List (List ℕ)
           is-new : (κ : PairList) → Stands κ first second apart → b ≡ fresh (unique κ) one (firsts before)
           is-new κ st = rw (st .parted) new
 
-          entry : (κ : PairList) → Stands κ first second apart → readPairs κ s ≡ told κ (64 - n) before ((one ∷ other ∷ []) ∷ rest)
+          entry : (κ : PairList) → Stands κ first second apart → readPairs κ s ≡ told κ (bounds .entries - n) before ((one ∷ other ∷ []) ∷ rest)
           unfolding Finds
-          entry κ st = line κ st ∙ ap (λ k. told κ (64 - n) before (k ∷ rest)) (two .3)
+          entry κ st = line κ st ∙ ap (λ k. told κ (bounds .entries - n) before (k ∷ rest)) (two .3)
 
           -- its first field is there already
           pub done-twice : (keys′ : List (List ℕ)) → not b ≡ true → Done s first second apart keys′ Malformed
           unfolding PairsChecked
-          done-twice keys′ e κ st = entry κ st ∙ told-twice κ before rest (64 - n) one (other ∷ []) (sym (is-new κ st) ∙ not-true b e)
+          done-twice keys′ e κ st = entry κ st ∙ told-twice κ before rest (bounds .entries - n) one (other ∷ []) (sym (is-new κ st) ∙ not-true b e)
 
           module _ (e : not b ≡ false) where
             clean : AllClean (one ∷ other ∷ [])
@@ -92,27 +93,27 @@ module _ (s : Bytes) (first second : ℕ) (apart : Bool) (keys : List (List ℕ)
             paired-so κ st = rw (st .firsts, st .seconds) (ap (isPair (kindAt first) (kindAt second)) (sym (two .3)) ∙ two .4)
 
             -- it is an entry too many
-            pub done-over : (keys′ : List (List ℕ)) → n ≡ 64 → Done s first second apart keys′ OverBound
+            pub done-over : (keys′ : List (List ℕ)) → n ≡ bounds .entries → Done s first second apart keys′ OverBound
             unfolding PairsChecked
             done-over keys′ k κ st =
-                let z : 64 - n ≡ 0 = omega arith in
+                let z : bounds .entries - n ≡ 0 = omega arith in
                 entry κ st ∙ rw z (told-over κ before rest one other clean (paired-so κ st) (sym (is-new κ st) ∙ not-false b e))
 
             -- it is an entry, and the next line follows
-            pub going-next : (keys′ : List (List ℕ)) → (n ≡ 64 → ⊥) → keys′ ≡ set keys n (entryOf (c .at) to (c .end)) → Going s first second apart keys′ (d .at) (n + 1)
+            pub going-next : (keys′ : List (List ℕ)) → (n ≡ bounds .entries → ⊥) → keys′ ≡ set keys n (entryOf (c .at) to (c .end)) → Going s first second apart keys′ (d .at) (n + 1)
             going-next keys′ k is-set =
                 let m = g .most in
                 let r = g .room in
                 let kept : pairsIn s keys′ (n + 1) ≡ before ++ (record { first = one; second = other } ∷ []) = ap (λ (ks : List (List ℕ)). pairsIn s ks (n + 1)) is-set ∙ pairs-more s keys n (c .at) to (c .end) (omega arith) in
-                let size : length keys′ ≡ 64 = ap length is-set ∙ length-set keys n _ ∙ r in
-                let long : length (pairsIn s keys′ (n + 1)) ≤ 64 = let q = pairs-long s keys′ (n + 1) (omega arith) in omega arith in
-                let z : 64 - n ≡ suc (64 - (n + 1)) = omega arith in
+                let size : length keys′ ≡ bounds .entries = ap length is-set ∙ length-set keys n _ ∙ r in
+                let long : length (pairsIn s keys′ (n + 1)) ≤ bounds .entries = let q = pairs-long s keys′ (n + 1) (omega arith) in omega arith in
+                let z : bounds .entries - n ≡ suc (bounds .entries - (n + 1)) = omega arith in
                 record {
                   room = size;
                   most = omega arith;
                   here = let q = found .2 in let p = less in omega arith;
                   so = λ κ st.
                       entry κ st ∙ ap (λ i. told κ i before ((one ∷ other ∷ []) ∷ rest)) z
-                      ∙ told-next κ before rest one other clean (paired-so κ st) (sym (is-new κ st) ∙ not-false b e) (64 - (n + 1)) (rw (← kept) long)
+                      ∙ told-next κ before rest one other clean (paired-so κ st) (sym (is-new κ st) ∙ not-false b e) (bounds .entries - (n + 1)) (rw (← kept) long)
                       ∙ rw (found .2, kept);
                 }

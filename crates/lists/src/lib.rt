@@ -1,5 +1,6 @@
 // The check of the three lists of pairs: join list, constant list and mapping. Each is read line by line into an array of its pairs.
 use algebra::Answer;
+use algebra::ENTRIES;
 use cursor::Cursor;
 use cursor::Field;
 use text::equal;
@@ -12,10 +13,14 @@ ghost use lib.ListN.{length, set};
 ghost use Rattle.text.specs.Text.{part, piece as pieceOf};
 ghost use Rattle.text.specs.bridge.Code.{kindAt};
 ghost use Rattle.algebra.specs.Query.{PairList, joins, constants, mapping};
+ghost use Rattle.algebra.specs.Tally.{bounds};
 ghost use Rattle.lists.specs.bridge.Pairs.{Stands, Finds, firsts, fresh, entryOf, pairsIn, PairsChecked};
 
 // A pair of a list: where its first field starts and how long it is, and the same of its second.
 pub type Entry = [u16; 4];
+
+// The pairs of one list.
+pub type Pairs = [Entry; ENTRIES];
 
 // A line of two fields of these kinds: the end of the first, and the cursor behind the line.
 fn pair_at(text: &[u8], c: Cursor, first: u8, second: u8) -> Field
@@ -50,8 +55,8 @@ pub fn field_at(text: &[u8], start: u16, size: u16) -> &[u8]
 }
 
 // A first field may stand here: it is none of the first n entries', or it may be repeated.
-fn is_fresh(text: &[u8], from: usize, to: usize, unique: bool, keys: &[Entry; 64], n: usize) -> bool
-    requires { ⌜ (from ≤ to) × (to ≤ length (now text)) × (n ≤ 64) × (length (now keys) ≡ 64) ⌝ }
+fn is_fresh(text: &[u8], from: usize, to: usize, unique: bool, keys: &Pairs, n: usize) -> bool
+    requires { ⌜ (from ≤ to) × (to ≤ length (now text)) × (n ≤ bounds .entries) × (length (now keys) ≡ bounds .entries) ⌝ }
     ensures { λ r. ⌜ r ≡ fresh unique (part from to (now (text .entry))) (firsts (pairsIn (now (text .entry)) (now (keys .entry)) n)) ⌝ }
 {
     if !unique {
@@ -70,19 +75,19 @@ fn is_fresh(text: &[u8], from: usize, to: usize, unique: bool, keys: &[Entry; 64
 }
 
 // An array without pairs. The test is one of types, and the compiled code has none.
-fn no_pairs(keys: &mut [Entry; 64])
-    ensures { λ _. ⌜ length (now (keys .exit)) ≡ 64 ⌝ }
+fn no_pairs(keys: &mut Pairs)
+    ensures { λ _. ⌜ length (now (keys .exit)) ≡ bounds .entries ⌝ }
 {
     let places: &[Entry] = keys;
-    if places.len() == 64 {
+    if places.len() == ENTRIES {
         return;
     }
-    *keys = [[0; 4]; 64];
+    *keys = [[0; 4]; ENTRIES];
 }
 
 // Keeps a pair whose fields stand from `from` to `to`, and behind that up to `end`.
-fn keep(keys: &mut [Entry; 64], n: usize, from: usize, to: usize, end: usize)
-    requires { ⌜ (n < 64) × (from ≤ to) × (to < end) × (end ≤ 16384) ⌝ }
+fn keep(keys: &mut Pairs, n: usize, from: usize, to: usize, end: usize)
+    requires { ⌜ (n < bounds .entries) × (from ≤ to) × (to < end) × (end ≤ 16384) ⌝ }
     ensures { λ _. ⌜ now (keys .exit) ≡ set (now (keys .entry)) n (entryOf from to end) ⌝ }
 {
     let second = to + 1;
@@ -95,7 +100,7 @@ fn keep(keys: &mut [Entry; 64], n: usize, from: usize, to: usize, end: usize)
 }
 
 // A list of lines of two fields of these kinds, the first of which may not be repeated if `unique`.
-fn check_pairs(text: &[u8], first: u8, second: u8, unique: bool, keys: &mut [Entry; 64]) -> Answer
+fn check_pairs(text: &[u8], first: u8, second: u8, unique: bool, keys: &mut Pairs) -> Answer
     ensures { λ r. ⌜ ((κ : PairList) → Stands κ first second unique → PairsChecked κ (now (text .entry)) (now (keys .exit)) r) ⌝ }
 {
     no_pairs(keys);
@@ -115,7 +120,7 @@ fn check_pairs(text: &[u8], first: u8, second: u8, unique: bool, keys: &mut [Ent
         if !is_fresh(text, l.at, to, unique, keys, n) {
             return Answer::Malformed;
         }
-        if n == 64 {
+        if n == ENTRIES {
             return Answer::OverBound;
         }
         keep(keys, n, l.at, to, l.end);
@@ -126,21 +131,21 @@ fn check_pairs(text: &[u8], first: u8, second: u8, unique: bool, keys: &mut [Ent
 }
 
 // A join list: lines of a left and a right position.
-pub fn check_joins(text: &[u8], keys: &mut [Entry; 64]) -> Answer
+pub fn check_joins(text: &[u8], keys: &mut Pairs) -> Answer
     ensures { λ r. ⌜ PairsChecked joins (now (text .entry)) (now (keys .exit)) r ⌝ }
 {
     check_pairs(text, 6, 6, false, keys)
 }
 
 // A constant list: lines of a position, which is not repeated, and a term.
-pub fn check_constants(text: &[u8], keys: &mut [Entry; 64]) -> Answer
+pub fn check_constants(text: &[u8], keys: &mut Pairs) -> Answer
     ensures { λ r. ⌜ PairsChecked constants (now (text .entry)) (now (keys .exit)) r ⌝ }
 {
     check_pairs(text, 6, 4, true, keys)
 }
 
 // A mapping: lines of a name, which is not repeated, and the name that it becomes.
-pub fn check_mapping(text: &[u8], keys: &mut [Entry; 64]) -> Answer
+pub fn check_mapping(text: &[u8], keys: &mut Pairs) -> Answer
     ensures { λ r. ⌜ PairsChecked mapping (now (text .entry)) (now (keys .exit)) r ⌝ }
 {
     check_pairs(text, 0, 0, true, keys)

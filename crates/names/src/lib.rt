@@ -1,5 +1,6 @@
 // The variable table of a text: its distinct names by first place, each an entry, and a hint to each name at the first place
 // that was empty from a cheap hash of it on.
+use algebra::COLUMNS;
 use text::equal;
 use text::piece;
 ghost use mathlib.Core.Path.{_≡_};
@@ -13,6 +14,9 @@ ghost use Rattle.names.specs.bridge.Names.{hashOf, placeOf, startsOf, si
 
 // An entry of the table: a name's start and size.
 pub type Entry = [u16; 2];
+
+// The columns of one project, each where it stands.
+pub type Columns = [Entry; COLUMNS];
 
 // A number of the table as a place.
 pub fn wide(x: u16) -> usize

@@ -5,6 +5,7 @@ use crate::numbers::wide;
 use crate::pushes::find_label;
 use crate::pushes::push_all;
 use crate::pushes::push_joins;
+use algebra::PerEntry;
 use emit::put_all;
 use names::Entry;
 use names::find_name;
@@ -12,6 +13,7 @@ use text::piece;
 ghost use mathlib.Core.Path.{_≡_};
 ghost use Prim.Native.Nat.{ℕ, _+_, _≤_, _<_};
 ghost use lib.ListN.{length, getD};
+ghost use Rattle.algebra.specs.Tally.{bounds};
 ghost use Rattle.names.specs.bridge.Names.{startsOf, sizesOf, namesIn};
 ghost use Rattle.scoping.specs.bridge.Pushes.{lookup, allPushes};
 ghost use Rattle.naming.specs.bridge.Code.{bookOf, StoredIn, Apart, numberedBy, namesAt, said, written, Laid, Settled, Standard};
@@ -107,12 +109,12 @@ pub fn standardize_variables(
     n: usize,
     flags: &[u8; 2048],
     prefix: u8,
-    joins: &[u16; 64],
+    joins: &PerEntry,
     m: usize,
     pool: &mut [u8],
     news: &mut [Entry],
 )
-    requires { ⌜ (n ≤ 1024) × (m ≤ 64) × ((i : ℕ) → i < m → getD (now joins) i 0 < n) × (16384 ≤ length (now pool)) × (length (now news) ≡ 1024) ⌝ }
+    requires { ⌜ (n ≤ 1024) × (m ≤ bounds .entries) × ((i : ℕ) → i < m → getD (now joins) i 0 < n) × (16384 ≤ length (now pool)) × (length (now news) ≡ 1024) ⌝ }
     ensures { λ _. ⌜ Standard (allPushes prefix (numberedBy (now (flags .entry)) (namesIn (now (text .entry)) (now (table .entry)) n)) (namesAt (now (text .entry)) (startsOf (now (table .entry))) (sizesOf (now (table .entry))) (now (joins .entry)) m 0)) (namesIn (now (text .entry)) (now (table .entry)) n) n (now (pool .exit)) (startsOf (now (news .exit))) (sizesOf (now (news .exit))) (sizesOf (now (news .entry))) ⌝ }
 {
     let mut listed = [[0u16; 2]; 1024];

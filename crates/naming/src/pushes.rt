@@ -2,6 +2,7 @@
 use crate::label::base_size;
 use crate::label::ends_in_label;
 use crate::numbers::wide;
+use algebra::PerEntry;
 use names::Entry;
 use names::add_name;
 use names::find_name;
@@ -13,6 +14,7 @@ ghost use Prim.Native.Nat.{ℕ, _+_, _≤_, _<_};
 ghost use lib.ListN.{length, getD};
 ghost use lib.Dec.{eqb};
 ghost use Rattle.text.specs.Text.{piece as pieceOf};
+ghost use Rattle.algebra.specs.Tally.{bounds};
 ghost use Rattle.names.specs.bridge.Names.{Hinted, startsOf, sizesOf, namesIn, nameIn};
 ghost use Rattle.scoping.specs.Label.{base as baseOf};
 ghost use Rattle.scoping.specs.bridge.Pushes.{contains, pushed, pushes};
@@ -86,13 +88,13 @@ fn push(
 pub fn push_joins(
     text: &[u8],
     table: &[Entry; 1024],
-    joins: &[u16; 64],
+    joins: &PerEntry,
     m: usize,
     listed: &mut [Entry; 1024],
     hints: &mut [u16; 2048],
     marks: &mut [Entry; 1024],
 ) -> usize
-    requires { ⌜ StoredIn (now text) (now listed) (now hints) (now marks) 0 × (m ≤ 64) × ((i : ℕ) → i < m → getD (now joins) i 0 < 1024) ⌝ }
+    requires { ⌜ StoredIn (now text) (now listed) (now hints) (now marks) 0 × (m ≤ bounds .entries) × ((i : ℕ) → i < m → getD (now joins) i 0 < 1024) ⌝ }
     ensures { λ r. ⌜ (bookOf (now (text .entry)) (now (listed .exit)) (now (marks .exit)) r ≡ pushes 106 0 (namesAt (now (text .entry)) (startsOf (now (table .entry))) (sizesOf (now (table .entry))) (now (joins .entry)) m 0) []) × StoredIn (now (text .entry)) (now (listed .exit)) (now (hints .exit)) (now (marks .exit)) r ⌝ }
 {
     let mut d = 0;

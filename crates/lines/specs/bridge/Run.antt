@@ -37,7 +37,7 @@ pub record Started (p : Place) : Type 0 where
 -- the machine has counted what the check has, and the table holds its names
 pub record Stood (s : Bytes) (starts sizes hints : List ℕ) (p : Place) (m : Tally) : Type 0 where
   pub lines : m .lines ≡ p .lines
-  pub wide : m .wide ≤ 64
+  pub wide : m .wide ≤ bounds .columns
   pub names : Holds s starts sizes hints (p .n) (m .names)
 
 -- the run x goes on from p with ws to come, or ends with the same fault

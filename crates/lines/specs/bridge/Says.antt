@@ -42,7 +42,7 @@ LineIs s starts sizes hints c sort level width m (Asks a) =
     (cs : List ℕ) × (m′ : Tally)
     × (lineOf bounds (want (sortAt sort) level width) (split 9 (part (c .at) (c .end) s) ∷ []) m ≡ got (wants (below sort level) cs (rowOf (a .row) .below)) [] m′)
     × (getD cs 0 0 ≡ a .first) × (getD cs 1 0 ≡ a .second) × (a .first < 4294967296) × (a .second < 4294967296)
-    × (m′ .lines ≡ suc (m .lines)) × (m′ .wide ≤ 64) × Holds s starts sizes hints (a .names) (m′ .names) × (a .names ≤ 1024)
+    × (m′ .lines ≡ suc (m .lines)) × (m′ .wide ≤ bounds .columns) × Holds s starts sizes hints (a .names) (m′ .names) × (a .names ≤ 1024)
     × Tidy sort (Is (a .row)) × (opens (sortAt sort) ≡ true → level ≡ 0 → ⊥)
 
 -- the row of a query's head: a pattern stands below it, which it doesn't hide, and no number counts it

@@ -5,6 +5,7 @@ use mathlib.Core.List.{List, [], _∷_, _++_}
 use lib.ListN.{length, getD}
 use Rattle.text.specs.Text.{Bytes, linesFrom}
 use Rattle.algebra.specs.bridge.Table.{patterns}
+use Rattle.algebra.specs.Tally.{bounds}
 use Rattle.scoping.specs.bridge.Places.{Mark, visible, covered, silent}
 use Rattle.scoping.specs.bridge.Walk.{state, tree}
 use Rattle.scoping.specs.bridge.Spots.{Spot, spot, Node, trace, spotLine}
@@ -34,5 +35,5 @@ pub record Spotted (ns : List Bytes) (a : List (List ℕ)) (k : ℕ) (xs : List 
 pub record Noted (s : Bytes) (from : ℕ) (ns : List Bytes) (a : List (List ℕ)) (k : ℕ) : Type 0 where
   pub spots : List Spot
   pub nodes : List Node
-  pub walked : tree spotLine 64 patterns visible (state (linesFrom s from) (trace from [] [])) ≡ state [] (trace (length s) spots nodes)
+  pub walked : tree spotLine (bounds .depth) patterns visible (state (linesFrom s from) (trace from [] [])) ≡ state [] (trace (length s) spots nodes)
   pub kept : Spotted ns a k spots

@@ -13,6 +13,7 @@ use Rattle.algebra.specs.Reader.{reads, refuses, malformed, overBound}
 use Rattle.algebra.specs.Texts.{readPairs}
 use Rattle.algebra.specs.declared.Answer.{Answer}
 use Rattle.algebra.specs.declared.Answer.the-variants.{Good, Malformed, OverBound}
+use Rattle.algebra.specs.Tally.{bounds}
 use Rattle.cursor.specs.bridge.Cursor.{left}
 use Rattle.cursor.specs.declared.Cursor.{Cursor}
 use Rattle.cursor.specs.declared.Field.{Field}
@@ -30,10 +31,10 @@ entryOf from to end = from ∷ (to - from) ∷ (to + 1) ∷ (end - (to + 1)) ∷
 unfoldable pub pairsIn : Bytes → List (List ℕ) → ℕ → List Pair
 pairsIn s keys n = map (pairAt s) (take n keys)
 
--- the first n of 64 entries tell the pairs that a text says
+-- the first n entries tell the pairs that a text says
 pub record PairsTold (κ : PairList) (s : Bytes) (keys : List (List ℕ)) (n : ℕ) : Type 0 where
-  pub room : length keys ≡ 64
-  pub few : n ≤ 64
+  pub room : length keys ≡ bounds .entries
+  pub few : n ≤ bounds .entries
   pub read : readPairs κ s ≡ reads (pairsIn s keys n)
 
 -- entries tell the pairs of a good text; else the answer is its refusal

@@ -16,7 +16,7 @@ use Rattle.lines.proofs.check.check_list.Tie as tie
 
 abbrev Inv-loop : tie.InvT-loop
 Inv-loop s sort level words table₀ hints₀ p₀ left₀ no-spots₀ no-nodes₀ table hints p left no-spots no-nodes =
-    Ready s p × Went s (startsOf table) (sizesOf table) hints (entries left (sortAt sort) level) [] (checkText bounds (entries 64 (sortAt sort) level) [] s) p × (length no-spots ≡ 1) × (length no-nodes ≡ 1)
+    Ready s p × Went s (startsOf table) (sizesOf table) hints (entries left (sortAt sort) level) [] (checkText bounds (entries (bounds .entries) (sortAt sort) level) [] s) p × (length no-spots ≡ 1) × (length no-nodes ≡ 1)
 
 abbrev μ-loop : tie.MeasureT-loop
 μ-loop s sort level words table₀ hints₀ p₀ left₀ no-spots₀ no-nodes₀ table hints p left no-spots no-nodes = 16385 - p .cursor .at
