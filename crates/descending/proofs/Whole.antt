@@ -9,6 +9,7 @@ use lib.ListN.{length, getD, take, drop, length-append, length-take, length-drop
 use lib.Seq.{take-suc, getD-append-add, getD-drop, getD-take}
 use borrow.Author.Tests.{le-leb, eqb-true, eqb-false}
 use Rattle.algebra.specs.bridge.Table.{patterns}
+use Rattle.algebra.specs.Tally.{bounds}
 use Rattle.scoping.specs.bridge.Spots.{Node}
 use Rattle.scoping.specs.bridge.Skip.{skip}
 use Rattle.lines.specs.bridge.Noded.{nodeAt, nodesOf}
@@ -58,12 +59,12 @@ last-spot : (nodes : List (List ℕ)) (n k : ℕ) → length nodes ≤ n → fir
 unfolding firstSpot
 last-spot nodes n k h = rw (le-leb (length nodes) n h) refl
 
-pub tree-renamed : (words nodes : List (List ℕ)) (m : ℕ) (sizes : List ℕ) (a : List (List ℕ)) (k : ℕ) (b : List (List ℕ)) (n v : ℕ) → m ≤ length nodes → k ≤ length a → skip 64 patterns (nodesOf words nodes m) ≡ [] → (m ≡ 0 → k ≡ 0)
-    → Descends words (take m nodes) sizes (skip 64 patterns (nodesFrom words (take m nodes) 0)) (take k a) 0 0 b n v → Renamed sizes a 0 (b ++ drop k a) k
+pub tree-renamed : (words nodes : List (List ℕ)) (m : ℕ) (sizes : List ℕ) (a : List (List ℕ)) (k : ℕ) (b : List (List ℕ)) (n v : ℕ) → m ≤ length nodes → k ≤ length a → skip (bounds .depth) patterns (nodesOf words nodes m) ≡ [] → (m ≡ 0 → k ≡ 0)
+    → Descends words (take m nodes) sizes (skip (bounds .depth) patterns (nodesFrom words (take m nodes) 0)) (take k a) 0 0 b n v → Renamed sizes a 0 (b ++ drop k a) k
 tree-renamed words nodes m sizes a k b n v hm hk e z r = joined sizes a k b hk (subst (Renamed sizes (take k a) 0 b) all (r .went .all .all))
   where
     ends : length (take m nodes) ≤ n
-    ends = nodes-none words (take m nodes) n (r .shape ∙ ap (skip 64 patterns) (sym (nodes-are words nodes m hm)) ∙ e)
+    ends = nodes-none words (take m nodes) n (r .shape ∙ ap (skip (bounds .depth) patterns) (sym (nodes-are words nodes m hm)) ∙ e)
 
     last : firstSpot (take m nodes) n (length (take k a)) ≡ k
     last = last-spot (take m nodes) n (length (take k a)) ends ∙ sym (take-long a k hk)

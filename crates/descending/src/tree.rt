@@ -1,4 +1,5 @@
 // The variables of a tree renamed by a descent over its noted lines: a pattern and an expression call one another through exists, remaining depth falling.
+use algebra::DEPTH;
 use lines::below::amount;
 use lines::fields::Node;
 use lines::fields::Spot;
@@ -17,7 +18,6 @@ ghost use Rattle.words.specs.bridge.Words.{Worded};
 ghost use Rattle.algebra.specs.bridge.Table.{patterns, expressions};
 ghost use Rattle.scoping.specs.bridge.Spots.{noted, groupsBelow};
 ghost use Rattle.scoping.specs.bridge.Skip.{skip, skipPart, skipTimes, skipChild, skipGroups};
-ghost use Rattle.lines.specs.bridge.Noded.{nodesOf};
 ghost use Rattle.descending.specs.bridge.Renamed.{newMark, Renamed, Walked, nodesFrom, firstSpot, Went, Descends, Heads, Shaped};
 
 // How far a descent is: the number of the next line, and of the next variable.
@@ -311,5 +311,5 @@ pub fn rename_tree(
     requires { ⌜ Worded (now words) × (k ≤ length (now spots)) × Shaped (now words) (now nodes) m k ⌝ }
     ensures { λ _. ⌜ Renamed (sizesOf (now (news .entry))) (now (spots .entry)) 0 (now (spots .exit)) k ⌝ }
 {
-    rename_in_graph_pattern(0, 0, 64, words, &nodes[..m], &mut spots[..k], news);
+    rename_in_graph_pattern(0, 0, DEPTH, words, &nodes[..m], &mut spots[..k], news);
 }

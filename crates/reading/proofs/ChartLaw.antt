@@ -7,7 +7,6 @@ use lib.ListN.{length, drop, length-append, length-drop}
 use lib.Seq.{take-all}
 use Rattle.text.specs.Text.{Bytes, Line, same, ended, textOf, part, split, linesIn, linesOf, linesFrom}
 use Rattle.text.specs.Word.{bytes}
-use Rattle.text.specs.Field.{isVar}
 use Rattle.text.proofs.Texts.{Ended, text-back, lines-back, neat-ended}
 use Rattle.text.proofs.Places.{lines-start}
 use Rattle.algebra.specs.Tree.{Pattern}
@@ -15,13 +14,12 @@ use Rattle.algebra.specs.Query.{Query}
 use Rattle.algebra.specs.Layout.{put, putQuery}
 use Rattle.algebra.specs.Bounded.{layoutQuery}
 use Rattle.algebra.specs.Valid.{Valid, ValidQuery}
-use Rattle.algebra.specs.Tally.{Tally, start}
+use Rattle.algebra.specs.Tally.{Tally, start, bounds}
 use Rattle.algebra.specs.Reader.{malformed, overBound, Outcome, reads, refuses}
 use Rattle.algebra.specs.Texts.{readQuery}
 use Rattle.algebra.specs.bridge.Machine.{Check}
 use Rattle.algebra.specs.bridge.Verdict.{checked}
 use Rattle.algebra.specs.bridge.Table.{Sort, patterns, heads, rowIn}
-use Rattle.algebra.specs.declared.Answer.{Answer}
 use Rattle.algebra.specs.declared.Answer.the-variants as G
 use Rattle.algebra.proofs.Neat.{neat, query-neat}
 use Rattle.algebra.proofs.Theorem.{query-exactly}
@@ -42,7 +40,7 @@ use Rattle.reading.specs.bridge.Charted.{treeStart, queryStart, Charted}
 module _ {A : Type 0} (f : A → Tally → Tally) (from : Bytes → A → ℕ → Type 0) (s a l h : List ℕ) (before after words b : List (List ℕ)) (sort level : ℕ) where
   -- the walk from the first line on is the walk over the tree
   abbrev pub Inside : Outcome A → Type 0
-  Inside o = (x : A) → o ≡ reads x → (i : ℕ) → from s x i → entryOf level sort (markAlone sort) (state (linesFrom s 0) (trace 0 [] [])) ≡ tree spotLine 64 patterns visible (state (linesFrom s i) (trace i [] []))
+  Inside o = (x : A) → o ≡ reads x → (i : ℕ) → from s x i → entryOf level sort (markAlone sort) (state (linesFrom s 0) (trace 0 [] [])) ≡ tree spotLine (bounds .depth) patterns visible (state (linesFrom s i) (trace i [] []))
 
   pub charted : (r : Noting) (k : Check) (o : Outcome A) → k ≡ checked f o → Tells s a l h k (answerOf r) → Charts s words a l before after b sort level r → Inside o → Charted (λ x. f x start .names) from s a l h before after words b o r
   unfolding Tells Charts Charted
@@ -86,7 +84,7 @@ charted-checked names from s a l h before after words b (refuses overBound) r c 
 
 -- ---- a tree
 
-pub tree-inside : (s : Bytes) (o : Outcome Pattern) (x : Pattern) → o ≡ reads x → (i : ℕ) → treeStart s x i → entryOf 64 2 visible (state (linesFrom s 0) (trace 0 [] [])) ≡ tree spotLine 64 patterns visible (state (linesFrom s i) (trace i [] []))
+pub tree-inside : (s : Bytes) (o : Outcome Pattern) (x : Pattern) → o ≡ reads x → (i : ℕ) → treeStart s x i → entryOf (bounds .depth) 2 visible (state (linesFrom s 0) (trace 0 [] [])) ≡ tree spotLine (bounds .depth) patterns visible (state (linesFrom s i) (trace i [] []))
 unfolding tree
 tree-inside s o x e i z = rw z
 
@@ -134,8 +132,8 @@ module _ (s : Bytes) (q : Query) (e : readQuery s ≡ reads q) where
       let h = st .0 in
       omega (arith, d, n, h)
 
-pub query-inside : (s : Bytes) (x : Query) → readQuery s ≡ reads x → (i : ℕ) → queryStart s x i → entryOf 64 7 visible (state (linesFrom s 0) (trace 0 [] [])) ≡ tree spotLine 64 patterns visible (state (linesFrom s i) (trace i [] []))
+pub query-inside : (s : Bytes) (x : Query) → readQuery s ≡ reads x → (i : ℕ) → queryStart s x i → entryOf (bounds .depth) 7 visible (state (linesFrom s 0) (trace 0 [] [])) ≡ tree spotLine (bounds .depth) patterns visible (state (linesFrom s i) (trace i [] []))
 query-inside s x e i st =
-    ap (λ (ls : List Line). whole spotLine (tree spotLine 64) heads visible ls (trace 0 [] [])) (lines-are s x e)
-    ∙ head-walked (tree spotLine 64) x (put (x .tree) [])
-    ∙ (λ j. tree spotLine 64 patterns visible (state (sym (st .1) j) (trace (place-is s x e i st j) [] [])))
+    ap (λ (ls : List Line). whole spotLine (tree spotLine (bounds .depth)) heads visible ls (trace 0 [] [])) (lines-are s x e)
+    ∙ head-walked (tree spotLine (bounds .depth)) x (put (x .tree) [])
+    ∙ (λ j. tree spotLine (bounds .depth) patterns visible (state (sym (st .1) j) (trace (place-is s x e i st j) [] [])))

@@ -2,7 +2,6 @@
 use Prim.Native.Nat.{ℕ}
 use mathlib.Core.Path.{_≡_, subst}
 use mathlib.Core.List.{List}
-use Rattle.text.specs.Text.{Bytes}
 use Rattle.algebra.specs.Tally.{Tally, start}
 use Rattle.algebra.specs.Reader.{malformed, overBound, Outcome, reads, refuses}
 use Rattle.algebra.specs.bridge.Machine.{Check}

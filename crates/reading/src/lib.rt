@@ -1,5 +1,6 @@
 // The check of trees, queries, binding sets and filters: each text's number, and the table of its variables.
 use algebra::Answer;
+use algebra::DEPTH;
 use lines::check::Noting;
 use lines::check::check_list;
 use lines::check::check_one;
@@ -29,7 +30,7 @@ pub fn check_tree(
     ensures { λ r. ⌜ Checked treeNames (now (text .entry)) (startsOf (now (table .exit))) (sizesOf (now (table .exit))) (now (hints .exit)) (readTree (now (text .entry))) r ⌝ }
 {
     no_names(table, hints);
-    check_one(text, 2, 64, words, table, hints)
+    check_one(text, 2, DEPTH, words, table, hints)
 }
 
 // The same, and the spots of its variables and the nodes of its lines, for each of which there are three bytes of the text.
@@ -45,7 +46,7 @@ pub fn note_tree(
     ensures { λ r. ⌜ Charted treeNames treeStart (now (text .entry)) (startsOf (now (table .exit))) (sizesOf (now (table .exit))) (now (hints .exit)) (now (spots .entry)) (now (spots .exit)) (now (words .entry)) (now (nodes .exit)) (readTree (now (text .entry))) r ⌝ }
 {
     no_names(table, hints);
-    note_one(text, 2, 64, words, table, hints, spots, nodes)
+    note_one(text, 2, DEPTH, words, table, hints, spots, nodes)
 }
 
 // A query: its head line, then a tree.
@@ -59,7 +60,7 @@ pub fn check_query(
     ensures { λ r. ⌜ Checked queryNames (now (text .entry)) (startsOf (now (table .exit))) (sizesOf (now (table .exit))) (now (hints .exit)) (readQuery (now (text .entry))) r ⌝ }
 {
     no_names(table, hints);
-    check_one(text, 7, 64, words, table, hints)
+    check_one(text, 7, DEPTH, words, table, hints)
 }
 
 // The same, and the spots and nodes of its tree.
@@ -75,7 +76,7 @@ pub fn note_query(
     ensures { λ r. ⌜ Charted queryNames queryStart (now (text .entry)) (startsOf (now (table .exit))) (sizesOf (now (table .exit))) (now (hints .exit)) (now (spots .entry)) (now (spots .exit)) (now (words .entry)) (now (nodes .exit)) (readQuery (now (text .entry))) r ⌝ }
 {
     no_names(table, hints);
-    note_one(text, 7, 64, words, table, hints, spots, nodes)
+    note_one(text, 7, DEPTH, words, table, hints, spots, nodes)
 }
 
 // A list of binding sets; the table was cleared.
@@ -103,5 +104,5 @@ pub fn check_filters(
     ensures { λ r. ⌜ Checked filterNames (now (text .entry)) (startsOf (now (table .exit))) (sizesOf (now (table .exit))) (now (hints .exit)) (readFilters (now (text .entry))) r ⌝ }
 {
     no_names(table, hints);
-    check_list(text, 11, 64, words, table, hints)
+    check_list(text, 11, DEPTH, words, table, hints)
 }

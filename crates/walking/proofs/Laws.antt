@@ -3,8 +3,6 @@ use Prim.Native.Nat.{ℕ, zero, suc, _+_, _≤_, _<_}
 use mathlib.Core.Path.{_≡_, refl, sym, ap, subst, _∙_}
 use mathlib.Core.List.{List, [], _∷_}
 use mathlib.Core.Bool.{true, false}
-use mathlib.Core.Logic.{⊎-elim}
-use native.Mathlib.Nat.{eq-or-lt-of-le}
 use native.Mathlib.Omega.{arith}
 use lib.ListN.{length, getD, set, drop, List·getD-append}
 use lib.Seq.{getD-at, getD-drop}
@@ -15,7 +13,6 @@ use Rattle.text.specs.declared.Number.{Number}
 use Rattle.text.specs.declared.Number.the-variants.{Is, Not}
 use Rattle.text.proofs.Basics.{same-eq}
 use Rattle.algebra.specs.Valid.{mem}
-use Rattle.words.specs.declared.Row.{Row as Code}
 use Rattle.names.specs.bridge.Names.{nameAt, listing, Hinted}
 use Rattle.names.proofs.Laws.{listing-long, listing-at, listed}
 use Rattle.cursor.specs.bridge.Cursor.{left}

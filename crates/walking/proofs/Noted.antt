@@ -20,6 +20,7 @@ use Rattle.algebra.specs.Valid.{Valid, AllFit, mem}
 use Rattle.algebra.specs.Depth.{depth}
 use Rattle.algebra.specs.bridge.Table.{Sort, patterns, rowIn, Row}
 use Rattle.algebra.proofs.Neat.{neat}
+use Rattle.algebra.specs.Tally.{bounds}
 use Rattle.emit.specs.bridge.Emit.{Em, puts}
 use Rattle.emit.proofs.Laws.{puts-nil}
 use Rattle.scoping.specs.bridge.Sets.{Once}
@@ -91,30 +92,30 @@ module _ {ns : List Bytes} {a : List (List ℕ)} {k : ℕ} {xs : List Spot} (x :
 
 -- ---- a whole tree
 
-module _ (s : Bytes) (from : ℕ) (ns : List Bytes) (a : List (List ℕ)) (k : ℕ) (x : Noted s from ns a k) (p : Pattern) (lines : linesFrom s from ≡ put p []) (valid : Valid p) (deep : depth p ≤ 64) where
-  noted-found : Found s from visible 64 p (x .spots)
+module _ (s : Bytes) (from : ℕ) (ns : List Bytes) (a : List (List ℕ)) (k : ℕ) (x : Noted s from ns a k) (p : Pattern) (lines : linesFrom s from ≡ put p []) (valid : Valid p) (deep : depth p ≤ bounds .depth) where
+  noted-found : Found s from visible (bounds .depth) p (x .spots)
   noted-found = record { lines = lines; valid = valid; deep = deep; nodes = x .nodes; walked = x .walked }
 
   -- the text under new names is the renamed tree's, whatever lines follow
   pub rewritten-tree : (new : Bytes → Bytes) → ((f : Bytes) → mem f ns ≡ false → new f ≡ f) → (t : List Line) (e : Em)
       → puts (textOf t) (rewritten new s (x .spots) from (length s) e) ≡ puts (textOf (put (renameInGraphPattern new p) t)) e
-  rewritten-tree new keeps = found-rewritten s from visible 64 p (x .spots) noted-found ns new keeps
+  rewritten-tree new keeps = found-rewritten s from visible (bounds .depth) p (x .spots) noted-found ns new keeps
 
   -- each variable is noted as it stands in the tree
   pub flagged-tree : (flags : List ℕ) → flagSpots ns (x .spots) flags ≡ flagAll ns (places p visible) flags
-  flagged-tree = found-flags s from visible 64 p (x .spots) noted-found ns
+  flagged-tree = found-flags s from visible (bounds .depth) p (x .spots) noted-found ns
 
   -- they stand in the text, one behind the other
   pub stands-tree : Stands s from (length s) (x .spots)
-  stands-tree = found-stands s from visible 64 p (x .spots) noted-found
+  stands-tree = found-stands s from visible (bounds .depth) p (x .spots) noted-found
 
   lines-ended : Ended (linesFrom s from)
   lines-ended = subst Ended (sym lines) (neat-ended (put p []) (neat p [] valid tt))
 
   module _ (words b : List (List ℕ)) (n : ℕ) (noded : Noded words b n (x .nodes)) where
     -- a descent over its noted lines leaves none
-    skip-tree : skip 64 patterns (nodesOf words b n) ≡ []
-    skip-tree = ap (skip 64 patterns) (noded .are) ∙ skip-all 64 visible from (length s) (x .spots) (x .nodes) (linesFrom s from) lines-ended (x .walked)
+    skip-tree : skip (bounds .depth) patterns (nodesOf words b n) ≡ []
+    skip-tree = ap (skip (bounds .depth) patterns) (noded .are) ∙ skip-all (bounds .depth) visible from (length s) (x .spots) (x .nodes) (linesFrom s from) lines-ended (x .walked)
 
     -- where no line is noted no variable is
     none-noted : n ≡ 0 → k ≡ 0
@@ -269,8 +270,8 @@ module _ (s : Bytes) (from : ℕ) (m : Mark) (d : ℕ) (cs : List Bytes) (q : Pa
         (line-stretch s (bytes "project") cs from (textOf (put q [])) (found-low s from m (suc d) (project cs q) xs x) line-text [] (λ f. f) (λ f h. refl) m (heading PROJECT .row) (record { em = record { at = 0; out = [] }; flags = [] }) .stands [] behind (le-refl behind, behind-high)))
 
 module _ (s : Bytes) (from : ℕ) (ns : List Bytes) (a : List (List ℕ)) (k : ℕ) (x : Noted s from ns a k) (cs : List Bytes) (q : Pattern)
-    (lines : linesFrom s from ≡ put (project cs q) []) (valid : Valid (project cs q)) (deep : depth (project cs q) ≤ 64) where
-  project-found : Found s from visible 64 (project cs q) (x .spots)
+    (lines : linesFrom s from ≡ put (project cs q) []) (valid : Valid (project cs q)) (deep : depth (project cs q) ≤ bounds .depth) where
+  project-found : Found s from visible (bounds .depth) (project cs q) (x .spots)
   project-found = noted-found s from ns a k x (project cs q) lines valid deep
 
   -- as many variables as columns

@@ -18,13 +18,11 @@ use Rattle.algebra.specs.Layout.{putRows, putArity, put, putE, putC, putEs, put
 use Rattle.algebra.specs.Valid.{Valid, ValidE, ValidC, ValidEs, ValidOs, ValidAs, mem}
 use Rattle.algebra.specs.Depth.{depth, depthE, depthC, depthEs, depthOs, depthAs}
 use Rattle.algebra.specs.bridge.Table.{Sort, triples, columns, patterns, expressions, rows, orders, aggregates, rowIn, arityRow}
-use Rattle.emit.specs.bridge.Emit.{puts}
 use Rattle.scoping.specs.Sets.{variablesOf}
 use Rattle.scoping.specs.bridge.Places.{Mark, silent, under, marked, places, placesE, placesC, placesEs, placesOs, placesAs}
 use Rattle.scoping.specs.Rename.{renameInTriple, renameInGraphPattern, renameInExpression, renameInCondition, renameInExpressions, renameInOrders, renameAggregates}
 use Rattle.scoping.specs.bridge.Walk.{State, state, hides, opened, child, times, tree}
 use Rattle.walking.specs.bridge.Walk.{Output, putLine}
-use Rattle.walking.specs.bridge.Flags.{flagAll}
 use Rattle.walking.proofs.After.{After, none-after, then, told, reached, muted, line}
 use Rattle.walking.proofs.Parts.{length-map, count-renamed, ocount-renamed, acount-renamed, ccount, flag-number, op-row, heading, headingE, headingA, columnsRow, orderRow, flag-then, arity-fields, arity-below, walk-rows, walk-triples, by-row, by-direction}
 use Rattle.walking.proofs.Written.{variable-is, no-fields, shut-then, number-then, variable-then, term-then, columns as columnFields}

@@ -3,11 +3,6 @@ use Prim.Native.Nat.{ℕ, suc, _≤_}
 use mathlib.Core.Path.{_≡_, refl, sym, ap, _∙_}
 use mathlib.Core.List.{List, [], _∷_, map}
 use mathlib.Core.Bool.{Bool, true, false, cond, true≢false}
-use mathlib.Core.Option.{some}
-use native.Mathlib.Omega.{arith}
-use lib.ListN.{length, getD}
-use lib.Dec.{eqb, leb}
-use borrow.Author.Tests.{ne-eqb}
 use Rattle.text.specs.Text.{Bytes, ended}
 use Rattle.text.specs.Field.{most, digitsOf, numberOf, decimal, clean, isVar, isIri, isLiteral, isDash, variable, cell, isKind, fits, allFit}
 use Rattle.text.proofs.Basics.{and-left, and-right}

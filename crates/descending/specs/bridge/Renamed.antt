@@ -8,6 +8,7 @@ use lib.ListN.{length, getD, drop}
 use Rattle.words.specs.bridge.Code.{groupsIn}
 use Rattle.words.specs.bridge.Words.{isFront}
 use Rattle.algebra.specs.bridge.Table.{patterns}
+use Rattle.algebra.specs.Tally.{bounds}
 use Rattle.scoping.specs.bridge.Spots.{groupsBelow, Node}
 use Rattle.scoping.specs.bridge.Skip.{skip}
 use Rattle.lines.specs.bridge.Noded.{nodeAt, nodesOf}
@@ -71,5 +72,5 @@ pub record Heads (words : List (List ℕ)) (e : List ℕ) (code first second : �
 -- the first m lines that were noted are those of one tree, which has k variables: the descent over them leaves none
 pub record Shaped (words b : List (List ℕ)) (m k : ℕ) : Type 0 where
   pub few : m ≤ length b
-  pub whole : skip 64 patterns (nodesOf words b m) ≡ []
+  pub whole : skip (bounds .depth) patterns (nodesOf words b m) ≡ []
   pub none : m ≡ 0 → k ≡ 0

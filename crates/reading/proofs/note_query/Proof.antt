@@ -18,4 +18,4 @@ note-query-spec =
     (λ c κs. let c4 = c .before .before .before .before in (omega arith, holds-none _ _ _ _ (c4 .no-names .ensures .0) (c4 .no-names .ensures .1) (c4 .no-names .ensures .2), c4 .before .before .before .before .pre))
     (λ c. search needs)
     (λ c. search needs)
-    (λ c. let c2 = c .before .before in let c11 = c2 .before .before .before .before .before .before .before .before .before in C.charted tallyQuery queryStart _ _ _ _ _ _ _ _ 7 64 _ _ _ (check-query (now (c11 .args .text))) (c2 .note-one .ensures .0) (c2 .note-one .ensures .1 (omega arith)) (C.query-inside (now (c11 .args .text)))))
+    (λ c. let c2 = c .before .before in let c11 = c2 .before .before .before .before .before .before .before .before .before in C.charted tallyQuery queryStart _ _ _ _ _ _ _ _ 7 _ _ _ _ (check-query (now (c11 .args .text))) (c2 .note-one .ensures .0) (c2 .note-one .ensures .1 (omega arith)) (C.query-inside (now (c11 .args .text)))))

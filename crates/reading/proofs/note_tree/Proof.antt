@@ -18,4 +18,4 @@ note-tree-spec =
     (λ c κs. let c4 = c .before .before .before .before in (omega arith, holds-none _ _ _ _ (c4 .no-names .ensures .0) (c4 .no-names .ensures .1) (c4 .no-names .ensures .2), c4 .before .before .before .before .pre))
     (λ c. search needs)
     (λ c. search needs)
-    (λ c. let c2 = c .before .before in let c11 = c2 .before .before .before .before .before .before .before .before .before in C.charted tally treeStart _ _ _ _ _ _ _ _ 2 64 _ _ _ (check-tree (now (c11 .args .text))) (c2 .note-one .ensures .0) (c2 .note-one .ensures .1 (omega arith)) (C.tree-inside (now (c11 .args .text)) _)))
+    (λ c. let c2 = c .before .before in let c11 = c2 .before .before .before .before .before .before .before .before .before in C.charted tally treeStart _ _ _ _ _ _ _ _ 2 _ _ _ _ (check-tree (now (c11 .args .text))) (c2 .note-one .ensures .0) (c2 .note-one .ensures .1 (omega arith)) (C.tree-inside (now (c11 .args .text)) _)))
