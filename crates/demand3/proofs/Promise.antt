@@ -11,6 +11,7 @@ use Rattle.text.proofs.Basics.{and-left, and-right}
 use Rattle.algebra.specs.Tree.{Triple, join}
 use Rattle.algebra.specs.Layout.{layout}
 use Rattle.algebra.proofs.Roomy.{read-any-exactly}
+use Rattle.algebra.specs.Tally.{bounds}
 use Rattle.scoping.specs.Label.{prefixL, prefixR}
 use Rattle.scoping.specs.Premises.{inside}
 use Rattle.counting.specs.Bag.{count}
@@ -70,7 +71,7 @@ unfolding clean
 letter-r = refl
 
 module _ (m : Request) (pairs leftConstants rightConstants : Bytes) (a : TreeRead (m .left)) (b : TreeRead (m .right)) (ls : Lists pairs leftConstants rightConstants m) (i : allInside m ≡ true) where
-  pairs-few : {B : Type 0} (f : Pair → B) → length (map f (m .joins)) ≤ 64
+  pairs-few : {B : Type 0} (f : Pair → B) → length (map f (m .joins)) ≤ bounds .entries
   pairs-few f = let e = map-length f (m .joins) in let h = joins-few pairs (m .joins) (ls .joins) in omega arith
 
   four : (inside (m .left .columns) (lefts (m .joins)) ≡ true) × (inside (m .right .columns) (rights (m .joins)) ≡ true) × (inside (m .left .columns) (positions (m .left-constants)) ≡ true) × (inside (m .right .columns) (positions (m .right-constants)) ≡ true)

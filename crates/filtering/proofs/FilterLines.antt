@@ -19,7 +19,6 @@ use Rattle.algebra.specs.Valid.{Takes, ValidFilter, ValidParts}
 use Rattle.algebra.specs.Layout.{putArity, putE, putEs, putValues, putFilter, putParts, putFilters}
 use Rattle.scoping.specs.Sets.{all}
 use Rattle.scoping.specs.bridge.Walk.{orZero}
-use Rattle.negating.proofs.TreeLines.{behind}
 use Rattle.filtering.specs.Values.{expressionTerm}
 use Rattle.filtering.specs.Functions.{asTerm, referenced, tryExpressionFromUnary, tryExpressionFromBinary, tryExpressionFromFunction, if-some, tryExpressionFromTree, tryExpressionsFromParts}
 use Rattle.filtering.specs.Filters.{expressions, referencesInside, partsInside}

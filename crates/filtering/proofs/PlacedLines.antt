@@ -14,7 +14,6 @@ use Rattle.algebra.specs.Tree.{Pattern, filter, Expression}
 use Rattle.algebra.specs.Query.{UN, BIN, TERN, NARY, Filter, leaf, ref, function}
 use Rattle.algebra.specs.Valid.{ValidFilters}
 use Rattle.algebra.specs.Layout.{putArity, put, putE, putValues, putFilter, putFilters}
-use Rattle.scoping.specs.Sets.{all}
 use Rattle.filtering.specs.Functions.{tryExpressionFromTree, isConstantTrue}
 use Rattle.filtering.specs.Filters.{placedExpression, andThose, expressions, both, conjunction, filtered}
 use Rattle.filtering.specs.bridge.SetLines.{repeated}

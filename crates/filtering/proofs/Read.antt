@@ -63,7 +63,7 @@ module _ (s : Bytes) (fs : List Filter) (e : readFilters s ≡ reads fs) where
 
 -- ---- the projection's columns are few
 
-few-in : {p : Pattern} {x : Projection} (o : Outermost p x) (m : Tally) → In bounds (tally p m) → length (x .columns) ≤ 64
+few-in : {p : Pattern} {x : Projection} (o : Outermost p x) (m : Tally) → In bounds (tally p m) → length (x .columns) ≤ bounds .columns
 unfolding tally headed
 few-in (here {cs} {p}) m h = let w = counts bounds (headed cs m) (grow bounds p (headed cs m) h) .wide in omega (arith, w)
 few-in (under-distinct o) m h = few-in o (noted [] m) h
@@ -72,5 +72,5 @@ few-in (under-slice o) m h = few-in o (noted [] m) h
 few-in (under-orderby {p} {os} o) m h = few-in o (noted [] m) (growOs bounds os (tally p (noted [] m)) h)
 few-in (under-group {ks} {p} {rs} o) m h = few-in o (noted ks (noted [] m)) (growAs bounds rs (tally p (noted ks (noted [] m))) h)
 
-pub columns-few : (s : Bytes) (p : Pattern) → readTree s ≡ reads p → {x : Projection} → Outermost p x → length (x .columns) ≤ 64
+pub columns-few : (s : Bytes) (p : Pattern) → readTree s ≡ reads p → {x : Projection} → Outermost p x → length (x .columns) ≤ bounds .columns
 columns-few s p e o = let b = tree-exactly s p .0 e .2 in few-in o start (in-bounds bounds (tally p start) (record { lines = b .lines; wide = b .columns; names = b .names }))

@@ -6,7 +6,6 @@ use mathlib.Core.Option.{Option, none, some}
 use Prim.Native.Nat.{ℕ, _+_, _≤_, _<_}
 use native.Mathlib.Omega.{arith}
 use Rattle.text.specs.Text.{Bytes}
-use Rattle.text.specs.Field.{given}
 use Rattle.algebra.specs.Tree.{Pattern}
 use Rattle.algebra.specs.Query.{BindingSet, Filter}
 use Rattle.algebra.specs.Reader.{Outcome as Reading, malformed, overBound, reads, refuses}

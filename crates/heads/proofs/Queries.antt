@@ -16,6 +16,7 @@ use Rattle.algebra.specs.Reader.{reads}
 use Rattle.algebra.specs.Texts.{readQuery}
 use Rattle.algebra.proofs.Neat.{neat, query-neat}
 use Rattle.algebra.proofs.Theorem.{query-exactly}
+use Rattle.algebra.specs.Tally.{bounds}
 use Rattle.scoping.specs.Numbering.{byPlace}
 use Rattle.merging.specs.Merge.{over}
 use Rattle.merging.proofs.Others.{tree-valid, tree-names}
@@ -31,7 +32,7 @@ module _ (s : Bytes) (q : Query) (e : readQuery s ≡ reads q) where
   pub query-valid : Valid (q .tree)
   query-valid = tree-valid s q e
 
-  pub query-depth : depth (q .tree) ≤ 64
+  pub query-depth : depth (q .tree) ≤ bounds .depth
   query-depth = query-exactly s q .0 e .2 .depth
 
   pub query-names : length (byPlace (q .tree)) ≤ 1024

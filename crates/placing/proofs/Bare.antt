@@ -10,7 +10,6 @@ use lib.Seq.{take-all}
 use borrow.Author.Tests.{not-true, not-false}
 use Rattle.text.specs.Text.{Bytes, Line, same, textOf, part, linesFrom, First}
 use Rattle.text.specs.Word.{bytes}
-use Rattle.text.proofs.Texts.{Ended}
 use Rattle.text.proofs.Places.{lines-end, lines-next}
 use Rattle.algebra.specs.Tree.{Pattern}
 use Rattle.algebra.specs.Layout.{put, putOs, putAs}

@@ -13,6 +13,7 @@ use Rattle.algebra.specs.Layout.{put, layout}
 use Rattle.algebra.specs.Reader.{reads}
 use Rattle.algebra.specs.Texts.{readTree}
 use Rattle.algebra.specs.Valid.{Valid}
+use Rattle.algebra.specs.Tally.{bounds}
 use Rattle.merging.specs.Request.{Projection}
 use Rattle.merging.specs.Negate.{modifyOutermostProjection}
 use Rattle.negating.specs.Projections.{outermostProjection}
@@ -60,8 +61,8 @@ module _ (s : Bytes) (p : Pattern) (e : readTree s ≡ reads p) where
     pub columns-are : columnsOn s line ≡ Found .columns
     columns-are = ap (λ (ls : List Line). drop 1 (getD ls 0 [])) (place .line-at)
 
-    pub columns-low : length (columnsOn s line) ≤ 64
-    columns-low = subst (λ (cs : List Bytes). length cs ≤ 64) (sym columns-are) (columns-few s p e way)
+    pub columns-low : length (columnsOn s line) ≤ bounds .columns
+    columns-low = subst (λ (cs : List Bytes). length cs ≤ bounds .columns) (sym columns-are) (columns-few s p e way)
 
     -- a tree that is modified there
     pub modified : (f : List Bytes → Pattern → Pattern) → layout (modifyOutermostProjection f p) ≡ take inner s ++ textOf (put (f (Found .columns) (Found .inner)) (behind way []))

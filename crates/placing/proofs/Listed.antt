@@ -9,6 +9,7 @@ use lib.ListN.{length, getD, set, drop, List·getD-eq-default}
 use lib.Seq.{getD-set-same}
 use Rattle.text.specs.Text.{Bytes, Line, part, piece, linesFrom, First}
 use Rattle.text.proofs.Places.{lines-next, lines-end}
+use Rattle.algebra.specs.Tally.{bounds}
 use Rattle.names.specs.bridge.Names.{listing, namesIn, startsOf, sizesOf}
 use Rattle.names.proofs.Columns.{column-length, column-set, column-is}
 use Rattle.names.proofs.Laws.{listing-below, listing-long, listing-at}
@@ -34,7 +35,7 @@ module _ (s : Bytes) (c : Cursor) (to : ℕ) (d : Cursor) (g : Next s c to d) (i
 
   module _ (n k : ℕ) (h : n + length (left s (c .at) (c .end)) ≡ k) where
     -- there is room for it, and its place is small
-    pub columns-fit : k ≤ 64 → length s ≤ 16384 → (n < 64) × (c .at ≤ to) × (to ≤ 16384)
+    pub columns-fit : k ≤ bounds .columns → length s ≤ 16384 → (n < bounds .columns) × (c .at ≤ to) × (to ≤ 16384)
     columns-fit r m = let e = ap length column-here in let low = g .first .low in let high = g .first .high in (omega arith, low, omega arith)
 
     pub columns-less : n + 1 + length (left s (d .at) (d .end)) ≡ k

@@ -1,8 +1,6 @@
 -- The next field of a line. Assumes nothing.
 use Prim.Native.Nat.{ℕ, _+_, _-_, _≤_, _<_}
 use mathlib.Core.Path.{_≡_, refl, sym, ap, _∙_}
-use mathlib.Core.List.{[], _∷_}
-use mathlib.Core.Option.{Option, none, some}
 use native.Mathlib.Omega.{arith}
 use lib.ListN.{length}
 use Rattle.text.specs.Text.{Bytes, First}
@@ -11,7 +9,6 @@ use Rattle.text.specs.bridge.Code.{numberIn}
 use Rattle.text.specs.declared.Number.{Number}
 use Rattle.text.specs.declared.Number.the-variants.{Is, Not}
 use Rattle.cursor.proofs.Laws.{left-none, left-next}
-use Rattle.scoping.specs.bridge.Walk as W
 use Rattle.merging.specs.Request.{orZero, position}
 use Rattle.placing.specs.bridge.Fields.{FieldIs}
 

@@ -15,7 +15,6 @@ use Rattle.algebra.specs.Depth.{depth}
 use Rattle.algebra.specs.Layout.{put, layout}
 use Rattle.algebra.specs.Bounded.{IsTree}
 use Rattle.algebra.specs.Tally.{bounds}
-use Rattle.algebra.specs.bridge.Table.{patterns}
 use Rattle.words.specs.bridge.Words.{Worded}
 use Rattle.algebra.specs.Reader.{refuses, malformed, overBound}
 use Rattle.algebra.specs.Texts.{readTree}
@@ -54,7 +53,7 @@ module _ (s : Bytes) (a l h : List ℕ) (n : ℕ) (k : Known s a l h n) where
   pub known-valid : Valid (k .pattern)
   known-valid = is-tree .1
 
-  pub known-depth : depth (k .pattern) ≤ 64
+  pub known-depth : depth (k .pattern) ≤ bounds .depth
   known-depth = is-tree .2 .depth
 
   pub known-few : length (byPlace (k .pattern)) ≤ 1024

@@ -1,5 +1,6 @@
 // The call rename: a tree under the names that a mapping gives.
 use algebra::Answer as Check;
+use algebra::ENTRIES;
 use answers::Answer;
 use descending::tree::rename_tree;
 use lines::check::Noting;
@@ -54,7 +55,7 @@ fn find_targets(
     hints: &[u16; 2048],
     n: usize,
     mapping: &[u8],
-    keys: &[Pair; 64],
+    keys: &[Pair; ENTRIES],
     m: usize,
     news: &mut [Entry; 1024],
 )
@@ -143,7 +144,7 @@ fn rename_by(
     requires { ⌜ Recorded (now tree) (startsOf (now table)) (sizesOf (now table)) (now hints) n (now spots) k (now words) (now nodes) m ⌝ }
     ensures { λ r. ⌜ Answered (renameOutcome (now (tree .entry)) (now (mapping .entry))) (now (out .entry)) (now (out .exit)) r ⌝ }
 {
-    let mut keys = [[0u16; 4]; 64];
+    let mut keys = [[0u16; 4]; ENTRIES];
     match check_mapping(mapping, &mut keys) {
         Check::Good(pairs) => {
             let mut news = [[0u16; 2]; 1024];

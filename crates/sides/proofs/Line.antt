@@ -15,6 +15,7 @@ use Rattle.text.specs.Field.{clean, isVar, variable, isKind, fits, allFit}
 use Rattle.text.proofs.Basics.{and-left, and-right}
 use Rattle.text.proofs.Texts.{glue, AllClean, ended-glue, fields-back, all-clean}
 use Rattle.algebra.specs.Valid.{AllFit}
+use Rattle.algebra.specs.Tally.{bounds}
 use Rattle.cursor.specs.bridge.Cursor.{left}
 use Rattle.cursor.proofs.Laws.{left-none, left-all}
 use Rattle.emit.specs.bridge.Emit.{Em, em, last, puts}
@@ -40,7 +41,7 @@ line-short w (f ∷ fs) h =
 
 -- ---- its columns
 
-module _ (fs : List Bytes) (clean-fields : AllFit variable fs) (few : length fs ≤ 64) (size : ℕ) (line₀ line₁ : Bytes) (long : length line₀ ≡ 8336)
+module _ (fs : List Bytes) (clean-fields : AllFit variable fs) (few : length fs ≤ bounds .columns) (size : ℕ) (line₀ line₁ : Bytes) (long : length line₀ ≡ 8336)
     (e : em size line₁ ≡ puts (textOf ((bytes "project" ∷ fs) ∷ [])) (em 0 line₀)) where
   abbrev text : Bytes
   text = ended (bytes "project" ∷ fs) []
@@ -76,7 +77,7 @@ columns-read (f ∷ fs) c rest line size e q =
     ∙ take-append-seam (glue 9 (f ∷ fs)) (10 ∷ rest))
     ∙ fields-back f fs (all-clean variable (f ∷ fs) c)
 
-module _ (fs : List Bytes) (clean-fields : AllFit variable fs) (few : length fs ≤ 64) (size : ℕ) (line₀ line₁ : Bytes) (long : length line₀ ≡ 8336)
+module _ (fs : List Bytes) (clean-fields : AllFit variable fs) (few : length fs ≤ bounds .columns) (size : ℕ) (line₀ line₁ : Bytes) (long : length line₀ ≡ 8336)
     (e : em size line₁ ≡ puts (textOf ((bytes "project" ∷ fs) ∷ [])) (em 0 line₀)) where
   pub line-columns : columnsIn line₁ (size - 1) ≡ fs
   line-columns = columns-read fs clean-fields (drop size line₁) line₁ size (line-is fs clean-fields few size line₀ line₁ long e) (line-size fs clean-fields few size line₀ line₁ long e)

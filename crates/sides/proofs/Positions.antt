@@ -21,6 +21,7 @@ use Rattle.emit.specs.bridge.Emit.{Em, em, puts}
 use Rattle.emit.proofs.Laws.{puts-nil}
 use Rattle.algebra.specs.Query.{Pair}
 use Rattle.algebra.specs.Layout.{putPairs}
+use Rattle.algebra.specs.Tally.{bounds}
 use Rattle.scoping.specs.Sets.{all}
 use Rattle.merging.specs.Request.{position}
 use Rattle.merging.specs.Names.{placeIn}
@@ -242,20 +243,20 @@ module _ (s : Bytes) (xs : List Pair) (second : Bool) (at lines : List ℕ) (m k
       go [] w z = absurd (let v = drop-whole xs k w in let i = kept .many in omega arith)
       go (y ∷ ys) w z = column-put (y .second) true x x′ x″ refl p (e ∙ ap (λ (b : Bytes). puts b x′) (f (y .first) (y .second) (putPairs ys []) z))
 
-pub terms-next : (xs : List Pair) (i r k : ℕ) (x x′ : Em) (ps : List ℕ) → i < 64 → r ≡ placeIn i ps → ps ≡ positionsIn false xs → x′ ≡ puts (tabbed (secondOf (drop r xs))) x
-    → puts (tabbed (termsFrom xs (i + 1) (64 - (i + 1)))) x′ ≡ puts (tabbed (termsFrom xs i (64 - i))) x
+pub terms-next : (xs : List Pair) (i r k : ℕ) (x x′ : Em) (ps : List ℕ) → i < bounds .columns → r ≡ placeIn i ps → ps ≡ positionsIn false xs → x′ ≡ puts (tabbed (secondOf (drop r xs))) x
+    → puts (tabbed (termsFrom xs (i + 1) (bounds .columns - (i + 1)))) x′ ≡ puts (tabbed (termsFrom xs i (bounds .columns - i))) x
 unfolding termsFrom
 terms-next xs i r k x x′ ps h e q p =
-    let n : 64 - i ≡ suc (64 - (i + 1)) = omega arith in
-    ap (puts (tabbed (termsFrom xs (i + 1) (64 - (i + 1))))) p
-    ∙ go (drop r xs) (termsFrom xs (i + 1) (64 - (i + 1)))
-    ∙ ap₂ (λ (a : ℕ) (b : ℕ). puts (tabbed (secondOf (drop a xs) ++ termsFrom xs b (64 - (i + 1)))) x) (e ∙ ap (placeIn i) q) (add-one i)
+    let n : bounds .columns - i ≡ suc (bounds .columns - (i + 1)) = omega arith in
+    ap (puts (tabbed (termsFrom xs (i + 1) (bounds .columns - (i + 1))))) p
+    ∙ go (drop r xs) (termsFrom xs (i + 1) (bounds .columns - (i + 1)))
+    ∙ ap₂ (λ (a : ℕ) (b : ℕ). puts (tabbed (secondOf (drop a xs) ++ termsFrom xs b (bounds .columns - (i + 1)))) x) (e ∙ ap (placeIn i) q) (add-one i)
     ∙ ap (λ (a : ℕ). puts (tabbed (termsFrom xs i a)) x) (sym n)
   where
     go : (ys : List Pair) (ts : List Bytes) → puts (tabbed ts) (puts (tabbed (secondOf ys)) x) ≡ puts (tabbed (secondOf ys ++ ts)) x
     go [] ts = tabbed-nil ts x
     go (y ∷ ys) ts = tabbed-cons (y .second) ts x
 
-pub terms-done : (xs : List Pair) (i : ℕ) (x : Em) → 64 ≤ i → puts (tabbed (termsFrom xs i (64 - i))) x ≡ x
+pub terms-done : (xs : List Pair) (i : ℕ) (x : Em) → bounds .columns ≤ i → puts (tabbed (termsFrom xs i (bounds .columns - i))) x ≡ x
 unfolding termsFrom tabbed puts
-terms-done xs i x h = let z : 64 - i ≡ 0 = omega arith in rw z
+terms-done xs i x h = let z : bounds .columns - i ≡ 0 = omega arith in rw z

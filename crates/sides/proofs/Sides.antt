@@ -38,6 +38,7 @@ use Rattle.naming.specs.bridge.Code.{namesAt}
 use Rattle.merging.specs.Request.{Projection, tree}
 use Rattle.merging.proofs.Names.{Letter, side-fits}
 use Rattle.algebra.specs.Query.{Pair}
+use Rattle.algebra.specs.Tally.{bounds}
 use Rattle.sides.specs.declared.side.Outline.{Outline}
 use Rattle.sides.specs.declared.list.Positions.{Positions}
 use Rattle.sides.specs.declared.list.Positions.the-variants.{Outside, Are}
@@ -77,7 +78,7 @@ module _ (s : Bytes) (at : ℕ) (x : Projection) (lines : linesFrom s at ≡ put
 -- ---- join positions
 
 module _ (s : Bytes) (at : ℕ) (a l : List ℕ) (n : ℕ) (v : List (List ℕ)) (inner columns : ℕ) (x : Projection) (t : Placed s at a l n v inner columns x)
-    (ps : List ℕ) (m : ℕ) (few : m ≤ 64) (long : length ps ≡ 64) (in-columns : inside (x .columns) (take m ps) ≡ true) where
+    (ps : List ℕ) (m : ℕ) (few : m ≤ bounds .entries) (long : length ps ≡ bounds .entries) (in-columns : inside (x .columns) (take m ps) ≡ true) where
   abbrev stood : TreeIn s at a l n v (tree x)
   stood = t .stands
 
@@ -143,7 +144,7 @@ module _ (s : Bytes) (at : ℕ) (a l : List ℕ) (n : ℕ) (v : List (List ℕ))
           go [] f = refl
           go (c ∷ cs) f = and-both (fits variable (side c)) (allFit variable (map side cs)) (one c (and-left (fits variable c) (allFit variable cs) f)) (go cs (and-right (fits variable c) (allFit variable cs) f))
 
-      map-few : length (map side (x .columns)) ≤ 64
+      map-few : length (map side (x .columns)) ≤ bounds .columns
       map-few = let z = go (x .columns) in let w = t .narrow in omega arith
         where
           go : (cs : List Bytes) → length (map side cs) ≡ length cs
@@ -186,7 +187,7 @@ pub first-false : (a b : Bool) → a ≡ false → (a && b) ≡ false
 first-false true b h = absurd (true≢false h)
 first-false false b h = refl
 
-pub kept-few : (s : Bytes) (xs : List Pair) (second : Bool) (at lines : List ℕ) (m : ℕ) (r : Bytes) → Kept s xs second at lines m → Listed r xs → m ≤ 64
+pub kept-few : (s : Bytes) (xs : List Pair) (second : Bool) (at lines : List ℕ) (m : ℕ) (r : Bytes) → Kept s xs second at lines m → Listed r xs → m ≤ bounds .entries
 kept-few s xs second at lines m r k l = let e = k .many in let f = l .few in omega arith
 
 -- all that find_side promises of positions that are inside
@@ -213,7 +214,7 @@ module _ (text : Bytes) (second : Bool) (pairs constants : Bytes) (c inner : ℕ
 
 -- what was found is what naming asks for, and named it is a side
 module _ (text : Bytes) (from : ℕ) (starts sizes : List ℕ) (n : ℕ) (spots : List (List ℕ)) (second : Bool) (constants : Bytes) (x : Projection) (js ks : List Pair) (joins at lines : List ℕ) (o : Outline)
-    (tree-in : TreeIn text from starts sizes n spots (tree x)) (narrow : length (x .columns) ≤ 64) (low : inside (x .columns) (positionsIn second js) ≡ true) (is : OutlineIs text second constants x js ks joins at lines o) where
+    (tree-in : TreeIn text from starts sizes n spots (tree x)) (narrow : length (x .columns) ≤ bounds .columns) (low : inside (x .columns) (positionsIn second js) ≡ true) (is : OutlineIs text second constants x js ks joins at lines o) where
   pub outline-placed : Placed text from starts sizes n spots (o .inner) (o .columns) x
   outline-placed = record { stands = tree-in; narrow = narrow; width = is .width; high = is .high; behind = is .inner }
 

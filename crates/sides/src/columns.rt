@@ -1,4 +1,5 @@
 // A project's line and which of its columns go: a mask has one bit a column, the lowest for the first.
+use algebra::PerEntry;
 use cursor::field_end;
 use emit::put;
 use emit::put_all;
@@ -15,6 +16,7 @@ ghost use Rattle.text.specs.Text.{same, part};
 ghost use Rattle.emit.specs.bridge.Emit.{em, puts};
 ghost use Rattle.walking.specs.bridge.Walk.{tabbed};
 ghost use Rattle.algebra.specs.Valid.{mem};
+ghost use Rattle.algebra.specs.Tally.{bounds};
 ghost use Rattle.merging.specs.Names.{from as countFrom, isAt, placeIn};
 ghost use Rattle.sides.specs.bridge.Columns.{columnsIn, bitOf, maskOf, picked, goneBits};
 
@@ -92,8 +94,8 @@ fn with_bit(mask: u64, i: usize, set: bool) -> u64
 }
 
 // The place of a position among the first m, or m.
-pub fn place_of(at: &[u16; 64], m: usize, p: usize) -> usize
-    requires { ⌜ (m ≤ 64) × (length (now at) ≡ 64) ⌝ }
+pub fn place_of(at: &PerEntry, m: usize, p: usize) -> usize
+    requires { ⌜ (m ≤ bounds .entries) × (length (now at) ≡ bounds .entries) ⌝ }
     ensures { λ r. ⌜ r ≡ placeIn p (take m (now (at .entry))) ⌝ }
 {
     let mut k = 0;
@@ -107,8 +109,8 @@ pub fn place_of(at: &[u16; 64], m: usize, p: usize) -> usize
 }
 
 // The mask of the positions, of c columns.
-pub fn position_mask(at: &[u16; 64], m: usize, c: usize) -> u64
-    requires { ⌜ (m ≤ 64) × (length (now at) ≡ 64) × (c ≤ 64) ⌝ }
+pub fn position_mask(at: &PerEntry, m: usize, c: usize) -> u64
+    requires { ⌜ (m ≤ bounds .entries) × (length (now at) ≡ bounds .entries) × (c ≤ bounds .columns) ⌝ }
     ensures { λ r. ⌜ r ≡ maskOf (map (λ i. isAt i (take m (now (at .entry)))) (countFrom 0 c)) ⌝ }
 {
     let mut mask = 0;
@@ -177,7 +179,7 @@ pub fn joined_mask(
     limit: usize,
     marks: u64,
 ) -> u64
-    requires { ⌜ (end ≤ length (now line)) × (length (columnsIn (now line) end) ≤ 64) × (limit ≤ length (now other)) ⌝ }
+    requires { ⌜ (end ≤ length (now line)) × (length (columnsIn (now line) end) ≤ bounds .columns) × (limit ≤ length (now other)) ⌝ }
     ensures { λ r. ⌜ r ≡ maskOf (goneBits mask (picked 1 marks (columnsIn (now (other .entry)) limit)) (columnsIn (now (line .entry)) end)) ⌝ }
 {
     let mut gone = 0;

@@ -1,5 +1,7 @@
 // A list of pairs that was checked: its positions, and the terms of a constant list by rising position.
 use crate::columns::place_of;
+use algebra::COLUMNS;
+use algebra::PerEntry;
 use cursor::field_end;
 use emit::put;
 use emit::put_all;
@@ -17,6 +19,7 @@ ghost use Rattle.emit.specs.bridge.Emit.{em, puts};
 ghost use Rattle.scoping.specs.bridge.Walk.{numberIn};
 ghost use Rattle.walking.specs.bridge.Walk.{tabbed};
 ghost use Rattle.algebra.specs.Query.{Pair};
+ghost use Rattle.algebra.specs.Tally.{bounds};
 ghost use Rattle.sides.specs.bridge.Listed.{Listed, Kept, Found, secondOf, termsFrom};
 
 // A position is outside its projection, or there are so many.
@@ -43,11 +46,11 @@ pub fn read_positions(
     list: &[u8],
     second: bool,
     c: usize,
-    at: &mut [u16; 64],
-    lines: &mut [u16; 64],
+    at: &mut PerEntry,
+    lines: &mut PerEntry,
 ) -> Positions
-    requires { ⌜ (c ≤ 64) × (length (now at) ≡ 64) × (length (now lines) ≡ 64) × ((xs : List Pair) × Listed (now list) xs) ⌝ }
-    ensures { λ r. ⌜ (length (now (at .exit)) ≡ 64) × (length (now (lines .exit)) ≡ 64) × ((xs : List Pair) → Listed (now (list .entry)) xs → Found (now (list .entry)) xs second c (now (at .exit)) (now (lines .exit)) r) ⌝ }
+    requires { ⌜ (c ≤ bounds .columns) × (length (now at) ≡ bounds .entries) × (length (now lines) ≡ bounds .entries) × ((xs : List Pair) × Listed (now list) xs) ⌝ }
+    ensures { λ r. ⌜ (length (now (at .exit)) ≡ bounds .entries) × (length (now (lines .exit)) ≡ bounds .entries) × ((xs : List Pair) → Listed (now (list .entry)) xs → Found (now (list .entry)) xs second c (now (at .exit)) (now (lines .exit)) r) ⌝ }
 {
     let mut m = 0;
     let mut from = 0;
@@ -85,8 +88,8 @@ fn second_field(list: &[u8], from: usize) -> &[u8]
 }
 
 // The term of the constant at a place of the list, after a tab, if it is below m.
-fn put_term(list: &[u8], lines: &[u16; 64], k: usize, m: usize, out: &mut [u8], at: usize) -> usize
-    requires { ⌜ m ≤ 64 ⌝ }
+fn put_term(list: &[u8], lines: &PerEntry, k: usize, m: usize, out: &mut [u8], at: usize) -> usize
+    requires { ⌜ m ≤ bounds .entries ⌝ }
     ensures { λ r. ⌜ ((xs : List Pair) (second : Bool) (at₀ : List ℕ) → Kept (now (list .entry)) xs second at₀ (now (lines .entry)) m → em r (now (out .exit)) ≡ puts (tabbed (secondOf (drop k xs))) (em at (now (out .entry)))) ⌝ }
 {
     if m <= k {
@@ -99,18 +102,18 @@ fn put_term(list: &[u8], lines: &[u16; 64], k: usize, m: usize, out: &mut [u8], 
 // The terms by rising position, each after a tab.
 pub fn put_terms(
     list: &[u8],
-    at: &[u16; 64],
-    lines: &[u16; 64],
+    at: &PerEntry,
+    lines: &PerEntry,
     m: usize,
     out: &mut [u8],
     to: usize,
 ) -> usize
-    requires { ⌜ (m ≤ 64) × (length (now at) ≡ 64) ⌝ }
-    ensures { λ r. ⌜ ((xs : List Pair) → Kept (now (list .entry)) xs false (now (at .entry)) (now (lines .entry)) m → em r (now (out .exit)) ≡ puts (tabbed (termsFrom xs 0 64)) (em to (now (out .entry)))) ⌝ }
+    requires { ⌜ (m ≤ bounds .entries) × (length (now at) ≡ bounds .entries) ⌝ }
+    ensures { λ r. ⌜ ((xs : List Pair) → Kept (now (list .entry)) xs false (now (at .entry)) (now (lines .entry)) m → em r (now (out .exit)) ≡ puts (tabbed (termsFrom xs 0 (bounds .columns))) (em to (now (out .entry)))) ⌝ }
 {
     let mut next = to;
     let mut p = 0;
-    while p < 64 {
+    while p < COLUMNS {
         next = put_term(list, lines, place_of(at, m, p), m, out, next);
         p += 1;
     }

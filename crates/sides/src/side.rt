@@ -3,6 +3,8 @@ use crate::columns::position_mask;
 use crate::list::Positions;
 use crate::list::read_positions;
 use crate::project::find_columns;
+use algebra::ENTRIES;
+use algebra::PerEntry;
 use descending::tree::rename_tree;
 use lines::fields::Node;
 use lines::fields::Spot;
@@ -21,6 +23,7 @@ ghost use Rattle.text.specs.Text.{Bytes, linesFrom};
 ghost use Rattle.algebra.specs.Tree.{Pattern};
 ghost use Rattle.algebra.specs.Query.{Pair};
 ghost use Rattle.algebra.specs.Layout.{put};
+ghost use Rattle.algebra.specs.Tally.{bounds};
 ghost use Rattle.names.specs.bridge.Names.{startsOf, sizesOf, namesIn};
 ghost use Rattle.scoping.specs.Numbering.{numbered};
 ghost use Rattle.scoping.specs.bridge.Pushes.{allPushes, newName};
@@ -36,9 +39,9 @@ ghost use Rattle.sides.specs.bridge.Listed.{Listed, positionsIn};
 ghost use Rattle.sides.specs.bridge.Side.{TreeIn, Renames, Placed, Asked, OutlineIs, FindingIs, SideIs};
 
 // The entries of the columns at the first m positions: the columns are the first of a project's variables.
-fn join_entries(spots: &[Spot], at: &[u16; 64], m: usize, joins: &mut [u16; 64])
-    requires { ⌜ (m ≤ 64) × (length (now joins) ≡ 64) × ((i : ℕ) → i < m → getD (now at) i 0 < length (now spots)) ⌝ }
-    ensures { λ _. ⌜ (length (now (joins .exit)) ≡ 64) × ((i : ℕ) → i < m → getD (now (joins .exit)) i 0 ≡ getD (getD (now (spots .entry)) (getD (now (at .entry)) i 0) []) 1 0) ⌝ }
+fn join_entries(spots: &[Spot], at: &PerEntry, m: usize, joins: &mut PerEntry)
+    requires { ⌜ (m ≤ bounds .entries) × (length (now joins) ≡ bounds .entries) × ((i : ℕ) → i < m → getD (now at) i 0 < length (now spots)) ⌝ }
+    ensures { λ _. ⌜ (length (now (joins .exit)) ≡ bounds .entries) × ((i : ℕ) → i < m → getD (now (joins .exit)) i 0 ≡ getD (getD (now (spots .entry)) (getD (now (at .entry)) i 0) []) 1 0) ⌝ }
 {
     let mut i = 0;
     while i < m {
@@ -55,12 +58,12 @@ fn name_side(
     n: usize,
     spots: &[Spot],
     prefix: u8,
-    joins: &[u16; 64],
+    joins: &PerEntry,
     m: usize,
     pool: &mut [u8],
     news: &mut [Entry; 1024],
 )
-    requires { ⌜ (n ≤ 1024) × Inside 1024 (now spots) (length (now spots)) × (m ≤ 64) × ((i : ℕ) → i < m → getD (now joins) i 0 < n) × (16384 ≤ length (now pool)) × (length (now news) ≡ 1024) × ((k : ℕ) → getD (sizesOf (now news)) k 0 ≡ 0) ⌝ }
+    requires { ⌜ (n ≤ 1024) × Inside 1024 (now spots) (length (now spots)) × (m ≤ bounds .entries) × ((i : ℕ) → i < m → getD (now joins) i 0 < n) × (16384 ≤ length (now pool)) × (length (now news) ≡ 1024) × ((k : ℕ) → getD (sizesOf (now news)) k 0 ≡ 0) ⌝ }
     ensures { λ _. ⌜ ((at : ℕ) (p : Pattern) → TreeIn (now (text .entry)) at (startsOf (now (table .entry))) (sizesOf (now (table .entry))) n (now (spots .entry)) p → Renames (namesIn (now (text .entry)) (now (table .entry)) n) n (now (pool .exit)) (startsOf (now (news .exit))) (sizesOf (now (news .exit))) (newName (allPushes prefix (numbered p) (namesAt (now (text .entry)) (startsOf (now (table .entry))) (sizesOf (now (table .entry))) (now (joins .entry)) m 0)))) ⌝ }
 {
     let mut flags = [0u8; 2048];
@@ -76,9 +79,9 @@ pub struct Standing {
 
 // The positions that a side's lists name: of joins, of constants, and where the constants' lines start.
 pub struct Places {
-    pub joins: [u16; 64],
-    pub at: [u16; 64],
-    pub starts: [u16; 64],
+    pub joins: PerEntry,
+    pub at: PerEntry,
+    pub starts: PerEntry,
 }
 
 // What is found of a side before its names: where its inner pattern starts, how many columns it has, which of them are joined
@@ -105,16 +108,16 @@ pub fn find_side(
     pairs: &[u8],
     second: bool,
     constants: &[u8],
-    joins: &mut [u16; 64],
-    at: &mut [u16; 64],
-    lines: &mut [u16; 64],
+    joins: &mut PerEntry,
+    at: &mut PerEntry,
+    lines: &mut PerEntry,
 ) -> Finding
-    requires { ⌜ Asked (now text) from (now pairs) (now constants) × (length (now joins) ≡ 64) × (length (now at) ≡ 64) × (length (now lines) ≡ 64) ⌝ }
-    ensures { λ r. ⌜ (length (now (joins .exit)) ≡ 64) × (length (now (at .exit)) ≡ 64) × ((x : Projection) (js ks : List Pair) → linesFrom (now (text .entry)) from ≡ put (tree x) [] → Listed (now (pairs .entry)) js → Listed (now (constants .entry)) ks → FindingIs (now (text .entry)) second (now (constants .entry)) x js ks (now (joins .exit)) (now (at .exit)) (now (lines .exit)) r) ⌝ }
+    requires { ⌜ Asked (now text) from (now pairs) (now constants) × (length (now joins) ≡ bounds .entries) × (length (now at) ≡ bounds .entries) × (length (now lines) ≡ bounds .entries) ⌝ }
+    ensures { λ r. ⌜ (length (now (joins .exit)) ≡ bounds .entries) × (length (now (at .exit)) ≡ bounds .entries) × ((x : Projection) (js ks : List Pair) → linesFrom (now (text .entry)) from ≡ put (tree x) [] → Listed (now (pairs .entry)) js → Listed (now (constants .entry)) ks → FindingIs (now (text .entry)) second (now (constants .entry)) x js ks (now (joins .exit)) (now (at .exit)) (now (lines .exit)) r) ⌝ }
 {
     let found = find_columns(text, from);
     let columns = found.columns;
-    let mut join_lines = [0u16; 64];
+    let mut join_lines = [0u16; ENTRIES];
     let Positions::Are(k) = read_positions(pairs, second, columns, joins, &mut join_lines) else {
         return Finding::Outside;
     };
@@ -141,16 +144,16 @@ fn name_columns(
     nodes: &[Node],
     spots: &mut [Spot],
     prefix: u8,
-    at: &[u16; 64],
+    at: &PerEntry,
     pool: &mut [u8],
     news: &mut [Entry; 1024],
     line: &mut [u8],
 ) -> usize
-    requires { ⌜ Letter prefix × (16384 ≤ length (now pool)) × (length (now news) ≡ 1024) × ((i : ℕ) → getD (sizesOf (now news)) i 0 ≡ 0) × (length (now line) ≡ 8336) × (outline .joins ≤ 64) × (length (now at) ≡ 64) × ((x : Projection) × Placed (now text) (standing .from) (startsOf (now table)) (sizesOf (now table)) (standing .n) (now spots) (outline .inner) (outline .columns) x × (inside (x .columns) (take (outline .joins) (now at)) ≡ true)) × Worded (now words) × Shaped (now words) (now nodes) (length (now nodes)) (length (now spots)) ⌝ }
+    requires { ⌜ Letter prefix × (16384 ≤ length (now pool)) × (length (now news) ≡ 1024) × ((i : ℕ) → getD (sizesOf (now news)) i 0 ≡ 0) × (length (now line) ≡ 8336) × (outline .joins ≤ bounds .entries) × (length (now at) ≡ bounds .entries) × ((x : Projection) × Placed (now text) (standing .from) (startsOf (now table)) (sizesOf (now table)) (standing .n) (now spots) (outline .inner) (outline .columns) x × (inside (x .columns) (take (outline .joins) (now at)) ≡ true)) × Worded (now words) × Shaped (now words) (now nodes) (length (now nodes)) (length (now spots)) ⌝ }
     ensures { λ r. ⌜ (r ≤ 8336) × ((x : Projection) → Placed (now (text .entry)) (standing .from) (startsOf (now (table .entry))) (sizesOf (now (table .entry))) (standing .n) (now (spots .entry)) (outline .inner) (outline .columns) x → inside (x .columns) (take (outline .joins) (now (at .entry))) ≡ true → Renames (namesIn (now (text .entry)) (now (table .entry)) (standing .n)) (standing .n) (now (pool .exit)) (startsOf (now (news .exit))) (sizesOf (now (news .exit))) (sideName prefix (x .columns) (x .inner) (take (outline .joins) (now (at .entry)))) × (columnsIn (now (line .exit)) r ≡ map (sideName prefix (x .columns) (x .inner) (take (outline .joins) (now (at .entry)))) (x .columns))) ⌝ }
     ensures renamed { λ _. ⌜ Renamed (sizesOf (now (news .exit))) (now (spots .entry)) 0 (now (spots .exit)) (length (now (spots .entry))) ⌝ }
 {
-    let mut joins = [0u16; 64];
+    let mut joins = [0u16; ENTRIES];
     let n = standing.n;
     let m = outline.joins;
     join_entries(spots, at, m, &mut joins);
@@ -194,13 +197,13 @@ pub fn name_found(
     nodes: &[Node],
     spots: &mut [Spot],
     prefix: u8,
-    joins: &[u16; 64],
+    joins: &PerEntry,
     pool: &mut [u8],
     news: &mut [Entry; 1024],
     line: &mut [u8],
 ) -> Side
-    requires { ⌜ Letter prefix × (16384 ≤ length (now pool)) × (length (now news) ≡ 1024) × ((i : ℕ) → getD (sizesOf (now news)) i 0 ≡ 0) × (length (now line) ≡ 8336) × (length (now joins) ≡ 64) × ((second : Bool) × (constants : Bytes) × (x : Projection) × (js : List Pair) × (ks : List Pair) × (at : List ℕ) × (lines : List ℕ) × TreeIn (now text) (standing .from) (startsOf (now table)) (sizesOf (now table)) (standing .n) (now spots) (tree x) × (length (x .columns) ≤ 64) × (inside (x .columns) (positionsIn second js) ≡ true) × OutlineIs (now text) second constants x js ks (now joins) at lines outline) × Worded (now words) × Shaped (now words) (now nodes) (length (now nodes)) (length (now spots)) ⌝ }
-    ensures { λ r. ⌜ ((second : Bool) (constants : Bytes) (x : Projection) (js ks : List Pair) (at lines : List ℕ) → TreeIn (now (text .entry)) (standing .from) (startsOf (now (table .entry))) (sizesOf (now (table .entry))) (standing .n) (now (spots .entry)) (tree x) → length (x .columns) ≤ 64 → inside (x .columns) (positionsIn second js) ≡ true → OutlineIs (now (text .entry)) second constants x js ks (now (joins .entry)) at lines outline → SideIs (now (text .entry)) (startsOf (now (table .entry))) (sizesOf (now (table .entry))) (standing .n) prefix second constants x js ks (now (pool .exit)) (startsOf (now (news .exit))) (sizesOf (now (news .exit))) (now (line .exit)) at lines r) ⌝ }
+    requires { ⌜ Letter prefix × (16384 ≤ length (now pool)) × (length (now news) ≡ 1024) × ((i : ℕ) → getD (sizesOf (now news)) i 0 ≡ 0) × (length (now line) ≡ 8336) × (length (now joins) ≡ bounds .entries) × ((second : Bool) × (constants : Bytes) × (x : Projection) × (js : List Pair) × (ks : List Pair) × (at : List ℕ) × (lines : List ℕ) × TreeIn (now text) (standing .from) (startsOf (now table)) (sizesOf (now table)) (standing .n) (now spots) (tree x) × (length (x .columns) ≤ bounds .columns) × (inside (x .columns) (positionsIn second js) ≡ true) × OutlineIs (now text) second constants x js ks (now joins) at lines outline) × Worded (now words) × Shaped (now words) (now nodes) (length (now nodes)) (length (now spots)) ⌝ }
+    ensures { λ r. ⌜ ((second : Bool) (constants : Bytes) (x : Projection) (js ks : List Pair) (at lines : List ℕ) → TreeIn (now (text .entry)) (standing .from) (startsOf (now (table .entry))) (sizesOf (now (table .entry))) (standing .n) (now (spots .entry)) (tree x) → length (x .columns) ≤ bounds .columns → inside (x .columns) (positionsIn second js) ≡ true → OutlineIs (now (text .entry)) second constants x js ks (now (joins .entry)) at lines outline → SideIs (now (text .entry)) (startsOf (now (table .entry))) (sizesOf (now (table .entry))) (standing .n) prefix second constants x js ks (now (pool .exit)) (startsOf (now (news .exit))) (sizesOf (now (news .exit))) (now (line .exit)) at lines r) ⌝ }
     ensures renamed { λ _. ⌜ Renamed (sizesOf (now (news .exit))) (now (spots .entry)) 0 (now (spots .exit)) (length (now (spots .entry))) ⌝ }
 {
     let end = name_columns(

@@ -3,6 +3,7 @@ use crate::columns::put_columns;
 use crate::list::put_terms;
 use crate::side::Places;
 use crate::side::Side;
+use algebra::PerEntry;
 use emit::put;
 use emit::put_all;
 use lines::fields::Spot;
@@ -21,6 +22,7 @@ ghost use Rattle.names.specs.bridge.Names.{startsOf, sizesOf, namesIn};
 ghost use Rattle.emit.specs.bridge.Emit.{em, puts};
 ghost use Rattle.scoping.specs.Rename.{renameInGraphPattern};
 ghost use Rattle.algebra.specs.Layout.{put};
+ghost use Rattle.algebra.specs.Tally.{bounds};
 ghost use Rattle.merging.specs.Request.{Projection};
 ghost use Rattle.descending.specs.bridge.Renamed.{Renamed};
 ghost use Rattle.sides.specs.bridge.Columns.{columnsIn, picked};
@@ -51,14 +53,14 @@ fn put_values(
     end: usize,
     mask: u64,
     constants: &[u8],
-    positions: &[u16; 64],
-    lines: &[u16; 64],
+    positions: &PerEntry,
+    lines: &PerEntry,
     m: usize,
     out: &mut [u8],
     at: usize,
 ) -> usize
-    requires { ⌜ (m ≤ 64) × (length (now positions) ≡ 64) × (end ≤ length (now line)) × (ones mask ≡ length (picked 1 mask (columnsIn (now line) end))) ⌝ }
-    ensures { λ r. ⌜ ((ks : List Pair) → Kept (now (constants .entry)) ks false (now (positions .entry)) (now (lines .entry)) m → (t : List Line) → puts (textOf t) (em r (now (out .exit))) ≡ puts (textOf (valuesLines m (ones mask) (picked 1 mask (columnsIn (now (line .entry)) end)) (termsFrom ks 0 64) t)) (em at (now (out .entry)))) ⌝ }
+    requires { ⌜ (m ≤ bounds .entries) × (length (now positions) ≡ bounds .entries) × (end ≤ length (now line)) × (ones mask ≡ length (picked 1 mask (columnsIn (now line) end))) ⌝ }
+    ensures { λ r. ⌜ ((ks : List Pair) → Kept (now (constants .entry)) ks false (now (positions .entry)) (now (lines .entry)) m → (t : List Line) → puts (textOf t) (em r (now (out .exit))) ≡ puts (textOf (valuesLines m (ones mask) (picked 1 mask (columnsIn (now (line .entry)) end)) (termsFrom ks 0 (bounds .columns)) t)) (em at (now (out .entry)))) ⌝ }
 {
     if m == 0 {
         return at;
@@ -88,8 +90,8 @@ pub fn put_side(
     out: &mut [u8],
     at: usize,
 ) -> usize
-    requires { ⌜ ((from : ℕ) × (x : Projection) × (v : List (List ℕ)) × Placed (now text) from (startsOf (now table)) (sizesOf (now table)) n v (side .inner) (side .columns) x × Renamed (sizesOf (now news)) v 0 (now spots) (length v)) × (side .constants ≤ 64) × (length (places .at) ≡ 64) × (side .end ≤ length (now line)) × (ones (side .constant) ≡ length (picked 1 (side .constant) (columnsIn (now line) (side .end)))) ⌝ }
-    ensures { λ r. ⌜ ((from : ℕ) (x : Projection) (v : List (List ℕ)) (new : Bytes → Bytes) (ks : List Pair) → Placed (now (text .entry)) from (startsOf (now (table .entry))) (sizesOf (now (table .entry))) n v (side .inner) (side .columns) x → Renamed (sizesOf (now (news .entry))) v 0 (now (spots .entry)) (length v) → Renames (namesIn (now (text .entry)) (now (table .entry)) n) n (now (pool .entry)) (startsOf (now (news .entry))) (sizesOf (now (news .entry))) new → Kept (now (constants .entry)) ks false (places .at) (places .starts) (side .constants) → (t : List Line) → puts (textOf t) (em r (now (out .exit))) ≡ puts (textOf (joinLine (side .constants) (put (renameInGraphPattern new (x .inner)) (valuesLines (side .constants) (ones (side .constant)) (picked 1 (side .constant) (columnsIn (now (line .entry)) (side .end))) (termsFrom ks 0 64) t)))) (em at (now (out .entry)))) ⌝ }
+    requires { ⌜ ((from : ℕ) × (x : Projection) × (v : List (List ℕ)) × Placed (now text) from (startsOf (now table)) (sizesOf (now table)) n v (side .inner) (side .columns) x × Renamed (sizesOf (now news)) v 0 (now spots) (length v)) × (side .constants ≤ bounds .entries) × (length (places .at) ≡ bounds .entries) × (side .end ≤ length (now line)) × (ones (side .constant) ≡ length (picked 1 (side .constant) (columnsIn (now line) (side .end)))) ⌝ }
+    ensures { λ r. ⌜ ((from : ℕ) (x : Projection) (v : List (List ℕ)) (new : Bytes → Bytes) (ks : List Pair) → Placed (now (text .entry)) from (startsOf (now (table .entry))) (sizesOf (now (table .entry))) n v (side .inner) (side .columns) x → Renamed (sizesOf (now (news .entry))) v 0 (now (spots .entry)) (length v) → Renames (namesIn (now (text .entry)) (now (table .entry)) n) n (now (pool .entry)) (startsOf (now (news .entry))) (sizesOf (now (news .entry))) new → Kept (now (constants .entry)) ks false (places .at) (places .starts) (side .constants) → (t : List Line) → puts (textOf t) (em r (now (out .exit))) ≡ puts (textOf (joinLine (side .constants) (put (renameInGraphPattern new (x .inner)) (valuesLines (side .constants) (ones (side .constant)) (picked 1 (side .constant) (columnsIn (now (line .entry)) (side .end))) (termsFrom ks 0 (bounds .columns)) t)))) (em at (now (out .entry)))) ⌝ }
 {
     let a = put_join(side.constants, out, at);
     let b = put_renamed(

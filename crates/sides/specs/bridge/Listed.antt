@@ -8,6 +8,7 @@ use lib.Dec.{ltb}
 use Rattle.text.specs.Text.{Bytes, linesOf, linesFrom}
 use Rattle.algebra.specs.Query.{Pair}
 use Rattle.algebra.specs.Layout.{putPairs}
+use Rattle.algebra.specs.Tally.{bounds}
 use Rattle.scoping.specs.Sets.{all}
 use Rattle.merging.specs.Request.{position}
 use Rattle.merging.specs.Names.{placeIn}
@@ -17,7 +18,7 @@ use Rattle.sides.specs.declared.list.Positions.the-variants.{Outside, Ar
 -- the text is a list of these pairs, within the bounds
 pub record Listed (s : Bytes) (xs : List Pair) : Type 0 where
   pub lines : linesOf s ≡ putPairs xs []
-  pub few : length xs ≤ 64
+  pub few : length xs ≤ bounds .entries
   pub short : length s ≤ 16384
 
 -- the positions in the first field of each pair, or in the second

@@ -12,6 +12,7 @@ use Rattle.algebra.specs.Query.{Pair}
 use Rattle.algebra.specs.Valid.{Valid, mem}
 use Rattle.algebra.specs.Depth.{depth}
 use Rattle.algebra.specs.Layout.{put}
+use Rattle.algebra.specs.Tally.{bounds}
 use Rattle.names.specs.bridge.Names.{listing}
 use Rattle.scoping.specs.Numbering.{byPlace}
 use Rattle.scoping.specs.Premises.{sideName, inside}
@@ -30,15 +31,15 @@ use Rattle.sides.specs.bridge.Listed.{Listed, positionsIn, Kept}
 pub record TreeIn (s : Bytes) (at : ℕ) (a l : List ℕ) (n : ℕ) (v : List (List ℕ)) (p : Pattern) : Type 0 where
   pub lines : linesFrom s at ≡ put p []
   pub valid : Valid p
-  pub deep : depth p ≤ 64
+  pub deep : depth p ≤ bounds .depth
   pub few : length (byPlace p) ≤ 1024
   pub names : listing s a l n ≡ byPlace p
   pub noted : Noted s at (listing s a l n) v (length v)
 
--- a projection of 64 columns at most does, with so many columns, and its inner pattern starts at a place
+-- a projection of no more columns than it may have does, with so many columns, and its inner pattern starts at a place
 pub record Placed (s : Bytes) (at : ℕ) (a l : List ℕ) (n : ℕ) (v : List (List ℕ)) (inner columns : ℕ) (x : Projection) : Type 0 where
   pub stands : TreeIn s at a l n v (tree x)
-  pub narrow : length (x .columns) ≤ 64
+  pub narrow : length (x .columns) ≤ bounds .columns
   pub width : columns ≡ length (x .columns)
   pub high : inner ≤ length s
   pub behind : linesFrom s inner ≡ put (x .inner) []
@@ -62,7 +63,7 @@ newNames prefix second x js = sideName prefix (x .columns) (x .inner) (positions
 pub record Asked (s : Bytes) (at : ℕ) (pairs constants : Bytes) : Type 0 where
   pub projection : Projection
   pub lines : linesFrom s at ≡ put (tree projection) []
-  pub narrow : length (projection .columns) ≤ 64
+  pub narrow : length (projection .columns) ≤ bounds .columns
   pub joins : List Pair
   pub joins-listed : Listed pairs joins
   pub terms : List Pair
@@ -75,7 +76,7 @@ pub record OutlineIs (text : Bytes) (second : Bool) (constants : Bytes) (x : Pro
   pub joined : o .joined ≡ maskAt (positionsIn second js) (length (x .columns))
   pub high : o .inner ≤ length text
   pub inner : linesFrom text (o .inner) ≡ put (x .inner) []
-  pub few : o .joins ≤ 64
+  pub few : o .joins ≤ bounds .entries
   pub positions : take (o .joins) joins ≡ positionsIn second js
   pub kept : Kept constants ks false at lines (o .constants)
 

@@ -1,6 +1,5 @@
 -- `placing::columns/column_at` meets its contract. Assumes nothing.
 use borrow.Author.Needs.{needs}
-use mathlib.Core.Path.{sym}
 use Rattle.placing.proofs.Listed as L
 use Rattle.placing.proofs.columns.column_at.Statement.{statement}
 use Rattle.placing.proofs.columns.column_at.Tie as tie

@@ -6,6 +6,7 @@ use mathlib.Core.List.{_++_}
 use native.Mathlib.Nat.{zero-add}
 use native.Mathlib.Omega.{arith}
 use lib.ListN.{length, length-set}
+use Rattle.algebra.specs.Tally.{bounds}
 use Rattle.cursor.specs.declared.Cursor.{Cursor}
 use Rattle.cursor.specs.bridge.Cursor.{left}
 use Rattle.cursor.proofs.Laws.{line-there, reads-at, reads-none}
@@ -23,7 +24,7 @@ at d = d .at
 -- the columns that were noted and those to come are all
 abbrev Inv-loop : tie.InvT-loop
 Inv-loop tree line columns₀ n₀ c₀ columns n c =
-    (length columns ≡ 64) × (c .end < length tree) × (n + length (left tree (c .at) (c .end)) ≡ length (columnsOn tree line)) × (namesIn tree columns n ++ left tree (c .at) (c .end) ≡ columnsOn tree line)
+    (length columns ≡ bounds .columns) × (c .end < length tree) × (n + length (left tree (c .at) (c .end)) ≡ length (columnsOn tree line)) × (namesIn tree columns n ++ left tree (c .at) (c .end) ≡ columnsOn tree line)
 
 abbrev μ-loop : tie.MeasureT-loop
 μ-loop tree line columns₀ n₀ c₀ columns n c = c .end + 1 - c .at

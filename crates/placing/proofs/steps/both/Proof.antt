@@ -1,5 +1,4 @@
 -- `placing::steps/both` meets its contract. Assumes nothing.
-use borrow.Author.Needs.{needs}
 use Rattle.placing.proofs.Repeated as R
 use Rattle.placing.proofs.steps.both.Statement.{statement}
 use Rattle.placing.proofs.steps.both.Tie as tie

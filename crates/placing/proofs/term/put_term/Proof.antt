@@ -1,6 +1,5 @@
 -- `placing::term/put_term` meets its contract. Assumes nothing.
 use borrow.Author.Needs.{needs}
-use mathlib.Core.Path.{_≡_, refl, sym, ap, _∙_}
 use Rattle.placing.proofs.Written as W
 use Rattle.placing.proofs.term.put_term.Statement.{statement}
 use Rattle.placing.proofs.term.put_term.Tie as tie

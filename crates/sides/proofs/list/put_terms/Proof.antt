@@ -7,6 +7,7 @@ use lib.ListN.{length, getD, take, drop, length-set}
 use mathlib.Core.List.{List}
 use mathlib.Core.Bool.{false}
 use Rattle.algebra.specs.Query.{Pair}
+use Rattle.algebra.specs.Tally.{bounds}
 use Rattle.emit.specs.bridge.Emit.{em, puts}
 use Rattle.walking.specs.bridge.Walk.{tabbed}
 use Rattle.sides.specs.bridge.Listed.{Kept, termsFrom}
@@ -16,11 +17,11 @@ use Rattle.sides.proofs.list.put_terms.Tie as tie
 
 abbrev Inv-loop : tie.InvT-loop
 Inv-loop list at lines m out₀ to next₀ p₀ out next p =
-    (p ≤ 64) × (length out ≡ length out₀) × ((xs : List Pair) → Kept list xs false at lines m → puts (tabbed (termsFrom xs p (64 - p))) (em next out) ≡ puts (tabbed (termsFrom xs 0 64)) (em next₀ out₀))
+    (p ≤ bounds .columns) × (length out ≡ length out₀) × ((xs : List Pair) → Kept list xs false at lines m → puts (tabbed (termsFrom xs p (bounds .columns - p))) (em next out) ≡ puts (tabbed (termsFrom xs 0 (bounds .columns))) (em next₀ out₀))
 
 abbrev μ-loop : tie.MeasureT-loop
 μ-loop list at lines m out₀ to next₀ p₀ out next p =
-    64 - p
+    bounds .columns - p
 
 pub put-terms-spec : {M : Type 1} → statement M
 put-terms-spec =

@@ -6,6 +6,7 @@ use native.Mathlib.Omega.{arith}
 use lib.ListN.{length, getD, take, drop, length-set}
 use mathlib.Core.List.{List}
 use Rattle.algebra.specs.Query.{Pair}
+use Rattle.algebra.specs.Tally.{bounds}
 use Rattle.sides.specs.bridge.Listed.{Listed}
 use Rattle.sides.proofs.Positions.{Going}
 use Rattle.sides.proofs.Positions as Q
@@ -14,7 +15,7 @@ use Rattle.sides.proofs.list.read_positions.Tie as tie
 
 abbrev Inv-loop : tie.InvT-loop
 Inv-loop list second c at₀ lines₀ m₀ from₀ at lines m from =
-    (length at ≡ 64) × (length lines ≡ 64) × ((xs : List Pair) → Listed list xs → Going list xs second c at lines m from)
+    (length at ≡ bounds .entries) × (length lines ≡ bounds .entries) × ((xs : List Pair) → Listed list xs → Going list xs second c at lines m from)
 
 abbrev μ-loop : tie.MeasureT-loop
 μ-loop list second c at₀ lines₀ m₀ from₀ at lines m from =

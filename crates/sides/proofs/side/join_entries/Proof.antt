@@ -4,13 +4,14 @@ use Prim.Native.Nat.{ℕ, _+_, _-_, _≤_, _<_}
 use mathlib.Core.Path.{_≡_}
 use native.Mathlib.Omega.{arith}
 use lib.ListN.{length, getD, length-set}
+use Rattle.algebra.specs.Tally.{bounds}
 use Rattle.sides.proofs.Entries as N
 use Rattle.sides.proofs.side.join_entries.Statement.{statement}
 use Rattle.sides.proofs.side.join_entries.Tie as tie
 
 abbrev Inv-loop : tie.InvT-loop
 Inv-loop spots at m joins₀ i₀ joins i =
-    (length joins ≡ 64) × (i ≤ m) × ((k : ℕ) → k < i → getD joins k 0 ≡ N.entryAt spots (getD at k 0))
+    (length joins ≡ bounds .entries) × (i ≤ m) × ((k : ℕ) → k < i → getD joins k 0 ≡ N.entryAt spots (getD at k 0))
 
 abbrev μ-loop : tie.MeasureT-loop
 μ-loop spots at m joins₀ i₀ joins i =
