@@ -2,9 +2,11 @@
 use crate::judge::judge;
 use crate::values::put_values;
 use algebra::Answer as Check;
+use algebra::COLUMNS;
 use answers::Answer;
 use emit::put_all;
 use heads::copy;
+use names::Columns;
 use names::Entry;
 use names::clear;
 use negating::Outermost;
@@ -26,6 +28,7 @@ ghost use Rattle.algebra.specs.Tree.{Pattern};
 ghost use Rattle.algebra.specs.Query.{BindingSet};
 ghost use Rattle.algebra.specs.Reader.{reads};
 ghost use Rattle.algebra.specs.Texts.{readTree, readSets};
+ghost use Rattle.algebra.specs.Tally.{bounds};
 ghost use Rattle.words.specs.bridge.Words.{Worded};
 ghost use Rattle.names.specs.bridge.Names.{namesIn};
 ghost use Rattle.emit.specs.bridge.Emit.{em, puts};
@@ -40,13 +43,13 @@ fn put_bindings(
     tree: &[u8],
     inner: usize,
     end: usize,
-    columns: &[Entry; 64],
+    columns: &Columns,
     n: usize,
     sets: &[u8],
     joins: usize,
     out: &mut [u8],
 ) -> usize
-    requires { ⌜ (inner ≤ end) × (end ≤ length (now tree)) × (n ≤ 64) × Ended (linesFrom (now sets) 0) ⌝ }
+    requires { ⌜ (inner ≤ end) × (end ≤ length (now tree)) × (n ≤ bounds .columns) × Ended (linesFrom (now sets) 0) ⌝ }
     ensures { λ r. ⌜ em r (now (out .exit)) ≡ puts (boundAt (now (tree .entry)) inner end joins (namesIn (now (tree .entry)) (now (columns .entry)) n) (linesFrom (now (sets .entry)) 0)) (em 0 (now (out .entry))) ⌝ }
 {
     let a = put_all(out, 0, &tree[..inner]);
@@ -61,13 +64,13 @@ fn has_room(
     tree: &[u8],
     inner: usize,
     end: usize,
-    columns: &[Entry; 64],
+    columns: &Columns,
     n: usize,
     sets: &[u8],
     joins: usize,
     room: usize,
 ) -> bool
-    requires { ⌜ (inner ≤ end) × (end ≤ length (now tree)) × (n ≤ 64) × Ended (linesFrom (now sets) 0) × (length (now tree) ≤ 16384) × (length (now sets) ≤ 16384) ⌝ }
+    requires { ⌜ (inner ≤ end) × (end ≤ length (now tree)) × (n ≤ bounds .columns) × Ended (linesFrom (now sets) 0) × (length (now tree) ≤ 16384) × (length (now sets) ≤ 16384) ⌝ }
     ensures { λ r. ⌜ Holds (length (now (tree .entry)) + 65 * length (now (sets .entry))) (length (boundAt (now (tree .entry)) inner end joins (namesIn (now (tree .entry)) (now (columns .entry)) n) (linesFrom (now (sets .entry)) 0))) room r ⌝ }
 {
     if tree.len() + 65 * sets.len() <= room {
@@ -86,7 +89,7 @@ fn bindings_of(tree: &[u8], sets: &[u8], words: &[WordRow; 56], out: &mut [u8]) 
     let Outermost::At(line, inner) = outermost_projection(tree, 0) else {
         return copy(tree, out);
     };
-    let mut columns = [[0u16; 2]; 64];
+    let mut columns = [[0u16; 2]; COLUMNS];
     let n = read_columns(tree, line, &mut columns);
     let judged = judge(sets, n);
     if !judged.inside {

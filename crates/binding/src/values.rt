@@ -2,7 +2,7 @@
 use cursor::Cursor;
 use emit::put;
 use emit::put_all;
-use names::Entry;
+use names::Columns;
 use placing::columns::column_at;
 use placing::field::field_at;
 use placing::field::position_of;
@@ -16,6 +16,7 @@ ghost use mathlib.Core.List.{[], _∷_, map};
 ghost use lib.ListN.{length};
 ghost use Rattle.text.specs.Text.{part, split, ended, textOf, linesFrom};
 ghost use Rattle.text.proofs.Texts.{Ended};
+ghost use Rattle.algebra.specs.Tally.{bounds};
 ghost use Rattle.cursor.specs.bridge.Cursor.{left};
 ghost use Rattle.emit.specs.bridge.Emit.{em, puts};
 ghost use Rattle.walking.specs.bridge.Walk.{tabbed};
@@ -32,7 +33,7 @@ const ROW: [u8; 3] = *b"row";
 // The columns at the positions from here to the line's end, each after a tab.
 fn put_bound(
     tree: &[u8],
-    columns: &[Entry; 64],
+    columns: &Columns,
     n: usize,
     sets: &[u8],
     from: usize,
@@ -40,7 +41,7 @@ fn put_bound(
     out: &mut [u8],
     at: usize,
 ) -> usize
-    requires { ⌜ (n ≤ 64) × (end < length (now sets)) × (from ≤ end + 1) ⌝ }
+    requires { ⌜ (n ≤ bounds .columns) × (end < length (now sets)) × (from ≤ end + 1) ⌝ }
     ensures { λ r. ⌜ em r (now (out .exit)) ≡ puts (tabbed (boundFrom (namesIn (now (tree .entry)) (now (columns .entry)) n) (left (now (sets .entry)) from end))) (em at (now (out .entry))) ⌝ }
 {
     let mut to = at;
@@ -85,7 +86,7 @@ fn put_cells(sets: &[u8], from: usize, end: usize, out: &mut [u8], at: usize) ->
 // The line that the line of the sets from here to its end becomes, without its end.
 fn put_fields(
     tree: &[u8],
-    columns: &[Entry; 64],
+    columns: &Columns,
     n: usize,
     sets: &[u8],
     from: usize,
@@ -93,7 +94,7 @@ fn put_fields(
     out: &mut [u8],
     at: usize,
 ) -> usize
-    requires { ⌜ (n ≤ 64) × (from ≤ end) × (end < length (now sets)) ⌝ }
+    requires { ⌜ (n ≤ bounds .columns) × (from ≤ end) × (end < length (now sets)) ⌝ }
     ensures { λ r. ⌜ puts (10 ∷ []) (em r (now (out .exit))) ≡ puts (ended (valuesLine (namesIn (now (tree .entry)) (now (columns .entry)) n) (split 9 (part from end (now (sets .entry))))) []) (em at (now (out .entry))) ⌝ }
 {
     let w = word_at(sets, from, end);
@@ -118,13 +119,13 @@ fn put_fields(
 // The lines of the Values of all sets.
 pub fn put_values(
     tree: &[u8],
-    columns: &[Entry; 64],
+    columns: &Columns,
     n: usize,
     sets: &[u8],
     out: &mut [u8],
     at: usize,
 ) -> usize
-    requires { ⌜ (n ≤ 64) × Ended (linesFrom (now sets) 0) ⌝ }
+    requires { ⌜ (n ≤ bounds .columns) × Ended (linesFrom (now sets) 0) ⌝ }
     ensures { λ r. ⌜ em r (now (out .exit)) ≡ puts (textOf (map (valuesLine (namesIn (now (tree .entry)) (now (columns .entry)) n)) (linesFrom (now (sets .entry)) 0))) (em at (now (out .entry))) ⌝ }
 {
     let mut to = at;

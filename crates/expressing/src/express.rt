@@ -1,6 +1,6 @@
 // From a filter to an expression: a filter calls itself on its parts, the lines left falling.
 use cursor::Cursor;
-use names::Entry;
+use names::Columns;
 use operators::head::parts_below;
 use operators::head::put_head;
 use placing::steps::both;
@@ -8,6 +8,7 @@ use words::table::WordRow;
 use words::word_at;
 ghost use Prim.Native.Nat.{_≤_};
 ghost use Rattle.text.specs.Text.{linesFrom};
+ghost use Rattle.algebra.specs.Tally.{bounds};
 ghost use Rattle.reader.specs.bridge.Lines.{LineEnd};
 ghost use Rattle.words.specs.bridge.Words.{Worded};
 ghost use Rattle.emit.specs.bridge.Emit.{em};
@@ -36,7 +37,7 @@ fn line_from(filters: &[u8], from: usize) -> Cursor
 // try_expression_from_tree: the filter that starts here, of which at most so many lines are left.
 pub fn tree_to_expression(
     tree: &[u8],
-    columns: &[Entry; 64],
+    columns: &Columns,
     n: usize,
     filters: &[u8],
     words: &[WordRow; 56],
@@ -45,7 +46,7 @@ pub fn tree_to_expression(
     out: &mut [u8],
     at: usize,
 ) -> Walked
-    requires { ⌜ (n ≤ 64) × Worded (now words) ⌝ }
+    requires { ⌜ (n ≤ bounds .columns) × Worded (now words) ⌝ }
     ensures { λ r. ⌜ Walks (now (filters .entry)) (treeToExpression (namesIn (now (tree .entry)) (now (columns .entry)) n) left (linesFrom (now (filters .entry)) from)) (em at (now (out .entry))) (em (r .at) (now (out .exit))) r ⌝ }
 {
     if left == 0 {

@@ -3,10 +3,12 @@ use crate::place::lines_in;
 use crate::place::measure_filters;
 use crate::place::put_expressions;
 use algebra::Answer as Check;
+use algebra::COLUMNS;
 use answers::Answer;
 use cursor::Cursor;
 use emit::put_all;
 use heads::copy;
+use names::Columns;
 use names::Entry;
 use names::clear;
 use negating::Outermost;
@@ -32,6 +34,7 @@ ghost use Rattle.algebra.specs.Tree.{Pattern};
 ghost use Rattle.algebra.specs.Query.{Filter};
 ghost use Rattle.algebra.specs.Reader.{reads};
 ghost use Rattle.algebra.specs.Texts.{readTree, readFilters};
+ghost use Rattle.algebra.specs.Tally.{bounds};
 ghost use Rattle.words.specs.bridge.Words.{Worded};
 ghost use Rattle.names.specs.bridge.Names.{namesIn};
 ghost use Rattle.emit.specs.bridge.Emit.{em, last, puts};
@@ -84,7 +87,7 @@ fn put_filtered(
     tree: &[u8],
     inner: usize,
     end: usize,
-    columns: &[Entry; 64],
+    columns: &Columns,
     n: usize,
     filters: &[u8],
     words: &[WordRow; 56],
@@ -93,7 +96,7 @@ fn put_filtered(
     all: bool,
     out: &mut [u8],
 ) -> usize
-    requires { ⌜ (inner ≤ end) × (end ≤ length (now tree)) × (n ≤ 64) × (all ≡ true → allPlaced (namesIn (now tree) (now columns) n) lines (linesFrom (now filters) 0) ≡ true) × Worded (now words) ⌝ }
+    requires { ⌜ (inner ≤ end) × (end ≤ length (now tree)) × (n ≤ bounds .columns) × (all ≡ true → allPlaced (namesIn (now tree) (now columns) n) lines (linesFrom (now filters) 0) ≡ true) × Worded (now words) ⌝ }
     ensures { λ r. ⌜ em r (now (out .exit)) ≡ puts (filteredAt (now (tree .entry)) inner end ands (placedFilters (namesIn (now (tree .entry)) (now (columns .entry)) n) lines (linesFrom (now (filters .entry)) 0) .lines)) (em 0 (now (out .entry))) ⌝ }
 {
     let a = put_all(out, 0, &tree[..inner]);
@@ -124,7 +127,7 @@ fn filters_of(tree: &[u8], filters: &[u8], words: &[WordRow; 56], out: &mut [u8]
     let Outermost::At(line, inner) = outermost_projection(tree, 0) else {
         return copy(tree, out);
     };
-    let mut columns = [[0u16; 2]; 64];
+    let mut columns = [[0u16; 2]; COLUMNS];
     let n = read_columns(tree, line, &mut columns);
     if !are_inside(filters, n) {
         return Answer::Outside;

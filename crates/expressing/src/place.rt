@@ -2,7 +2,7 @@
 use crate::express::Walked;
 use crate::express::tree_to_expression;
 use cursor::Cursor;
-use names::Entry;
+use names::Columns;
 use operators::head::is_constant_true;
 use placing::steps::both;
 use words::table::WordRow;
@@ -12,6 +12,7 @@ ghost use mathlib.Core.Bool.{cond, true};
 ghost use mathlib.Core.List.{[]};
 ghost use lib.ListN.{length};
 ghost use Rattle.text.specs.Text.{textOf, linesFrom};
+ghost use Rattle.algebra.specs.Tally.{bounds};
 ghost use Rattle.words.specs.bridge.Words.{Worded};
 ghost use Rattle.emit.specs.bridge.Emit.{em, puts};
 ghost use Rattle.names.specs.bridge.Names.{namesIn};
@@ -34,7 +35,7 @@ pub fn lines_in(text: &[u8]) -> usize
 // A filter, and nothing written.
 fn try_filter(
     tree: &[u8],
-    columns: &[Entry; 64],
+    columns: &Columns,
     n: usize,
     filters: &[u8],
     words: &[WordRow; 56],
@@ -42,7 +43,7 @@ fn try_filter(
     left: usize,
     at: usize,
 ) -> Walked
-    requires { ⌜ (n ≤ 64) × Worded (now words) ⌝ }
+    requires { ⌜ (n ≤ bounds .columns) × Worded (now words) ⌝ }
     ensures { λ r. ⌜ Walks (now (filters .entry)) (treeToExpression (namesIn (now (tree .entry)) (now (columns .entry)) n) left (linesFrom (now (filters .entry)) from)) (em at []) (em (r .at) []) r ⌝ }
 {
     let mut none = [0u8; 0];
@@ -53,7 +54,7 @@ fn try_filter(
 fn put_placed(
     placed: bool,
     tree: &[u8],
-    columns: &[Entry; 64],
+    columns: &Columns,
     n: usize,
     filters: &[u8],
     words: &[WordRow; 56],
@@ -62,7 +63,7 @@ fn put_placed(
     out: &mut [u8],
     at: usize,
 ) -> usize
-    requires { ⌜ (n ≤ 64) × Worded (now words) ⌝ }
+    requires { ⌜ (n ≤ bounds .columns) × Worded (now words) ⌝ }
     ensures { λ r. ⌜ em r (now (out .exit)) ≡ cond placed (puts (textOf (treeToExpression (namesIn (now (tree .entry)) (now (columns .entry)) n) left (linesFrom (now (filters .entry)) from) .lines)) (em at (now (out .entry)))) (em at (now (out .entry))) ⌝ }
 {
     if !placed {
@@ -85,7 +86,7 @@ fn one_more(many: usize, placed: bool) -> usize
 // All filters, one after the other; so many lines are left.
 fn put_filters(
     tree: &[u8],
-    columns: &[Entry; 64],
+    columns: &Columns,
     n: usize,
     filters: &[u8],
     words: &[WordRow; 56],
@@ -93,7 +94,7 @@ fn put_filters(
     out: &mut [u8],
     at: usize,
 ) -> usize
-    requires { ⌜ (n ≤ 64) × Worded (now words) ⌝ }
+    requires { ⌜ (n ≤ bounds .columns) × Worded (now words) ⌝ }
     ensures { λ r. ⌜ em r (now (out .exit)) ≡ puts (textOf (placedFilters (namesIn (now (tree .entry)) (now (columns .entry)) n) lines (linesFrom (now (filters .entry)) 0) .lines)) (em at (now (out .entry))) ⌝ }
 {
     let mut to = at;
@@ -146,13 +147,13 @@ fn placed_end(placed: bool, end: usize, at: usize) -> usize
 // All filters, and nothing written; so many lines are left.
 pub fn measure_filters(
     tree: &[u8],
-    columns: &[Entry; 64],
+    columns: &Columns,
     n: usize,
     filters: &[u8],
     words: &[WordRow; 56],
     lines: usize,
 ) -> Measured
-    requires { ⌜ (n ≤ 64) × Worded (now words) ⌝ }
+    requires { ⌜ (n ≤ bounds .columns) × Worded (now words) ⌝ }
     ensures { λ r. ⌜ Measures (namesIn (now (tree .entry)) (now (columns .entry)) n) (now (filters .entry)) lines r ⌝ }
 {
     let mut many = 0;
@@ -186,7 +187,7 @@ pub fn measure_filters(
 // The expressions of all filters, each of which is placed; so many lines are left.
 fn put_every(
     tree: &[u8],
-    columns: &[Entry; 64],
+    columns: &Columns,
     n: usize,
     filters: &[u8],
     words: &[WordRow; 56],
@@ -194,7 +195,7 @@ fn put_every(
     out: &mut [u8],
     at: usize,
 ) -> usize
-    requires { ⌜ (n ≤ 64) × (allPlaced (namesIn (now tree) (now columns) n) lines (linesFrom (now filters) 0) ≡ true) × Worded (now words) ⌝ }
+    requires { ⌜ (n ≤ bounds .columns) × (allPlaced (namesIn (now tree) (now columns) n) lines (linesFrom (now filters) 0) ≡ true) × Worded (now words) ⌝ }
     ensures { λ r. ⌜ em r (now (out .exit)) ≡ puts (textOf (placedFilters (namesIn (now (tree .entry)) (now (columns .entry)) n) lines (linesFrom (now (filters .entry)) 0) .lines)) (em at (now (out .entry))) ⌝ }
 {
     let mut to = at;
@@ -216,7 +217,7 @@ fn put_every(
 pub fn put_expressions(
     all: bool,
     tree: &[u8],
-    columns: &[Entry; 64],
+    columns: &Columns,
     n: usize,
     filters: &[u8],
     words: &[WordRow; 56],
@@ -224,7 +225,7 @@ pub fn put_expressions(
     out: &mut [u8],
     at: usize,
 ) -> usize
-    requires { ⌜ (n ≤ 64) × (all ≡ true → allPlaced (namesIn (now tree) (now columns) n) lines (linesFrom (now filters) 0) ≡ true) × Worded (now words) ⌝ }
+    requires { ⌜ (n ≤ bounds .columns) × (all ≡ true → allPlaced (namesIn (now tree) (now columns) n) lines (linesFrom (now filters) 0) ≡ true) × Worded (now words) ⌝ }
     ensures { λ r. ⌜ em r (now (out .exit)) ≡ puts (textOf (placedFilters (namesIn (now (tree .entry)) (now (columns .entry)) n) lines (linesFrom (now (filters .entry)) 0) .lines)) (em at (now (out .entry))) ⌝ }
 {
     if all {

@@ -1,7 +1,7 @@
 // One line of a filter: the lines that it becomes, and how many parts stand below it.
 use emit::put;
 use emit::put_all;
-use names::Entry;
+use names::Columns;
 use placing::columns::column_at;
 use placing::ends::lines_asked;
 use placing::field::field_at;
@@ -22,6 +22,7 @@ ghost use mathlib.Core.Option.{some};
 ghost use lib.ListN.{length, getD};
 ghost use Rattle.text.specs.Text.{Bytes, part, split};
 ghost use Rattle.text.specs.Word.{bytes};
+ghost use Rattle.algebra.specs.Tally.{bounds};
 ghost use Rattle.cursor.specs.bridge.Cursor.{left};
 ghost use Rattle.words.specs.bridge.Key.{Keyed};
 ghost use Rattle.words.specs.bridge.Words.{Worded};
@@ -105,7 +106,7 @@ fn put_leaf(filters: &[u8], from: usize, end: usize, out: &mut [u8], at: usize) 
 // A reference: the column at its position.
 fn put_ref(
     tree: &[u8],
-    columns: &[Entry; 64],
+    columns: &Columns,
     n: usize,
     filters: &[u8],
     from: usize,
@@ -113,7 +114,7 @@ fn put_ref(
     out: &mut [u8],
     at: usize,
 ) -> Head
-    requires { ⌜ (n ≤ 64) × (end < length (now filters)) × (from ≤ end + 1) ⌝ }
+    requires { ⌜ (n ≤ bounds .columns) × (end < length (now filters)) × (from ≤ end + 1) ⌝ }
     ensures { λ r. ⌜ Heads (some ((bytes "term" ∷ getD (namesIn (now (tree .entry)) (now (columns .entry)) n) (position (getD (left (now (filters .entry)) from end) 0 [])) [] ∷ []) ∷ [])) (em at (now (out .entry))) (em (r .at) (now (out .exit))) (r .expressed) ⌝ }
 {
     let field = field_at(filters, from, end);
@@ -182,7 +183,7 @@ fn put_binary(name: &[u8], out: &mut [u8], at: usize) -> Head
 // The lines that a line becomes whose word has this key and whose other fields stand from `first` to its end; its parts' follow.
 pub fn put_head(
     tree: &[u8],
-    columns: &[Entry; 64],
+    columns: &Columns,
     n: usize,
     filters: &[u8],
     key: u64,
@@ -191,7 +192,7 @@ pub fn put_head(
     out: &mut [u8],
     at: usize,
 ) -> Head
-    requires { ⌜ (n ≤ 64) × (end < length (now filters)) × (first ≤ end + 1) ⌝ }
+    requires { ⌜ (n ≤ bounds .columns) × (end < length (now filters)) × (first ≤ end + 1) ⌝ }
     ensures { λ r. ⌜ ((f : Bytes) → Keyed f key → Heads (expressionLines (namesIn (now (tree .entry)) (now (columns .entry)) n) (f ∷ left (now (filters .entry)) first end)) (em at (now (out .entry))) (em (r .at) (now (out .exit))) (r .expressed)) ⌝ }
 {
     match key {

@@ -49,8 +49,8 @@ use Rattle.projects.proofs.Picks.{positions-are}
 
 -- ---- trees
 
--- a project within the bounds has 64 columns at most
-narrow-in : (m : Tally) (x : Projection) → In bounds (tally (tree x) m) → length (x .columns) ≤ 64
+-- a project within the bounds has so many columns at most
+narrow-in : (m : Tally) (x : Projection) → In bounds (tally (tree x) m) → length (x .columns) ≤ bounds .columns
 unfolding tally headed
 narrow-in m x h = let c = counts bounds (headed (x .columns) m) (grow bounds (x .inner) (headed (x .columns) m) h) .wide in omega arith
 
@@ -128,7 +128,7 @@ shaped-taken words b a m k h x =
     let d : length (take k a) ≡ k = taken-long a k h in
     record {
       few = le-refl (length (take m b));
-      whole = ap (skip 64 patterns) (ap (nodesOf words (take m b)) e ∙ nodes-taken words b m m (le-refl m)) ∙ x .whole;
+      whole = ap (skip (bounds .depth) patterns) (ap (nodesOf words (take m b)) e ∙ nodes-taken words b m m (le-refl m)) ∙ x .whole;
       none = λ z. d ∙ x .none (sym e ∙ z);
     }
 

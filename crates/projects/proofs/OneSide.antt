@@ -9,6 +9,7 @@ use lib.Count.{ones}
 use Rattle.text.specs.Text.{Bytes, linesFrom}
 use Rattle.algebra.specs.Query.{Pair}
 use Rattle.algebra.specs.Layout.{put}
+use Rattle.algebra.specs.Tally.{bounds}
 use Rattle.scoping.specs.Premises.{inside}
 use Rattle.merging.specs.Request.{Projection, tree}
 use Rattle.descending.specs.bridge.Renamed.{Renamed}
@@ -45,7 +46,7 @@ module _ (text : Bytes) (from : ℕ) (second : Bool) (pairs constants : Bytes) (
     unfolding FindingIs
     found = subst (FindingIs text second constants x js ks joins at lines) told it-is
 
-    pub outlined : length joins ≡ 64 → length at ≡ 64 → Outlined text from starts sizes n spots second constants joins at lines o x js ks
+    pub outlined : length joins ≡ bounds .entries → length at ≡ bounds .entries → Outlined text from starts sizes n spots second constants joins at lines o x js ks
     outlined joins-long long = record { stands = stands; terms = terms; joins-inside = found .0; terms-inside = found .1; joins-long = joins-long; long = long; is = found .2 }
 
 -- ---- a side that was found
@@ -53,13 +54,13 @@ module _ (text : Bytes) (from : ℕ) (second : Bool) (pairs constants : Bytes) (
 module _ (text : Bytes) (from : ℕ) (starts sizes : List ℕ) (n : ℕ) (spots : List (List ℕ)) (second : Bool) (constants : Bytes) (joins at lines : List ℕ) (o : Outline) (x : Projection) (js ks : List Pair)
     (d : Outlined text from starts sizes n spots second constants joins at lines o x js ks) where
   -- what name_found asks for
-  pub name-needs : (second : Bool) × (constants : Bytes) × (x : Projection) × (js : List Pair) × (ks : List Pair) × (at : List ℕ) × (lines : List ℕ) × TreeIn text from starts sizes n spots (tree x) × (length (x .columns) ≤ 64)
+  pub name-needs : (second : Bool) × (constants : Bytes) × (x : Projection) × (js : List Pair) × (ks : List Pair) × (at : List ℕ) × (lines : List ℕ) × TreeIn text from starts sizes n spots (tree x) × (length (x .columns) ≤ bounds .columns)
       × (inside (x .columns) (positionsIn second js) ≡ true) × OutlineIs text second constants x js ks joins at lines o
   name-needs = (second, constants, x, js, ks, at, lines, d .stands .tree-in, d .stands .narrow x refl, d .joins-inside, d .is)
 
   -- what it gives, the variables renamed
   pub sided : (prefix : ℕ) (pool targets spans line : List ℕ) (s : Side) (marked : List (List ℕ)) → Renamed spans spots 0 marked (length spots)
-      → ((second : Bool) (constants : Bytes) (x : Projection) (js ks : List Pair) (at lines : List ℕ) → TreeIn text from starts sizes n spots (tree x) → length (x .columns) ≤ 64 → inside (x .columns) (positionsIn second js) ≡ true
+      → ((second : Bool) (constants : Bytes) (x : Projection) (js ks : List Pair) (at lines : List ℕ) → TreeIn text from starts sizes n spots (tree x) → length (x .columns) ≤ bounds .columns → inside (x .columns) (positionsIn second js) ≡ true
       → OutlineIs text second constants x js ks joins at lines o → SideIs text starts sizes n prefix second constants x js ks pool targets spans line at lines s)
       → Sided text from starts sizes n marked prefix second constants pool targets spans line at lines s x js ks
   sided prefix pool targets spans line s marked renamed said = record {
@@ -81,7 +82,7 @@ module _ (text : Bytes) (from : ℕ) (starts sizes : List ℕ) (n : ℕ) (spots 
   placed = record { stands = d .stands .tree-in; narrow = d .stands .narrow x refl; width = d .is .width; high = d .is .high; behind = d .is .inner }
 
   -- what its line of columns asks for
-  pub line-needs : (s .end ≤ length line) × (length (columnsIn line (s .end)) ≤ 64)
+  pub line-needs : (s .end ≤ length line) × (length (columnsIn line (s .end)) ≤ bounds .columns)
   line-needs = (d .is .end, columns-few text starts sizes n prefix second constants x js ks pool targets spans line at lines s (d .is) (d .stands .narrow x refl))
 
   -- what put_head does
@@ -93,7 +94,7 @@ module _ (text : Bytes) (from : ℕ) (starts sizes : List ℕ) (n : ℕ) (spots 
   )
 
   -- what put_side does
-  pub side-needs : ((from : ℕ) × (x : Projection) × (v : List (List ℕ)) × Placed text from starts sizes n v (s .inner) (s .columns) x × Renamed spans v 0 spots (length v)) × (s .constants ≤ 64) × (length at ≡ 64) × (s .end ≤ length line) × (ones (s .constant) ≡ length (picked 1 (s .constant) (columnsIn line (s .end))))
+  pub side-needs : ((from : ℕ) × (x : Projection) × (v : List (List ℕ)) × Placed text from starts sizes n v (s .inner) (s .columns) x × Renamed spans v 0 spots (length v)) × (s .constants ≤ bounds .entries) × (length at ≡ bounds .entries) × (s .end ≤ length line) × (ones (s .constant) ≡ length (picked 1 (s .constant) (columnsIn line (s .end))))
   side-needs = (
     (from, x, d .noted, placed, d .renamed),
     (let m = d .is .kept .many in let f = d .terms .listed .few in omega arith),

@@ -13,6 +13,7 @@ use Rattle.text.specs.Text.{Bytes, same}
 use Rattle.text.proofs.Basics.{and-left, and-right, same-eq, same-refl}
 use Rattle.algebra.specs.Query as Query
 use Rattle.algebra.specs.Valid.{mem}
+use Rattle.algebra.specs.Tally.{bounds}
 use Rattle.scoping.specs.Sets.{all, any, keep}
 use Rattle.scoping.specs.Premises.{differentPositions}
 use Rattle.merging.specs.Sides.{Constant, columnAt, constantColumns, constantTerms, withoutConstants}
@@ -166,11 +167,11 @@ below-more (p ∷ ps) a b h e =
     let l = ltb-true p a (and-left (ltb p a) (all (λ i. ltb i a) ps) e) in
     ap₂ _&&_ (lt-ltb p b (omega arith)) (below-more ps a b h (and-right (ltb p a) (all (λ i. ltb i a) ps) e))
 
-pub constant-terms : (xs : List Query.Pair) → differentPositions (positionsIn false xs) ≡ true → (n : ℕ) → n ≤ 64 → all (λ i. ltb i n) (positionsIn false xs) ≡ true → termsFrom xs 0 64 ≡ constantTerms (byPosition (constantsIn xs))
+pub constant-terms : (xs : List Query.Pair) → differentPositions (positionsIn false xs) ≡ true → (n : ℕ) → n ≤ bounds .columns → all (λ i. ltb i n) (positionsIn false xs) ≡ true → termsFrom xs 0 (bounds .columns) ≡ constantTerms (byPosition (constantsIn xs))
 constant-terms xs d n l h =
-    terms-at xs 64 0
-    ∙ go (keep (λ i. isAt i (positionsIn false xs)) (from 0 64))
-    ∙ ap constantTerms (sym (rises xs d 64 (below-more (positionsIn false xs) n 64 l h)))
+    terms-at xs (bounds .columns) 0
+    ∙ go (keep (λ i. isAt i (positionsIn false xs)) (from 0 (bounds .columns)))
+    ∙ ap constantTerms (sym (rises xs d (bounds .columns) (below-more (positionsIn false xs) n (bounds .columns) l h)))
   where
     go : (is : List ℕ) → map (λ i. termAt i (constantsIn xs)) is ≡ constantTerms (map (constantAt (constantsIn xs)) is)
     go [] = refl

@@ -12,6 +12,7 @@ use Rattle.text.specs.Word.{bytes}
 use Rattle.text.specs.Field.{decimal}
 use Rattle.algebra.specs.Query.{Pair}
 use Rattle.algebra.specs.Layout.{put}
+use Rattle.algebra.specs.Tally.{bounds}
 use Rattle.scoping.specs.Sets.{all}
 use Rattle.scoping.specs.Premises.{inside, differentPositions}
 use Rattle.scoping.specs.Rename.{renameInGraphPattern}
@@ -57,7 +58,7 @@ module _ (text : Bytes) (starts sizes : List ℕ) (n prefix : ℕ) (second : Boo
   unfolding freeColumns
   side-free = ap₂ (picked 0) constant-is (is .columns) ∙ free-columns ks ds
 
-  module _ (narrow : length (x .columns) ≤ 64) (different : differentPositions (positionsIn false ks) ≡ true) (low : inside (x .columns) (positionsIn false ks) ≡ true) where
+  module _ (narrow : length (x .columns) ≤ bounds .columns) (different : differentPositions (positionsIn false ks) ≡ true) (low : inside (x .columns) (positionsIn false ks) ≡ true) where
     below : all (λ i. ltb i (length ds)) (positionsIn false ks) ≡ true
     unfolding inside
     below = ap (λ (k : ℕ). all (λ i. ltb i k) (positionsIn false ks)) long ∙ low
@@ -65,7 +66,7 @@ module _ (text : Bytes) (starts sizes : List ℕ) (n prefix : ℕ) (second : Boo
     columns-are : picked 1 (s .constant) (columnsIn line (s .end)) ≡ constantColumns ds (byPosition (constantsIn ks))
     columns-are = ap₂ (picked 1) constant-is (is .columns) ∙ constant-columns ks different ds below
 
-    terms-are : termsFrom ks 0 64 ≡ constantTerms (byPosition (constantsIn ks))
+    terms-are : termsFrom ks 0 (bounds .columns) ≡ constantTerms (byPosition (constantsIn ks))
     terms-are = constant-terms ks different (length ds) (let d = long in omega arith) below
 
     many : s .constants ≡ length (byPosition (constantsIn ks))
@@ -76,7 +77,7 @@ module _ (text : Bytes) (starts sizes : List ℕ) (n prefix : ℕ) (second : Boo
         go (y ∷ ys) = ap suc (go ys)
 
     -- the lines of the renamed pattern, constants bound
-    pub side-is : (t : List Line) → joinLine (s .constants) (put (renameInGraphPattern (newNames prefix second x js) (x .inner)) (valuesLines (s .constants) (ones (s .constant)) (picked 1 (s .constant) (columnsIn line (s .end))) (termsFrom ks 0 64) t))
+    pub side-is : (t : List Line) → joinLine (s .constants) (put (renameInGraphPattern (newNames prefix second x js) (x .inner)) (valuesLines (s .constants) (ones (s .constant)) (picked 1 (s .constant) (columnsIn line (s .end))) (termsFrom ks 0 (bounds .columns)) t))
         ≡ put (renamedPattern side) t
     side-is t =
         (λ i. joinLine (many i) (put (renameInGraphPattern (newNames prefix second x js) (x .inner)) (valuesLines (many i) (ones (s .constant)) (columns-are i) (terms-are i) t)))

@@ -21,6 +21,7 @@ use Rattle.sides.specs.bridge.Side.{newNames, SideIs}
 use Rattle.text.specs.Text.{split, linesIn, linesOf}
 use native.Mathlib.Omega.{arith}
 use Rattle.algebra.specs.Layout.{putPairs}
+use Rattle.algebra.specs.Tally.{bounds}
 use Rattle.answers.specs.Outcome.{written, Reported, Answered}
 use Rattle.answers.specs.declared.Answer.the-variants.{Outside as AnswerOutside}
 use Rattle.text.specs.Field.{clean}
@@ -113,7 +114,7 @@ letters = (refl, refl, refl)
 pub lists-are : (pairs a b : Bytes) (r : ListsRead pairs a b) → Lists pairs a b (r .js) (r .left .list) (r .right .list)
 lists-are pairs a b r = record { joins = r .joins; left-terms = r .left .terms; right-terms = r .right .terms }
 
--- a side's line has 64 columns at most
+-- a side's line has no more columns than a project may
 pub columns-few : (text : Bytes) (starts sizes : List ℕ) (n prefix : ℕ) (second : Bool) (constants : Bytes) (x : Projection) (js ks : List Pair) (pool targets spans line at lines : List ℕ) (s : Side)
-    → SideIs text starts sizes n prefix second constants x js ks pool targets spans line at lines s → length (x .columns) ≤ 64 → length (columnsIn line (s .end)) ≤ 64
+    → SideIs text starts sizes n prefix second constants x js ks pool targets spans line at lines s → length (x .columns) ≤ bounds .columns → length (columnsIn line (s .end)) ≤ bounds .columns
 columns-few text starts sizes n prefix second constants x js ks pool targets spans line at lines s is h = let e = ap length (is .columns) ∙ map-length (newNames prefix second x js) (x .columns) in omega arith

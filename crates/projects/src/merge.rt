@@ -3,6 +3,7 @@ use crate::one::FoundSide;
 use crate::one::NamedSide;
 use crate::one::name_one;
 use crate::one::put_one;
+use algebra::ENTRIES;
 use answers::Answer;
 use emit::put_all;
 use lines::fields::Node;
@@ -28,6 +29,7 @@ ghost use Rattle.text.specs.Word.{bytes};
 ghost use Rattle.emit.specs.bridge.Emit.{em, puts};
 ghost use Rattle.algebra.specs.Query.{Pair};
 ghost use Rattle.algebra.specs.Layout.{layout};
+ghost use Rattle.algebra.specs.Tally.{bounds};
 ghost use Rattle.answers.specs.Outcome.{Answered};
 ghost use Rattle.scoping.specs.Label.{prefixL, prefixR};
 ghost use Rattle.merging.specs.Request.{Projection, tree};
@@ -61,7 +63,7 @@ struct NamedPair {
 
 // The right columns that go: those with a constant, and those whose new names are joined columns' on the left.
 fn gone_of(lines: &[[u8; 8336]; 2], l: Side, r: Side) -> u64
-    requires { ⌜ (r .end ≤ length (getD (now lines) 1 [])) × (length (columnsIn (getD (now lines) 1 []) (r .end)) ≤ 64) × (l .end ≤ length (getD (now lines) 0 [])) ⌝ }
+    requires { ⌜ (r .end ≤ length (getD (now lines) 1 [])) × (length (columnsIn (getD (now lines) 1 []) (r .end)) ≤ bounds .columns) × (l .end ≤ length (getD (now lines) 0 [])) ⌝ }
     ensures { λ gone. ⌜ gone ≡ goneMask (getD (now (lines .entry)) 0 []) l (getD (now (lines .entry)) 1 []) r ⌝ }
 {
     joined_mask(&lines[1], r.end, r.constant, &lines[0], l.end, l.joined)
@@ -283,9 +285,9 @@ pub fn merge_projects(
     requires { ⌜ ((x : Projection) × StandsAt 0 (now left) (texts .left) (now tables) (now «left_spots») (tree x)) × ((y : Projection) × StandsAt 1 (now right) (texts .right) (now tables) (now «right_spots») (tree y)) × ListsRead (now pairs) (now «left_constants») (now «right_constants») × Worded (now words) × Shaped (now words) (now «left_nodes») (length (now «left_nodes»)) (length (now «left_spots»)) × Shaped (now words) (now «right_nodes») (length (now «right_nodes»)) (length (now «right_spots»)) ⌝ }
     ensures { λ r. ⌜ ((x y : Projection) (js ks ls : List Pair) → StandsAt 0 (now (left .entry)) (texts .left) (now (tables .entry)) (now («left_spots» .entry)) (tree x) → StandsAt 1 (now (right .entry)) (texts .right) (now (tables .entry)) (now («right_spots» .entry)) (tree y) → Lists (now (pairs .entry)) (now («left_constants» .entry)) (now («right_constants» .entry)) js ks ls → Answered (joinedBehind (now (head .entry)) x y js ks ls) (now (out .entry)) (now (out .exit)) r) ⌝ }
 {
-    let mut joins = [0u16; 64];
-    let mut at = [0u16; 64];
-    let mut starts = [0u16; 64];
+    let mut joins = [0u16; ENTRIES];
+    let mut at = [0u16; ENTRIES];
+    let mut starts = [0u16; ENTRIES];
     let Finding::Found(l) = find_side(
         left,
         texts.left.from,
@@ -305,9 +307,9 @@ pub fn merge_projects(
         outline: l,
         places,
     };
-    let mut joins = [0u16; 64];
-    let mut at = [0u16; 64];
-    let mut starts = [0u16; 64];
+    let mut joins = [0u16; ENTRIES];
+    let mut at = [0u16; ENTRIES];
+    let mut starts = [0u16; ENTRIES];
     let Finding::Found(r) = find_side(
         right,
         texts.right.from,

@@ -17,6 +17,7 @@ ghost use lib.ListN.{length, getD};
 ghost use lib.Count.{ones};
 ghost use Rattle.text.specs.Text.{Bytes};
 ghost use Rattle.algebra.specs.Query.{Pair};
+ghost use Rattle.algebra.specs.Tally.{bounds};
 ghost use Rattle.emit.specs.bridge.Emit.{em};
 ghost use Rattle.merging.specs.Request.{Projection};
 ghost use Rattle.merging.proofs.Names.{Letter};
@@ -94,7 +95,7 @@ pub fn put_one(
     out: &mut [u8],
     at: usize,
 ) -> usize
-    requires { ⌜ ((from : ℕ) × (x : Projection) × (v : List (List ℕ)) × Placed (now text) from (startsOf (now table)) (sizesOf (now table)) (named .standing .n) v (named .side .inner) (named .side .columns) x × Renamed (sizesOf (now news)) v 0 (now spots) (length v)) × (named .side .constants ≤ 64) × (length (named .places .at) ≡ 64) × (named .side .end ≤ length (now line)) × (ones (named .side .constant) ≡ length (picked 1 (named .side .constant) (columnsIn (now line) (named .side .end)))) ⌝ }
+    requires { ⌜ ((from : ℕ) × (x : Projection) × (v : List (List ℕ)) × Placed (now text) from (startsOf (now table)) (sizesOf (now table)) (named .standing .n) v (named .side .inner) (named .side .columns) x × Renamed (sizesOf (now news)) v 0 (now spots) (length v)) × (named .side .constants ≤ bounds .entries) × (length (named .places .at) ≡ bounds .entries) × (named .side .end ≤ length (now line)) × (ones (named .side .constant) ≡ length (picked 1 (named .side .constant) (columnsIn (now line) (named .side .end)))) ⌝ }
     ensures { λ r. ⌜ SideWritten (now (text .entry)) (startsOf (now (table .entry))) (sizesOf (now (table .entry))) (named .standing .n) (now (spots .entry)) (now (pool .entry)) (startsOf (now (news .entry))) (sizesOf (now (news .entry))) (named .side) (now (line .entry)) (now (constants .entry)) (named .places .at) (named .places .starts) (em at (now (out .entry))) (em r (now (out .exit))) ⌝ }
 {
     put_side(

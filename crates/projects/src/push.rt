@@ -3,6 +3,7 @@ use crate::one::FoundSide;
 use crate::one::NamedSide;
 use crate::one::name_one;
 use crate::one::put_one;
+use algebra::ENTRIES;
 use answers::Answer;
 use emit::put;
 use emit::put_all;
@@ -166,9 +167,9 @@ pub fn push_in_project(
     requires { ⌜ ((x : Projection) × Stands (now query) (standing .from) (startsOf (now table)) (sizesOf (now table)) (standing .n) (now spots) (tree x)) × KnownTerms (now constants) × Worded (now words) × Shaped (now words) (now nodes) (length (now nodes)) (length (now spots)) ⌝ }
     ensures { λ r. ⌜ ((x : Projection) (ks : List Pair) → Stands (now (query .entry)) (standing .from) (startsOf (now (table .entry))) (sizesOf (now (table .entry))) (standing .n) (now (spots .entry)) (tree x) → Terms (now (constants .entry)) ks → Answered (pushedBehind (now (head .entry)) x ks) (now (out .entry)) (now (out .exit)) r) ⌝ }
 {
-    let mut joins = [0u16; 64];
-    let mut at = [0u16; 64];
-    let mut starts = [0u16; 64];
+    let mut joins = [0u16; ENTRIES];
+    let mut at = [0u16; ENTRIES];
+    let mut starts = [0u16; ENTRIES];
     let Finding::Found(outline) = find_side(
         query,
         standing.from,

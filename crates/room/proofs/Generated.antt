@@ -10,6 +10,7 @@ use Rattle.text.specs.Text.{Bytes, same}
 use Rattle.text.specs.Field.{isVar}
 use Rattle.text.proofs.Basics.{same-eq}
 use Rattle.algebra.specs.Tree.{Pattern, project}
+use Rattle.algebra.specs.Tally.{bounds}
 use Rattle.scoping.specs.Label.{label, base, generated, prefixJ}
 use Rattle.scoping.specs.Standardize.{orSelf}
 use Rattle.scoping.specs.Numbering.{byPlace, numbered}
@@ -54,7 +55,7 @@ unfolding pushes
 pushes-few prefix c [] ps h f = f
 pushes-few prefix c (v ∷ vs) ps h f = pushes-few prefix (suc c) vs (pushed prefix c v ps) (omega arith) (pushed-few prefix c v ps (omega arith) f)
 
-pub side-name-short : (prefix : ℕ) (cs : List Bytes) (p : Pattern) (is : List ℕ) → length (byPlace (project cs p)) ≤ 1024 → length is ≤ 64
+pub side-name-short : (prefix : ℕ) (cs : List Bytes) (p : Pattern) (is : List ℕ) → length (byPlace (project cs p)) ≤ 1024 → length is ≤ bounds .entries
     → (w : Bytes) → isVar w ≡ true → suc (length (sideName prefix cs p is w)) ≤ 3 * suc (length w)
 unfolding sideName newName allPushes
 side-name-short prefix cs p is a b w h =

@@ -15,6 +15,7 @@ use Rattle.algebra.specs.Bounded.{layoutQuery}
 use Rattle.algebra.specs.Texts.{readTree, readQuery}
 use Rattle.algebra.specs.Valid.{Valid, mem}
 use Rattle.algebra.proofs.Theorem.{tree-exactly, query-exactly}
+use Rattle.algebra.specs.Tally.{bounds}
 use Rattle.answers.specs.Outcome.{Outcome, written}
 use Rattle.scoping.specs.Label.{prefixL, prefixR}
 use Rattle.scoping.specs.Numbering.{byPlace}
@@ -38,7 +39,7 @@ use Rattle.room.proofs.Side.{side-size}
 -- ---- the merged tree
 
 module _ (m : Request) (pairs leftConstants rightConstants : Bytes) (a : TreeRead (m .left)) (b : TreeRead (m .right)) (ls : Lists pairs leftConstants rightConstants m) (i : allInside m ≡ true) where
-  pairs-few : (f : Pair → ℕ) → length (map f (m .joins)) ≤ 64
+  pairs-few : (f : Pair → ℕ) → length (map f (m .joins)) ≤ bounds .entries
   pairs-few f = omega (arith, map-length f (m .joins), joins-few pairs (m .joins) (ls .joins))
 
   constants-inside : (inside (m .left .columns) (positions (m .left-constants)) && inside (m .right .columns) (positions (m .right-constants))) ≡ true

@@ -12,6 +12,7 @@ use Rattle.algebra.specs.Tree.{Pattern, values}
 use Rattle.algebra.specs.Layout.{put, putRows}
 use Rattle.algebra.specs.Reader.{reads}
 use Rattle.algebra.specs.Valid.{Valid}
+use Rattle.algebra.specs.Tally.{bounds}
 use Rattle.scoping.specs.Sets.{all}
 use Rattle.scoping.specs.Numbering.{byPlace}
 use Rattle.scoping.specs.Premises.{sideName, inside}
@@ -27,7 +28,7 @@ use Rattle.room.proofs.Generated.{side-name-short}
 use Rattle.room.proofs.Constants.{parted-width, terms-short}
 
 -- the `join` and the Values of constants
-bound-size : (p : Pattern) (cs : List Bytes) (ks : List Constant) (n : ℕ) → length ks ≤ 64 → (1 ≤ length ks → width (constantTerms ks) + 2 ≤ n) → size (put (bindConstants p cs ks) []) ≤ size (put p []) + width (constantColumns cs ks) + n + 24
+bound-size : (p : Pattern) (cs : List Bytes) (ks : List Constant) (n : ℕ) → length ks ≤ bounds .entries → (1 ≤ length ks → width (constantTerms ks) + 2 ≤ n) → size (put (bindConstants p cs ks) []) ≤ size (put p []) + width (constantColumns cs ks) + n + 24
 unfolding bindConstants put putRows decimal digits size width
 bound-size p cs [] n few h = omega arith
 bound-size p cs (k ∷ ks) n few h =
@@ -39,7 +40,7 @@ inside-map : (f : Bytes → Bytes) (cs : List Bytes) (is : List ℕ) → inside 
 unfolding inside
 inside-map f cs is h = ap (λ (n : ℕ). all (λ i. ltb i n) is) (map-length f cs) ∙ h
 
-module _ (prefix : ℕ) (x : Projection) (is : List ℕ) (ks : List Constant) (s : Bytes) (valid : Valid (tree x)) (names : length (byPlace (tree x)) ≤ 1024) (pairs : length is ≤ 64)
+module _ (prefix : ℕ) (x : Projection) (is : List ℕ) (ks : List Constant) (s : Bytes) (valid : Valid (tree x)) (names : length (byPlace (tree x)) ≤ 1024) (pairs : length is ≤ bounds .entries)
     (read : readConstants s ≡ reads ks) (constants-inside : inside (x .columns) (positions ks) ≡ true) where
   abbrev side : Side
   side = standardized prefix (x .columns) (x .inner) is ks

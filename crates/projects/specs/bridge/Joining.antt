@@ -14,6 +14,7 @@ use Rattle.algebra.specs.Reader.{reads}
 use Rattle.algebra.specs.Texts.{readTree, readQuery}
 use Rattle.algebra.specs.declared.Answer.{Answer as Check}
 use Rattle.algebra.specs.declared.Answer.the-variants.{Good, Malformed, OverBound}
+use Rattle.algebra.specs.Tally.{bounds}
 use Rattle.answers.specs.Outcome.{Outcome, refused, written, then, refusedUnless}
 use Rattle.names.specs.bridge.Names.{listing, startsOf, sizesOf}
 use Rattle.lines.specs.bridge.Noded.{Roomy}
@@ -36,10 +37,10 @@ use Rattle.descending.specs.bridge.Renamed.{Renamed}
 use Rattle.sides.specs.bridge.Listed.{Listed, positionsIn, Kept, termsFrom}
 use Rattle.sides.specs.bridge.Side.{TreeIn, Placed, Renames, OutlineIs, SideIs, joinLine, valuesLines}
 
--- a tree stands in a text from a place on, and no project at its root has more than 64 columns
+-- a tree stands in a text from a place on, and a project at its root has no more columns than it may
 pub record Stands (s : Bytes) (at : ℕ) (a l : List ℕ) (n : ℕ) (v : List (List ℕ)) (p : Pattern) : Type 0 where
   pub tree-in : TreeIn s at a l n v p
-  pub narrow : (x : Projection) → p ≡ tree x → length (x .columns) ≤ 64
+  pub narrow : (x : Projection) → p ≡ tree x → length (x .columns) ≤ bounds .columns
 
 -- the same where the tables of two texts stand in one array, for text i
 abbrev pub StandsAt : ℕ → Bytes → Standing → List (List (List ℕ)) → List (List ℕ) → Pattern → Type 0
@@ -86,8 +87,8 @@ pub record Outlined (s : Bytes) (from : ℕ) (a l : List ℕ) (n : ℕ) (v : Lis
   pub terms : Terms constants ks
   pub joins-inside : inside (x .columns) (positionsIn second js) ≡ true
   pub terms-inside : inside (x .columns) (positionsIn false ks) ≡ true
-  pub joins-long : length joins ≡ 64
-  pub long : length at ≡ 64
+  pub joins-long : length joins ≡ bounds .entries
+  pub long : length at ≡ bounds .entries
   pub is : OutlineIs s second constants x js ks joins at lines o
 
 -- a side that is ready to be written: its projection stood in its text by the variables that were noted, which are renamed now; its constants were read,
@@ -99,7 +100,7 @@ pub record Sided (s : Bytes) (from : ℕ) (a l : List ℕ) (n : ℕ) (v : List (
   pub terms : Terms constants ks
   pub joins-inside : inside (x .columns) (positionsIn second js) ≡ true
   pub terms-inside : inside (x .columns) (positionsIn false ks) ≡ true
-  pub long : length at ≡ 64
+  pub long : length at ≡ bounds .entries
   pub is : SideIs s a l n prefix second constants x js ks pool targets spans line at lines side
 
 -- the same of a side with what goes with it
@@ -117,7 +118,7 @@ SideWritten text starts sizes n spots pool targets spans s line constants at lin
     (from : ℕ) (x : Projection) (v : List (List ℕ)) (new : Bytes → Bytes) (ks : List Pair) → Placed text from starts sizes n v (s .inner) (s .columns) x → Renamed spans v 0 spots (length v)
     → Renames (listing text starts sizes n) n pool targets spans new
     → Kept constants ks false at lines (s .constants)
-    → (t : List Line) → puts (textOf t) e′ ≡ puts (textOf (joinLine (s .constants) (put (renameInGraphPattern new (x .inner)) (valuesLines (s .constants) (ones (s .constant)) (picked 1 (s .constant) (columnsIn line (s .end))) (termsFrom ks 0 64) t)))) e
+    → (t : List Line) → puts (textOf t) e′ ≡ puts (textOf (joinLine (s .constants) (put (renameInGraphPattern new (x .inner)) (valuesLines (s .constants) (ones (s .constant)) (picked 1 (s .constant) (columnsIn line (s .end))) (termsFrom ks 0 (bounds .columns)) t)))) e
 
 -- the tree with its constants
 abbrev pub pushedTree : Projection → List Pair → Pattern

@@ -1,6 +1,5 @@
 -- `binding::judge/judge_line` meets its contract. Assumes nothing.
 use borrow.Author.Needs.{needs}
-use native.Mathlib.Omega.{arith}
 use Rattle.words.specs.bridge.Key.{keyOf}
 use Rattle.binding.proofs.Judging as J
 use Rattle.binding.proofs.judge.judge_line.Statement.{statement}

@@ -1,6 +1,5 @@
 -- `binding::values/put_fields` meets its contract. Assumes nothing.
 use borrow.Author.Needs.{needs}
-use mathlib.Core.Path.{_≡_, refl, sym, ap, _∙_}
 use native.Mathlib.Omega.{arith}
 use Rattle.words.specs.bridge.Key.{keyOf}
 use Rattle.binding.proofs.Valued as Vd

@@ -1,5 +1,4 @@
 -- `operators::head/is_expressed` meets its contract. Assumes nothing.
-use borrow.Author.Needs.{needs}
 use Rattle.operators.proofs.Headed as H
 use Rattle.operators.proofs.head.is_expressed.Statement.{statement}
 use Rattle.operators.proofs.head.is_expressed.Tie as tie
