@@ -3,6 +3,7 @@ use crate::forms::may_merge;
 use crate::forms::note_form;
 use crate::forms::start_of;
 use algebra::Answer as Check;
+use algebra::ENTRIES;
 use answers::Answer;
 use lines::check::Noting;
 use lines::fields::Node;
@@ -33,7 +34,7 @@ ghost use Rattle.joining.specs.bridge.Form.{mergeOutcome, KnownAt};
 fn check_terms(left_constants: &[u8], right_constants: &[u8]) -> Check
     ensures { λ r. ⌜ TermsChecked (now («left_constants» .entry)) (now («right_constants» .entry)) r ⌝ }
 {
-    let mut keys = [[0u16; 4]; 64];
+    let mut keys = [[0u16; 4]; ENTRIES];
     match check_constants(left_constants, &mut keys) {
         Check::Good(_) => check_constants(right_constants, &mut keys),
         Check::Malformed => Check::Malformed,
@@ -45,7 +46,7 @@ fn check_terms(left_constants: &[u8], right_constants: &[u8]) -> Check
 fn check_lists(pairs: &[u8], left_constants: &[u8], right_constants: &[u8]) -> Check
     ensures { λ r. ⌜ ListsChecked (now (pairs .entry)) (now («left_constants» .entry)) (now («right_constants» .entry)) r ⌝ }
 {
-    let mut keys = [[0u16; 4]; 64];
+    let mut keys = [[0u16; 4]; ENTRIES];
     match check_joins(pairs, &mut keys) {
         Check::Good(_) => check_terms(left_constants, right_constants),
         Check::Malformed => Check::Malformed,

@@ -1,5 +1,6 @@
 // The call push constants: a query whose columns at some positions are held to constants.
 use algebra::Answer as Check;
+use algebra::ENTRIES;
 use answers::Answer;
 use heads::copy;
 use heads::is_select_or_ask;
@@ -73,7 +74,7 @@ fn push_by(
     requires { ⌜ KnownText (now query) (startsOf (now table)) (sizesOf (now table)) n (now spots) × Worded (now words) × Shaped (now words) (now nodes) (length (now nodes)) (length (now spots)) ⌝ }
     ensures { λ r. ⌜ Answered (pushConstantsOutcome (now (query .entry)) (now (constants .entry))) (now (out .entry)) (now (out .exit)) r ⌝ }
 {
-    let mut keys = [[0u16; 4]; 64];
+    let mut keys = [[0u16; 4]; ENTRIES];
     match check_constants(constants, &mut keys) {
         Check::Good(_) => push_of(words, query, table, n, nodes, spots, constants, out),
         Check::Malformed => Answer::Malformed,

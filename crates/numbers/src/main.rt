@@ -1,6 +1,7 @@
 // The numbers of the checks: for each record of the file `texts` a line of its label and the number of its text.
 // The kinds are 0 tree, 1 query, 2 join list, 3 constant list, 4 mapping, 5 binding sets and 6 filters.
 use algebra::Answer;
+use algebra::ENTRIES;
 use algebra::number;
 use libc::STDOUT_FILENO;
 use lists::check_constants;
@@ -39,9 +40,9 @@ fn check(
     match kind {
         0 => check_tree(text, words, table, hints),
         1 => check_query(text, words, table, hints),
-        2 => check_joins(text, &mut [[0u16; 4]; 64]),
-        3 => check_constants(text, &mut [[0u16; 4]; 64]),
-        4 => check_mapping(text, &mut [[0u16; 4]; 64]),
+        2 => check_joins(text, &mut [[0u16; 4]; ENTRIES]),
+        3 => check_constants(text, &mut [[0u16; 4]; ENTRIES]),
+        4 => check_mapping(text, &mut [[0u16; 4]; ENTRIES]),
         5 => check_sets(text, words, table, hints),
         _ => check_filters(text, words, table, hints),
     }
