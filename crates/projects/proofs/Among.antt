@@ -13,7 +13,7 @@ use Rattle.algebra.specs.Valid.{mem}
 use Rattle.scoping.specs.Sets.{all, any, keep}
 use Rattle.scoping.proofs.Sets.{and-none}
 use Rattle.merging.specs.Names.{from, isAt}
-use Rattle.sides.specs.bridge.Columns.{picked}
+use Rattle.columns.specs.bridge.Columns.{picked}
 use Rattle.sides.specs.bridge.Side.{maskAt}
 use Rattle.projects.proofs.Picks.{picked-positions}
 

@@ -43,7 +43,7 @@ use Rattle.merging.specs.Request.{Projection, tree, made, readJoins, readConsta
 use Rattle.merging.proofs.Lists.{positions-different}
 use Rattle.heads.specs.bridge.TreeAt.{headLine, TreeAt}
 use Rattle.heads.proofs.Queries.{query-valid, query-depth, query-names, query-text}
-use Rattle.sides.specs.bridge.Listed.{Listed}
+use Rattle.columns.specs.bridge.Listed.{Listed}
 use Rattle.projects.specs.bridge.Joining.{Stands, KnownTree, KnownText, HasRoom, HasNodes, Terms, KnownTerms}
 use Rattle.projects.proofs.Picks.{positions-are}
 

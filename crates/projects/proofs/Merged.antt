@@ -22,11 +22,11 @@ use Rattle.merging.specs.Request.{Projection, position, joinPositions, byPositi
 use Rattle.merging.specs.Merge.{mergeProjectPatterns}
 use Rattle.merging.proofs.Lines.{merge-lines}
 use Rattle.merging.proofs.Lists.{map-length}
-use Rattle.sides.specs.bridge.Columns.{columnsIn, maskOf, picked, goneBits}
-use Rattle.sides.specs.bridge.Listed.{positionsIn}
+use Rattle.columns.specs.bridge.Columns.{columnsIn, maskOf, picked, goneBits}
+use Rattle.columns.specs.bridge.Listed.{positionsIn}
 use Rattle.sides.specs.bridge.Side.{maskAt, newNames, SideIs}
 use Rattle.sides.specs.declared.side.Side.{Side as FoundSide}
-use Rattle.sides.proofs.Masks.{mask-ones, countOf}
+use Rattle.columns.proofs.Masks.{mask-ones, countOf}
 use Rattle.projects.proofs.Picks.{picked-gone, picked-count}
 use Rattle.projects.proofs.Among.{picked-mem}
 use Rattle.projects.proofs.SideLines.{side, side-free}

@@ -13,8 +13,8 @@ use Rattle.algebra.specs.Tally.{bounds}
 use Rattle.scoping.specs.Premises.{inside}
 use Rattle.merging.specs.Request.{Projection, tree}
 use Rattle.descending.specs.bridge.Renamed.{Renamed}
-use Rattle.sides.specs.bridge.Columns.{columnsIn, picked}
-use Rattle.sides.specs.bridge.Listed.{Listed, positionsIn}
+use Rattle.columns.specs.bridge.Columns.{columnsIn, picked}
+use Rattle.columns.specs.bridge.Listed.{Listed, positionsIn}
 use Rattle.sides.specs.bridge.Side.{TreeIn, Placed, Asked, OutlineIs, FindingIs, SideIs}
 use Rattle.sides.specs.declared.side.Outline.{Outline}
 use Rattle.sides.specs.declared.side.Side.{Side}

@@ -31,7 +31,7 @@ use Rattle.merging.specs.Push.{pushConstantsInProjectPattern}
 use Rattle.merging.proofs.Given.{project-of}
 use Rattle.merging.proofs.Lines.{root-word}
 use Rattle.merging.proofs.Lists.{sorted-test}
-use Rattle.sides.specs.bridge.Listed.{positionsIn}
+use Rattle.columns.specs.bridge.Listed.{positionsIn}
 use Rattle.projects.specs.bridge.Joining.{KnownTerms, ListsRead, bothTerms, TermsChecked, ListsChecked, pushedBehind, mergedBehind, joinedBehind}
 use Rattle.projects.proofs.Picks.{positions-are}
 use Rattle.projects.proofs.Merged.{lefts-are, rights-are}

@@ -15,7 +15,7 @@ use Rattle.answers.specs.declared.Answer.the-variants.{TooShort, Written}
 use Rattle.answers.proofs.Answers.{answered, too-short, all-written}
 use Rattle.scoping.specs.Label.{prefixL, prefixR, prefixV}
 use Rattle.merging.specs.Request.{Projection}
-use Rattle.sides.specs.bridge.Columns.{columnsIn, picked}
+use Rattle.columns.specs.bridge.Columns.{columnsIn, picked}
 use Rattle.sides.specs.declared.side.Side.{Side}
 use Rattle.projects.specs.bridge.Joining.{Sided, SideWritten, pushedTree, pushedBehind, goneMask, mergedTree, joinedBehind}
 use Rattle.projects.proofs.SideLines.{side-is}

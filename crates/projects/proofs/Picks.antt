@@ -22,10 +22,10 @@ use Rattle.merging.specs.Names.{from, isAt, placeIn}
 use Rattle.merging.proofs.Lists.{sorted-any}
 use Rattle.merging.proofs.Positions.{at-sym}
 use Rattle.merging.proofs.Rising.{termAt, constantAt, rising}
-use Rattle.sides.specs.bridge.Columns.{bitOf, maskOf, picked, goneBits}
-use Rattle.sides.specs.bridge.Listed.{positionsIn, secondOf, termsFrom}
+use Rattle.columns.specs.bridge.Columns.{bitOf, maskOf, picked, goneBits}
+use Rattle.columns.specs.bridge.Listed.{positionsIn, secondOf, termsFrom}
 use Rattle.sides.specs.bridge.Side.{maskAt}
-use Rattle.sides.proofs.Masks.{mask-low, mask-high, mask-ones, countOf, count-few}
+use Rattle.columns.proofs.Masks.{mask-low, mask-high, mask-ones, countOf, count-few}
 
 -- ---- one bit at a time
 

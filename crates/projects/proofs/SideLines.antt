@@ -20,8 +20,8 @@ use Rattle.merging.specs.Sides.{Constant, Side, standardized, constantColumns, 
 use Rattle.merging.specs.Request.{Projection, byPosition, constantsIn}
 use Rattle.merging.proofs.Lists.{sorted-length, map-length}
 use Rattle.merging.proofs.Lines.{side-lines, side-lines-bound}
-use Rattle.sides.specs.bridge.Columns.{columnsIn, picked}
-use Rattle.sides.specs.bridge.Listed.{positionsIn, termsFrom}
+use Rattle.columns.specs.bridge.Columns.{columnsIn, picked}
+use Rattle.columns.specs.bridge.Listed.{positionsIn, termsFrom}
 use Rattle.sides.specs.bridge.Side.{maskAt, newNames, SideIs, joinLine, valuesLines}
 use Rattle.sides.specs.declared.side.Side.{Side as FoundSide}
 use Rattle.projects.proofs.Picks.{mask-picks, free-columns, constant-columns, constant-terms}

@@ -16,7 +16,7 @@ use Rattle.walking.proofs.Written.{puts-ended}
 use Rattle.merging.specs.Request.{Projection}
 use Rattle.sides.specs.declared.side.Side.{Side}
 use Rattle.scoping.specs.Premises.{inside}
-use Rattle.sides.specs.bridge.Listed.{Listed, positionsIn}
+use Rattle.columns.specs.bridge.Listed.{Listed, positionsIn}
 use Rattle.sides.specs.bridge.Side.{newNames, SideIs}
 use Rattle.text.specs.Text.{split, linesIn, linesOf}
 use native.Mathlib.Omega.{arith}
@@ -33,7 +33,7 @@ use Rattle.merging.specs.Request.{byPosition, constantsIn}
 use Rattle.merging.proofs.Lists.{map-length}
 use Rattle.merging.specs.Push.{onlySide}
 use Rattle.merging.proofs.Lines.{push-lines}
-use Rattle.sides.specs.bridge.Columns.{columnsIn, picked}
+use Rattle.columns.specs.bridge.Columns.{columnsIn, picked}
 use Rattle.projects.specs.bridge.Joining.{Lists, ListsRead, pushedTree, pushedBehind}
 use Rattle.projects.proofs.SideLines.{side, side-free}
 use Rattle.projects.proofs.Outcomes.{inside-sorted}

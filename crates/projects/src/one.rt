@@ -24,7 +24,7 @@ ghost use Rattle.merging.proofs.Names.{Letter};
 ghost use Rattle.names.specs.bridge.Names.{startsOf, sizesOf};
 ghost use Rattle.words.specs.bridge.Words.{Worded};
 ghost use Rattle.descending.specs.bridge.Renamed.{Renamed, Shaped};
-ghost use Rattle.sides.specs.bridge.Columns.{columnsIn, picked};
+ghost use Rattle.columns.specs.bridge.Columns.{columnsIn, picked};
 ghost use Rattle.sides.specs.bridge.Side.{Placed};
 ghost use Rattle.projects.specs.bridge.Joining.{IsFound, IsNamed, SideWritten};
 

@@ -1,11 +1,5 @@
-pub mod Picked
-pub mod Masks
-pub mod Gone
-pub mod Places
-pub mod Positions
 pub mod Trees
 pub mod Entries
 pub mod Values
 pub mod Root
-pub mod Line
 pub mod Sides

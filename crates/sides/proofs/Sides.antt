@@ -40,14 +40,14 @@ use Rattle.merging.proofs.Names.{Letter, side-fits}
 use Rattle.algebra.specs.Query.{Pair}
 use Rattle.algebra.specs.Tally.{bounds}
 use Rattle.sides.specs.declared.side.Outline.{Outline}
-use Rattle.sides.specs.declared.list.Positions.{Positions}
-use Rattle.sides.specs.declared.list.Positions.the-variants.{Outside, Are}
-use Rattle.sides.specs.bridge.Columns.{columnsIn}
-use Rattle.sides.specs.bridge.Listed.{Listed, positionsIn, Kept, Found}
+use Rattle.columns.specs.declared.list.Positions.{Positions}
+use Rattle.columns.specs.declared.list.Positions.the-variants.{Outside, Are}
+use Rattle.columns.specs.bridge.Columns.{columnsIn}
+use Rattle.columns.specs.bridge.Listed.{Listed, positionsIn, Kept, Found}
 use Rattle.sides.specs.bridge.Side.{TreeIn, Placed, Renames, maskAt, OutlineIs, SideIs}
 use Rattle.sides.proofs.Trees.{tree-inside, columns-few, line-written}
 use Rattle.sides.proofs.Entries.{entryAt, names-at}
-use Rattle.sides.proofs.Line.{line-columns, line-positive}
+use Rattle.columns.proofs.Line.{line-columns, line-positive}
 
 -- ---- the project's line
 

@@ -1,6 +1,4 @@
 // One side of a merge, or the only side of a push: a project's columns and inner pattern under new names, with constants bound.
-pub mod columns;
-pub mod list;
 pub mod project;
 pub mod side;
 pub mod writing;

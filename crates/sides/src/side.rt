@@ -1,10 +1,10 @@
 // What is found of a side, its columns and positions; then its new names and its line of renamed columns.
-use crate::columns::position_mask;
-use crate::list::Positions;
-use crate::list::read_positions;
 use crate::project::find_columns;
 use algebra::ENTRIES;
 use algebra::PerEntry;
+use columns::columns::position_mask;
+use columns::list::Positions;
+use columns::list::read_positions;
 use descending::tree::rename_tree;
 use lines::fields::Node;
 use lines::fields::Spot;
@@ -34,8 +34,8 @@ ghost use Rattle.naming.specs.bridge.Code.{namesAt};
 ghost use Rattle.merging.specs.Request.{Projection, tree};
 ghost use Rattle.merging.proofs.Names.{Letter};
 ghost use Rattle.scoping.specs.Premises.{inside, sideName};
-ghost use Rattle.sides.specs.bridge.Columns.{columnsIn};
-ghost use Rattle.sides.specs.bridge.Listed.{Listed, positionsIn};
+ghost use Rattle.columns.specs.bridge.Columns.{columnsIn};
+ghost use Rattle.columns.specs.bridge.Listed.{Listed, positionsIn};
 ghost use Rattle.sides.specs.bridge.Side.{TreeIn, Renames, Placed, Asked, OutlineIs, FindingIs, SideIs};
 
 // The entries of the columns at the first m positions: the columns are the first of a project's variables.

@@ -1,9 +1,9 @@
 // The lines of a side, written: its inner pattern under new names, with its constants bound.
-use crate::columns::put_columns;
-use crate::list::put_terms;
 use crate::side::Places;
 use crate::side::Side;
 use algebra::PerEntry;
+use columns::columns::put_columns;
+use columns::list::put_terms;
 use emit::put;
 use emit::put_all;
 use lines::fields::Spot;
@@ -25,8 +25,8 @@ ghost use Rattle.algebra.specs.Layout.{put};
 ghost use Rattle.algebra.specs.Tally.{bounds};
 ghost use Rattle.merging.specs.Request.{Projection};
 ghost use Rattle.descending.specs.bridge.Renamed.{Renamed};
-ghost use Rattle.sides.specs.bridge.Columns.{columnsIn, picked};
-ghost use Rattle.sides.specs.bridge.Listed.{Kept, termsFrom};
+ghost use Rattle.columns.specs.bridge.Columns.{columnsIn, picked};
+ghost use Rattle.columns.specs.bridge.Listed.{Kept, termsFrom};
 ghost use Rattle.sides.specs.bridge.Side.{Renames, Placed, joinLine, valuesLines};
 
 const JOIN: [u8; 5] = *b"join\n";

@@ -32,9 +32,9 @@ use Rattle.projects.specs.declared.one.FoundSide.{FoundSide}
 use Rattle.projects.specs.declared.one.NamedSide.{NamedSide}
 use Rattle.sides.specs.declared.side.Outline.{Outline}
 use Rattle.sides.specs.declared.side.Side.{Side}
-use Rattle.sides.specs.bridge.Columns.{columnsIn, maskOf, picked, goneBits}
+use Rattle.columns.specs.bridge.Columns.{columnsIn, maskOf, picked, goneBits}
 use Rattle.descending.specs.bridge.Renamed.{Renamed}
-use Rattle.sides.specs.bridge.Listed.{Listed, positionsIn, Kept, termsFrom}
+use Rattle.columns.specs.bridge.Listed.{Listed, positionsIn, Kept, termsFrom}
 use Rattle.sides.specs.bridge.Side.{TreeIn, Placed, Renames, OutlineIs, SideIs, joinLine, valuesLines}
 
 -- a tree stands in a text from a place on, and a project at its root has no more columns than it may

@@ -24,8 +24,8 @@ use Rattle.sides.specs.declared.side.Side.{Side}
 use Rattle.sides.specs.declared.side.Outline.{Outline}
 use Rattle.sides.specs.declared.side.Finding.{Finding}
 use Rattle.sides.specs.declared.side.Finding.the-variants.{Outside, Found}
-use Rattle.sides.specs.bridge.Columns.{columnsIn, maskOf}
-use Rattle.sides.specs.bridge.Listed.{Listed, positionsIn, Kept}
+use Rattle.columns.specs.bridge.Columns.{columnsIn, maskOf}
+use Rattle.columns.specs.bridge.Listed.{Listed, positionsIn, Kept}
 
 -- a tree stands in a text from a place on, within the bounds; the table lists its names, and the array its variables
 pub record TreeIn (s : Bytes) (at : ℕ) (a l : List ℕ) (n : ℕ) (v : List (List ℕ)) (p : Pattern) : Type 0 where

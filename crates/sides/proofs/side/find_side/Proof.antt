@@ -3,7 +3,7 @@ use borrow.Author.Needs.{needs}
 use native.Mathlib.Omega.{arith}
 use mathlib.Core.Bool.{false}
 use Rattle.scoping.specs.Premises.{inside}
-use Rattle.sides.specs.bridge.Listed.{positionsIn}
+use Rattle.columns.specs.bridge.Listed.{positionsIn}
 use Rattle.sides.specs.bridge.Side.{FindingIs}
 use Rattle.sides.proofs.Sides as S
 use Rattle.sides.proofs.side.find_side.Statement.{statement}

@@ -1,0 +1,6 @@
+pub mod Line
+pub mod Masks
+pub mod Places
+pub mod Picked
+pub mod Gone
+pub mod Positions
