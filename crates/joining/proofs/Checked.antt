@@ -10,8 +10,8 @@ use Rattle.text.specs.Text.{Bytes}
 use Rattle.algebra.specs.Query.{Query}
 use Rattle.algebra.specs.Reader.{reads, refuses, malformed, overBound}
 use Rattle.algebra.specs.Texts.{readTree, readQuery}
-use Rattle.lines.specs.declared.check.Noting.{Noting}
-use Rattle.lines.specs.declared.check.Noting.the-variants.{Good, Malformed, OverBound}
+use Rattle.checking.specs.declared.check.Noting.{Noting}
+use Rattle.checking.specs.declared.check.Noting.the-variants.{Good, Malformed, OverBound}
 use Rattle.reading.specs.bridge.Variables.{treeNames, queryNames}
 use Rattle.reading.specs.bridge.Charted.{Charted, treeStart, queryStart}
 use Rattle.reading.proofs.ChartSaid.{chart-malformed, chart-over}

@@ -1,7 +1,7 @@
 // The form of a merge's texts: trees, or queries, whose trees stand behind their heads.
+use checking::check::Noting;
 use heads::is_mergeable;
 use heads::tree_start;
-use lines::check::Noting;
 use lines::fields::Node;
 use lines::fields::Spot;
 use names::Entry;

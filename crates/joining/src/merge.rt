@@ -5,7 +5,7 @@ use crate::forms::start_of;
 use algebra::Answer as Check;
 use algebra::ENTRIES;
 use answers::Answer;
-use lines::check::Noting;
+use checking::check::Noting;
 use lines::fields::Node;
 use lines::fields::Spot;
 use lists::check_constants;

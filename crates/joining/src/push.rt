@@ -2,10 +2,10 @@
 use algebra::Answer as Check;
 use algebra::ENTRIES;
 use answers::Answer;
+use checking::check::Noting;
 use heads::copy;
 use heads::is_select_or_ask;
 use heads::tree_start;
-use lines::check::Noting;
 use lines::fields::Node;
 use lines::fields::Spot;
 use lists::check_constants;

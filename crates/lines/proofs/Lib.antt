@@ -2,7 +2,6 @@ pub mod StepLaw
 pub mod RepeatLaw
 pub mod LineTook
 pub mod LineLaw
-pub mod RunLaw
 pub mod BelowLaw
 pub mod Zero
 pub mod FieldsLaw
@@ -10,17 +9,10 @@ pub mod SlotLaw
 pub mod TailLaw
 pub mod SaysLaw
 pub mod LineIsLaw
-pub mod DescentLaw
-pub mod CheckLaw
 pub mod StoreLaw
 pub mod SpotsLaw
 pub mod AddLaw
 pub mod TurnLaw
 pub mod WalkLaw
 pub mod NotesLaw
-pub mod WalksLaw
-pub mod GroupsLaw
 pub mod SortLaw
-pub mod OneLaw
-pub mod ReadLaw
-pub mod LentLaw

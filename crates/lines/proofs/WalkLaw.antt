@@ -18,7 +18,7 @@ use Rattle.scoping.specs.bridge.Spots.{Group, group, groupsBelow}
 use Rattle.scoping.specs.bridge.Walk.{State, state, rowOr, numberIn, hides, times, headAmount, part, child, beneath, whole, tree}
 use Rattle.lines.specs.bridge.Below.{amountIn}
 use Rattle.lines.specs.bridge.Says.{below}
-use Rattle.lines.specs.bridge.Walks.{markUnder}
+use Rattle.lines.specs.bridge.Below.{markUnder}
 
 module _ {O : Type 0} (put : Sort → Mark → Row → Bytes → List Bytes → O → O) where
   -- ---- groups of lines

@@ -1,11 +1,8 @@
-// The check of a text by descent, by the one table of words, with the text's variables kept and their places noted on the way.
+// One line of a text by the one table of words: its fields, its variables kept and noted on the way, and what it asks for.
 pub mod below;
-pub mod check;
-mod descent;
 pub mod fields;
-mod line;
-mod place;
+pub mod line;
 mod slots;
 pub mod sorts;
 mod variables;
-mod wanted;
+pub mod wanted;

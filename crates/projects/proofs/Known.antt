@@ -37,8 +37,8 @@ use Rattle.lines.specs.bridge.Noded.{nodeAt, nodesOf, Noded, Roomy}
 use Rattle.lines.specs.bridge.Spotted.{spotAt, spotsOf, Noted}
 use Rattle.descending.specs.bridge.Renamed.{Shaped}
 use Rattle.walking.proofs.Noted.{shaped-tree}
-use Rattle.lines.specs.declared.check.Noting.{Noting}
-use Rattle.lines.specs.declared.check.Noting.the-variants.{Good}
+use Rattle.checking.specs.declared.check.Noting.{Noting}
+use Rattle.checking.specs.declared.check.Noting.the-variants.{Good}
 use Rattle.merging.specs.Request.{Projection, tree, made, readJoins, readConstants, joinPositions, byPosition, constantsIn}
 use Rattle.merging.proofs.Lists.{positions-different}
 use Rattle.heads.specs.bridge.TreeAt.{headLine, TreeAt}

@@ -28,11 +28,11 @@ use Rattle.scoping.specs.bridge.Walk.{State, state, opened, hides, times, child
 use Rattle.scoping.specs.bridge.Spots.{Spot, spotsIn, fieldsSize, Trace, trace, lineSpots, lineNodes, spotLine}
 use Rattle.names.specs.bridge.Names.{listing, Holds}
 use Rattle.names.specs.bridge.Checked.{Checked}
-use Rattle.lines.specs.bridge.Run.{Tells}
+use Rattle.checking.specs.bridge.Run.{Tells}
 use Rattle.lines.specs.bridge.Spotted.{Spotted, Noted}
-use Rattle.lines.specs.bridge.Walks.{entryOf, markAlone, answerOf, Charts}
-use Rattle.lines.specs.declared.check.Noting.{Noting}
-use Rattle.lines.specs.declared.check.Noting.the-variants.{Good, Malformed, OverBound}
+use Rattle.checking.specs.bridge.Walks.{entryOf, markAlone, answerOf, Charts}
+use Rattle.checking.specs.declared.check.Noting.{Noting}
+use Rattle.checking.specs.declared.check.Noting.the-variants.{Good, Malformed, OverBound}
 use Rattle.reading.specs.bridge.Charted.{treeStart, queryStart, Charted}
 
 -- ---- a whole text

@@ -9,8 +9,8 @@ use Rattle.algebra.specs.Reader.{Outcome as Reading, reads, refuses, malformed,
 use Rattle.names.specs.bridge.Names.{Holds}
 use Rattle.lines.specs.bridge.Noded.{Noded, Roomy}
 use Rattle.lines.specs.bridge.Spotted.{Noted}
-use Rattle.lines.specs.declared.check.Noting.{Noting}
-use Rattle.lines.specs.declared.check.Noting.the-variants.{Good, Malformed, OverBound}
+use Rattle.checking.specs.declared.check.Noting.{Noting}
+use Rattle.checking.specs.declared.check.Noting.the-variants.{Good, Malformed, OverBound}
 use Rattle.reading.specs.bridge.Charted.{Charted}
 
 module _ {A : Type 0} (f : A → List Bytes) (from : Bytes → A → ℕ → Type 0) (s : Bytes) (a l h : List ℕ) (before after words b : List (List ℕ)) (r : Noting) where

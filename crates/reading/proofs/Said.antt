@@ -12,8 +12,8 @@ use Rattle.names.specs.bridge.Names.{Holds}
 use Rattle.names.specs.bridge.Checked.{Checked}
 use Rattle.lines.specs.bridge.Noded.{Noded, Roomy}
 use Rattle.lines.specs.bridge.Spotted.{Noted}
-use Rattle.lines.specs.declared.check.Noting.{Noting}
-use Rattle.lines.specs.declared.check.Noting.the-variants as N
+use Rattle.checking.specs.declared.check.Noting.{Noting}
+use Rattle.checking.specs.declared.check.Noting.the-variants as N
 use Rattle.reading.specs.bridge.Charted.{Charted}
 
 module _ {A : Type 0} (f : A → List Bytes) (s : Bytes) (a l h : List ℕ) (r : Answer) where

@@ -8,7 +8,7 @@ use Rattle.algebra.specs.bridge.Machine.{Check}
 use Rattle.algebra.specs.bridge.Verdict.{checked}
 use Rattle.algebra.specs.declared.Answer.{Answer}
 use Rattle.names.specs.bridge.Checked.{Checked}
-use Rattle.lines.specs.bridge.Run.{Tells}
+use Rattle.checking.specs.bridge.Run.{Tells}
 
 -- what is told of the machine's check is what is promised of the reader's outcome
 pub told : {A : Type 0} (f : A → Tally → Tally) (s a b h : List ℕ) (r : Answer) (k : Check) (o : Outcome A) → k ≡ checked f o → Tells s a b h k r → Checked (λ x. f x start .names) s a b h o r

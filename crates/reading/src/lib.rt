@@ -1,10 +1,10 @@
 // The check of trees, queries, binding sets and filters: each text's number, and the table of its variables.
 use algebra::Answer;
 use algebra::DEPTH;
-use lines::check::Noting;
-use lines::check::check_list;
-use lines::check::check_one;
-use lines::check::note_one;
+use checking::check::Noting;
+use checking::check::check_list;
+use checking::check::check_one;
+use checking::check::note_one;
 use lines::fields::Node;
 use lines::fields::Spot;
 use names::Entry;

@@ -42,9 +42,9 @@ use Rattle.walking.proofs.Noted.{spotted-inside, stands-tree, shaped-tree}
 use Rattle.walking.proofs.Spotted.{inside-more}
 use Rattle.names.proofs.Laws.{listing-long}
 use Rattle.renaming.specs.bridge.Code.{Recorded, Surveyed, Renaming}
-use Rattle.lines.specs.bridge.Walks.{answerOf}
-use Rattle.lines.specs.declared.check.Noting.{Noting}
-use Rattle.lines.specs.declared.check.Noting.the-variants as Noting
+use Rattle.checking.specs.bridge.Walks.{answerOf}
+use Rattle.checking.specs.declared.check.Noting.{Noting}
+use Rattle.checking.specs.declared.check.Noting.the-variants as Noting
 
 module _ (s : Bytes) (a l h : List ℕ) (n : ℕ) (k : Known s a l h n) where
   is-tree : IsTree bounds s (k .pattern)

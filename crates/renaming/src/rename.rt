@@ -2,8 +2,8 @@
 use algebra::Answer as Check;
 use algebra::ENTRIES;
 use answers::Answer;
+use checking::check::Noting;
 use descending::tree::rename_tree;
-use lines::check::Noting;
 use lines::fields::Node;
 use lines::fields::Spot;
 use lists::Entry as Pair;

@@ -1,8 +1,8 @@
 // The call scope: the variables of a tree that are in scope, and those that are hidden.
 use answers::Answer;
+use checking::check::Noting;
 use emit::put;
 use emit::put_all;
-use lines::check::Noting;
 use lines::fields::Node;
 use lines::fields::Spot;
 use names::Entry;

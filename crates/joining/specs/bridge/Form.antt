@@ -11,7 +11,7 @@ use Rattle.algebra.specs.Layout.{layout}
 use Rattle.algebra.specs.Reader.{Outcome as Reading, reads}
 use Rattle.algebra.specs.Texts.{readTree, readQuery}
 use Rattle.answers.specs.Outcome.{Outcome, written, then, refusedUnless}
-use Rattle.lines.specs.declared.check.Noting.{Noting}
+use Rattle.checking.specs.declared.check.Noting.{Noting}
 use Rattle.reading.specs.bridge.Variables.{treeNames, queryNames}
 use Rattle.reading.specs.bridge.Charted.{Charted, treeStart, queryStart}
 use Rattle.heads.specs.bridge.TreeAt.{headLine, TreeAt}

@@ -11,8 +11,8 @@ use Rattle.algebra.specs.Reader.{malformed, overBound, Outcome, reads, refuses}
 use Rattle.names.specs.bridge.Names.{Holds}
 use Rattle.lines.specs.bridge.Noded.{Noded, Roomy}
 use Rattle.lines.specs.bridge.Spotted.{Noted}
-use Rattle.lines.specs.declared.check.Noting.{Noting}
-use Rattle.lines.specs.declared.check.Noting.the-variants.{Good, Malformed, OverBound}
+use Rattle.checking.specs.declared.check.Noting.{Noting}
+use Rattle.checking.specs.declared.check.Noting.the-variants.{Good, Malformed, OverBound}
 
 -- where a tree's text starts, and the tree of a query's
 abbrev pub treeStart : Bytes → Pattern → ℕ → Type 0
