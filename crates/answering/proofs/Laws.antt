@@ -14,7 +14,7 @@ use Rattle.parted.proofs.Parts.{parted-same}
 use Rattle.answers.specs.declared.Answer.{Answer}
 use Rattle.answers.specs.declared.Answer.the-variants.{Malformed, OverBound}
 use Rattle.answers.specs.Outcome.{Outcome, refused, Reported, Answered}
-use Rattle.renaming.specs.Scope.{scopeOutcome}
+use Rattle.surveying.specs.Scope.{scopeOutcome}
 use Rattle.renaming.specs.Rename.{renameOutcome}
 use Rattle.merging.specs.Merge.{mergePatternsOutcome, mergeQueriesOutcome}
 use Rattle.merging.specs.Push.{pushConstantsOutcome}

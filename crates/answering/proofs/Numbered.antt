@@ -14,7 +14,7 @@ use Rattle.algebra.specs.Texts.{readTree, readQuery, readPairs, readSets, readF
 use Rattle.answers.specs.declared.Answer.{Answer}
 use Rattle.answers.specs.Outcome.{Outcome, refused, written, Answered}
 use Rattle.answers.proofs.Numbered.{Numbered, written-numbered, then-numbered, test-numbered, not-zero}
-use Rattle.renaming.specs.Scope.{scopeOutcome}
+use Rattle.surveying.specs.Scope.{scopeOutcome}
 use Rattle.renaming.specs.Rename.{renameOutcome}
 use Rattle.merging.specs.Sides.{Constant}
 use Rattle.scoping.specs.Premises.{inside}

@@ -9,7 +9,7 @@ use Rattle.text.specs.Text.{Bytes, same}
 use Rattle.text.specs.Word.{bytes}
 use Rattle.parted.specs.Parted.{texts}
 use Rattle.answers.specs.Outcome.{Outcome, refused}
-use Rattle.renaming.specs.Scope.{scopeOutcome}
+use Rattle.surveying.specs.Scope.{scopeOutcome}
 use Rattle.renaming.specs.Rename.{renameOutcome}
 use Rattle.merging.specs.Merge.{mergePatternsOutcome, mergeQueriesOutcome}
 use Rattle.merging.specs.Push.{pushConstantsOutcome}

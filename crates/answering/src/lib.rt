@@ -15,7 +15,7 @@ use negating::negate;
 use parted::part_texts;
 use parted::text_at;
 use renaming::rename::rename;
-use renaming::scope::scope;
+use surveying::scope::scope;
 use text::equal;
 use text::piece;
 ghost use mathlib.Core.Path.{_≡_};

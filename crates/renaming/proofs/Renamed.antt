@@ -35,9 +35,10 @@ use Rattle.answers.specs.declared.Answer.the-variants.{Written, Malformed, Over
 use Rattle.answers.specs.Outcome.{written, Reported, Answered}
 use Rattle.renaming.specs.Rename.{becomes, renameOutcome}
 use Rattle.heads.specs.bridge.Known.{Known}
-use Rattle.renaming.specs.bridge.Code.{Surveyed, Renaming, Targets, renamedSize}
+use Rattle.surveying.specs.bridge.Code.{Surveyed}
+use Rattle.renaming.specs.bridge.Code.{Renaming, Targets, renamedSize}
 use Rattle.renaming.proofs.Long.{renamed-long}
-use Rattle.renaming.proofs.Tables.{known-valid, known-depth, known-names, known-lines}
+use Rattle.surveying.proofs.Tables.{known-valid, known-depth, known-names, known-lines}
 use Rattle.scoping.proofs.Alike.{rename-alike}
 use Rattle.answers.proofs.Answers.{too-short, all-written, answered}
 

@@ -1,3 +1,2 @@
-pub mod Scope
 pub mod Rename
 pub mod bridge

@@ -1,3 +1,2 @@
-// The calls scope and rename. Each answers with a number, a length and bytes that its texts alone decide, and takes any input.
+// The call rename. It takes any input, and its answer is decided by the texts alone.
 pub mod rename;
-pub mod scope;

@@ -18,7 +18,7 @@ use Rattle.merging.specs.Merge.{mergePatternsOutcome, mergeQueriesOutcome}
 use Rattle.merging.specs.Push.{pushConstantsOutcome}
 use Rattle.merging.specs.Negate.{negateOutcome}
 use Rattle.merging.proofs.Given.{then-written, made-reads}
-use Rattle.renaming.specs.Scope.{scopeOutcome}
+use Rattle.surveying.specs.Scope.{scopeOutcome}
 use Rattle.renaming.specs.Rename.{renameOutcome}
 use Rattle.filtering.specs.Bindings.{bindingsOutcome}
 use Rattle.filtering.specs.Filters.{filtersOutcome}

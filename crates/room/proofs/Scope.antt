@@ -20,7 +20,7 @@ use Rattle.scoping.specs.Numbering.{byPlace, inScopeByPlace, hiddenByPlace}
 use Rattle.scoping.proofs.Sets.{mem-keep}
 use Rattle.scoping.proofs.Walked.{visible-in-scope, covered-hidden}
 use Rattle.scoping.proofs.Numbered.{in-scope-once, hidden-once}
-use Rattle.renaming.specs.Scope.{scopeText, scopeOutcome}
+use Rattle.surveying.specs.Scope.{scopeText, scopeOutcome}
 use Rattle.room.specs.Room.{scopeRoom}
 use Rattle.room.proofs.Enough.{Enough, then-enough}
 use Rattle.walking.proofs.Sizes.{width, size, text-size, tree-size}

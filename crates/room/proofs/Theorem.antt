@@ -4,7 +4,7 @@ use mathlib.Core.Path.{_≡_}
 use lib.ListN.{length}
 use Rattle.text.specs.Text.{Bytes}
 use Rattle.answers.specs.Outcome.{written}
-use Rattle.renaming.specs.Scope.{scopeOutcome}
+use Rattle.surveying.specs.Scope.{scopeOutcome}
 use Rattle.renaming.specs.Rename.{renameOutcome}
 use Rattle.merging.specs.Merge.{mergePatternsOutcome, mergeQueriesOutcome}
 use Rattle.merging.specs.Push.{pushConstantsOutcome}

@@ -18,7 +18,7 @@ use Rattle.answers.specs.Outcome.{Outcome, refused, written}
 use Rattle.scoping.specs.Sets.{keep, variablesOf, tripleVariables}
 use Rattle.scoping.specs.Variables.{variablesInPattern}
 use Rattle.scoping.specs.Numbering.{byPlace, inScopeByPlace, hiddenByPlace}
-use Rattle.renaming.specs.Scope.{scopeText, scopeOutcome}
+use Rattle.surveying.specs.Scope.{scopeText, scopeOutcome}
 use Rattle.merging.specs.Cases.{Call, mergePatterns, mergeQueries, pushConstants, negate, Case, cases, outcomeOf}
 use Rattle.merging.proofs.Worked.{worked}
 use Rattle.filtering.specs.Filters.{filtersOutcome}

@@ -1,11 +1,10 @@
--- What the steps of the two calls keep and find. Assumes nothing.
+-- What the steps of the call keep and find. Assumes nothing.
 use Prim.Native.Nat.{ℕ, _≤_}
 use mathlib.Core.Path.{_≡_}
-use mathlib.Core.List.{List, [], _∷_}
+use mathlib.Core.List.{List, []}
 use mathlib.Core.Bool.{true, cond}
 use lib.ListN.{length, drop, getD}
-use Rattle.text.specs.Text.{Bytes, same, textOf}
-use Rattle.text.specs.Word.{bytes}
+use Rattle.text.specs.Text.{Bytes, same}
 use Rattle.algebra.specs.Valid.{mem}
 use Rattle.algebra.specs.Reader.{reads}
 use Rattle.algebra.specs.Query.{Pair, mapping}
@@ -15,12 +14,13 @@ use Rattle.words.specs.bridge.Words.{Worded}
 use Rattle.lines.specs.bridge.Noded.{Noded}
 use Rattle.lines.specs.bridge.Spotted.{Noted, spotsOf}
 use Rattle.lists.specs.bridge.Pairs.{PairsTold}
-use Rattle.emit.specs.bridge.Emit.{Em, em, puts}
-use Rattle.scoping.specs.bridge.Becomes.{replacement, chosen}
+use Rattle.emit.specs.bridge.Emit.{em}
+use Rattle.scoping.specs.bridge.Becomes.{replacement}
 use Rattle.walking.specs.bridge.Code.{renames}
 use Rattle.descending.specs.bridge.Renamed.{Renamed}
 use Rattle.walking.specs.bridge.Rewritten.{rewritten}
 use Rattle.heads.specs.bridge.Known.{Known}
+use Rattle.surveying.specs.bridge.Code.{Surveyed}
 use Rattle.renaming.specs.Rename.{becomes}
 
 -- a text that is a tree's was checked, and its variables and lines were noted
@@ -30,13 +30,7 @@ pub record Recorded (tree : Bytes) (starts sizes hints : List ℕ) (n : ℕ) (sp
   pub noded : Noded words nodes m (noted .nodes)
   pub worded : Worded words
 
--- its variables were noted
-pub record Surveyed (tree : Bytes) (starts sizes : List ℕ) (n : ℕ) (spots : List (List ℕ)) (k : ℕ) : Type 0 where
-  pub hints : List ℕ
-  pub known : Known tree starts sizes hints n
-  pub noted : Noted tree 0 (listing tree starts sizes n) spots k
-
--- and then renamed, by the sizes of their new names
+-- its variables were noted and then renamed, by the sizes of their new names
 pub record Renaming (tree : Bytes) (starts sizes : List ℕ) (n : ℕ) (spots : List (List ℕ)) (k : ℕ) (spans : List ℕ) : Type 0 where
   pub before : List (List ℕ)
   pub surveyed : Surveyed tree starts sizes n before k
@@ -45,17 +39,6 @@ pub record Renaming (tree : Bytes) (starts sizes : List ℕ) (n : ℕ) (spots : 
 -- a text that is a mapping's, and the first m entries tell its pairs
 abbrev pub KnownPairs : Bytes → List (List ℕ) → ℕ → Type 0
 KnownPairs pairs keys m = PairsTold mapping pairs keys m
-
--- fields, each after a tab
-unfoldable pub tabbed : List Bytes → Em → Em
-unfolding puts
-tabbed [] e = e
-tabbed (f ∷ fs) e = tabbed fs (puts f (puts (9 ∷ []) e))
-
--- the two lines of scope, by the flags of the table's names
-unfoldable pub chosenText : List ℕ → List Bytes → Bytes
-unfolding textOf chosen
-chosenText flags ns = textOf ((bytes "in" ∷ chosen 0 flags ns) ∷ (bytes "hid" ∷ chosen 1024 flags ns) ∷ [])
 
 -- a text is a mapping's, the entries of a table of n names hold what it makes of them, and no entry behind them is set
 pub record Targets (ns : List Bytes) (n : ℕ) (pairs : Bytes) (targets spans : List ℕ) : Type 0 where

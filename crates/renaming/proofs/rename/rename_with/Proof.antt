@@ -1,5 +1,6 @@
 -- `renaming::rename/rename_with` meets its contract. Assumes nothing.
 use borrow.Author.Needs.{needs}
+use Rattle.surveying.proofs.Tables as S
 use Rattle.renaming.proofs.Tables as T
 use Rattle.renaming.proofs.Renamed as R
 use Rattle.renaming.proofs.rename.rename_with.Statement.{statement}
@@ -22,7 +23,7 @@ rename-with-spec =
     (λ c. search needs)
     (λ c. search needs)
     (λ c. search needs)
-    (λ c. let c4 = c .before .before .before .before in R.tree-malformed _ _ _ (T.noted-malformed _ _ _ _ _ _ _ _ _ (c4 .note-tree .ensures) (c .enum-told .given .1)))
+    (λ c. let c4 = c .before .before .before .before in R.tree-malformed _ _ _ (S.noted-malformed _ _ _ _ _ _ _ _ _ (c4 .note-tree .ensures) (c .enum-told .given .1)))
     (λ c. search needs)
     (λ c. search needs)
-    (λ c. let c4 = c .before .before .before .before in R.tree-over _ _ _ (T.noted-over _ _ _ _ _ _ _ _ _ (c4 .note-tree .ensures) (c .enum-told2 .given .1))))
+    (λ c. let c4 = c .before .before .before .before in R.tree-over _ _ _ (S.noted-over _ _ _ _ _ _ _ _ _ (c4 .note-tree .ensures) (c .enum-told2 .given .1))))

@@ -1,9 +1,9 @@
--- `renaming::scope/scope_over` meets its contract. Assumes nothing.
+-- `surveying::scope/scope_over` meets its contract. Assumes nothing.
 use borrow.Author.Needs.{needs}
-use Rattle.renaming.proofs.Tables as T
-use Rattle.renaming.proofs.Scoped as S
-use Rattle.renaming.proofs.scope.scope_over.Statement.{statement}
-use Rattle.renaming.proofs.scope.scope_over.Tie as tie
+use Rattle.surveying.proofs.Tables as T
+use Rattle.surveying.proofs.Scoped as S
+use Rattle.surveying.proofs.scope.scope_over.Statement.{statement}
+use Rattle.surveying.proofs.scope.scope_over.Tie as tie
 
 pub scope-over-spec : {M : Type 1} → statement M
 scope-over-spec =

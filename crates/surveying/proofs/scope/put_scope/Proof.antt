@@ -1,8 +1,8 @@
--- `renaming::scope/put_scope` meets its contract. Assumes nothing.
+-- `surveying::scope/put_scope` meets its contract. Assumes nothing.
 use borrow.Author.Needs.{needs}
-use Rattle.renaming.proofs.Lists as L
-use Rattle.renaming.proofs.scope.put_scope.Statement.{statement}
-use Rattle.renaming.proofs.scope.put_scope.Tie as tie
+use Rattle.surveying.proofs.Lists as L
+use Rattle.surveying.proofs.scope.put_scope.Statement.{statement}
+use Rattle.surveying.proofs.scope.put_scope.Tie as tie
 
 pub put-scope-spec : {M : Type 1} → statement M
 put-scope-spec =

@@ -17,7 +17,7 @@ use Rattle.emit.specs.bridge.Emit.{Em, em, puts}
 use Rattle.emit.proofs.Laws.{puts-append}
 use Rattle.names.proofs.Laws.{listing-at}
 use Rattle.scoping.specs.bridge.Becomes.{chosen}
-use Rattle.renaming.specs.bridge.Code.{chosenText, tabbed}
+use Rattle.surveying.specs.bridge.Code.{chosenText, tabbed}
 
 -- ---- one name
 

@@ -1,10 +1,10 @@
--- `renaming::scope/put_name` meets its contract. Assumes nothing.
+-- `surveying::scope/put_name` meets its contract. Assumes nothing.
 use Rattle.names.specs.bridge.Names.{startsOf, sizesOf}
 use Rattle.names.proofs.Columns.{column-is}
 use borrow.Author.Needs.{needs}
-use Rattle.renaming.proofs.Lists as L
-use Rattle.renaming.proofs.scope.put_name.Statement.{statement}
-use Rattle.renaming.proofs.scope.put_name.Tie as tie
+use Rattle.surveying.proofs.Lists as L
+use Rattle.surveying.proofs.scope.put_name.Statement.{statement}
+use Rattle.surveying.proofs.scope.put_name.Tie as tie
 
 pub put-name-spec : {M : Type 1} → statement M
 put-name-spec =

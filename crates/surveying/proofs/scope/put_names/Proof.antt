@@ -1,4 +1,4 @@
--- `renaming::scope/put_names` meets its contract. Assumes nothing.
+-- `surveying::scope/put_names` meets its contract. Assumes nothing.
 use borrow.Author.Needs.{needs}
 use Prim.Native.Nat.{_+_, _-_, _≤_}
 use mathlib.Core.Path.{_≡_, refl, sym, ap, _∙_}
@@ -8,10 +8,10 @@ use lib.ListN.{length, drop}
 use Rattle.names.specs.bridge.Names.{listing, startsOf, sizesOf}
 use Rattle.emit.specs.bridge.Emit.{em}
 use Rattle.scoping.specs.bridge.Becomes.{chosen}
-use Rattle.renaming.specs.bridge.Code.{tabbed}
-use Rattle.renaming.proofs.Lists as L
-use Rattle.renaming.proofs.scope.put_names.Statement.{statement}
-use Rattle.renaming.proofs.scope.put_names.Tie as tie
+use Rattle.surveying.specs.bridge.Code.{tabbed}
+use Rattle.surveying.proofs.Lists as L
+use Rattle.surveying.proofs.scope.put_names.Statement.{statement}
+use Rattle.surveying.proofs.scope.put_names.Tie as tie
 
 abbrev Inv-loop : tie.InvT-loop
 Inv-loop tree table n flags base out₀ at to₀ k₀ out to k =

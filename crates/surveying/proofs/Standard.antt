@@ -19,7 +19,7 @@ use Rattle.scoping.specs.Numbering.{inScopeByPlace, hiddenByPlace}
 use Rattle.scoping.specs.InScope.{inScope, servicesNamed}
 use Rattle.scoping.proofs.Standard.{in-scope-standard}
 use Rattle.scoping.proofs.Numbered.{numbered-in-scope, in-scope-once}
-use Rattle.renaming.specs.Scope.{scopeText, scopeOutcome}
+use Rattle.surveying.specs.Scope.{scopeText, scopeOutcome}
 
 -- where scope writes bytes, its text is a tree's, and the names of the line `in` are the set in scope by section 18.2.1 of this tree with its services named by IRIs
 pub scope-standard : (tree b i : Bytes) → isIri i ≡ true → scopeOutcome tree ≡ written b

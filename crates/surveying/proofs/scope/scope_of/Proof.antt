@@ -1,10 +1,10 @@
--- `renaming::scope/scope_of` meets its contract. Assumes nothing.
+-- `surveying::scope/scope_of` meets its contract. Assumes nothing.
 use borrow.Author.Needs.{needs}
 use native.Mathlib.Omega.{arith}
-use Rattle.renaming.proofs.Tables as T
-use Rattle.renaming.proofs.Scoped as S
-use Rattle.renaming.proofs.scope.scope_of.Statement.{statement}
-use Rattle.renaming.proofs.scope.scope_of.Tie as tie
+use Rattle.surveying.proofs.Tables as T
+use Rattle.surveying.proofs.Scoped as S
+use Rattle.surveying.proofs.scope.scope_of.Statement.{statement}
+use Rattle.surveying.proofs.scope.scope_of.Tie as tie
 
 pub scope-of-spec : {M : Type 1} → statement M
 scope-of-spec =

@@ -22,9 +22,9 @@ use Rattle.walking.specs.bridge.Rewritten.{flagSpots}
 use Rattle.walking.proofs.Noted.{spotted-inside, flagged-tree}
 use Rattle.answers.specs.declared.Answer.the-variants.{Written, Malformed, OverBound, TooShort}
 use Rattle.answers.specs.Outcome.{written, Reported, Answered}
-use Rattle.renaming.specs.Scope.{scopeText, scopeOutcome}
-use Rattle.renaming.specs.bridge.Code.{Surveyed, chosenText}
-use Rattle.renaming.proofs.Tables.{known-valid, known-depth, known-few, known-names, known-named, known-lines}
+use Rattle.surveying.specs.Scope.{scopeText, scopeOutcome}
+use Rattle.surveying.specs.bridge.Code.{Surveyed, chosenText}
+use Rattle.surveying.proofs.Tables.{known-valid, known-depth, known-few, known-names, known-named, known-lines}
 use Rattle.walking.proofs.Chosen.{chosen-in-scope, chosen-hidden}
 use Rattle.answers.proofs.Answers.{too-short, all-written, answered}
 

@@ -21,9 +21,9 @@ ghost use lib.ListN.{length};
 ghost use Rattle.names.specs.bridge.Names.{startsOf, sizesOf, namesIn, nameIn};
 ghost use Rattle.emit.specs.bridge.Emit.{em, puts};
 ghost use Rattle.answers.specs.Outcome.{Answered};
-ghost use Rattle.renaming.specs.Scope.{scopeOutcome};
+ghost use Rattle.surveying.specs.Scope.{scopeOutcome};
 ghost use Rattle.scoping.specs.bridge.Becomes.{chosen};
-ghost use Rattle.renaming.specs.bridge.Code.{Surveyed, chosenText, tabbed};
+ghost use Rattle.surveying.specs.bridge.Code.{Surveyed, chosenText, tabbed};
 
 // The names whose flags from `base` on are set, each after a tab.
 fn put_names(

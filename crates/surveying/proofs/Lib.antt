@@ -1,0 +1,4 @@
+pub mod Lists
+pub mod Tables
+pub mod Scoped
+pub mod Standard
