@@ -17,7 +17,7 @@ PAGE = pathlib.Path("docs/BELIEVE.md")
 # Where the public contracts stand, and the theorems of the demands and requests.
 START = [
     "gandeuch/src/lib.rt", "answering/src/lib.rt", "demand3/proofs/Theorem.antt", "demand3/proofs/Returned.antt", "merging/proofs/Order.antt",
-    "scoping/proofs/Standard.antt", "renaming/proofs/Standard.antt", "room/proofs/Theorem.antt",
+    "scoping/proofs/Standard.antt", "surveying/proofs/Standard.antt", "room/proofs/Theorem.antt",
 ]
 APART = ("Examples", "Cases")
 USE = re.compile(r"^\s*(?:pub )?(?:ghost )?use Rattle·(\w+?)(?:·specs|·proofs)?\.specs\.([\w.]+)", re.M)

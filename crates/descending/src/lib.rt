@@ -1,2 +1,2 @@
-// A checked tree renamed by its noted lines: patterns and expressions call one another, remaining depth falling.
+// A checked tree renamed by its noted lines, in one descent.
 pub mod tree;

@@ -56,7 +56,7 @@ cases =
     ∷ gives (pushConstants "query\task\t-\t-\nproject\t?Label\nbgp\t0\n" "") "query\task\t-\t-\nproject\t?v0Label\nbgp\t0\n"
     -- 10: no left tree
     ∷ refuses (mergePatterns "" "project\t?b\nbgp\t0\n" "" "" "") 1
-    -- beyond the ten: constants on both sides by rising position, and a head line
+    -- beyond the ten: constants by rising position, and a head line
     ∷ gives (mergeQueries "query\task\t-\t<b>\nproject\t?a\t?b\t?c\nbgp\t0\n" "query\task\t-\t<b>\nproject\t?d\nbgp\t0\n" "1\t0\n" "2\t\"x\"\n0\t<k>\n" "")
     "query\task\t-\t<b>\nproject\t?j0\njoin\njoin\nbgp\t0\nvalues\t2\t1\ncols\t?l0\t?l2\nrow\t<k>\t\"x\"\nbgp\t0\n"
     -- lists by falling position on both sides: a Values each, the left side's first

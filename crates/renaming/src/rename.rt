@@ -7,6 +7,7 @@ use descending::tree::rename_tree;
 use lines::fields::Node;
 use lines::fields::Spot;
 use lists::Entry as Pair;
+use lists::Pairs;
 use lists::check_mapping;
 use lists::field_at;
 use names::Entry;
@@ -55,7 +56,7 @@ fn find_targets(
     hints: &[u16; 2048],
     n: usize,
     mapping: &[u8],
-    keys: &[Pair; ENTRIES],
+    keys: &Pairs,
     m: usize,
     news: &mut [Entry; 1024],
 )
