@@ -1,4 +1,6 @@
 pub mod Hints
 pub mod Laws
 pub mod Columns
+pub mod Clean
+pub mod Narrow
 pub mod Cleared

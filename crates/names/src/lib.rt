@@ -11,6 +11,7 @@ ghost use lib.ListN.{length, set, replicate, drop};
 ghost use Rattle.text.specs.Text.{same, piece as pieceOf};
 ghost use Rattle.algebra.specs.Valid.{mem};
 ghost use Rattle.names.specs.bridge.Names.{hashOf, placeOf, startsOf, sizesOf, after as afterOf, Leads, Hinted, Free, Grows, Lists, kept, namesIn, HoldsIn, nameIn};
+ghost use Rattle.names.specs.bridge.Narrow.{narrowEntry};
 
 // An entry of the table: a name's start and size.
 pub type Entry = [u16; 2];
@@ -200,10 +201,10 @@ fn put_hint(hints: &mut [u16; 2048], at: usize, hint: u16)
     }
 }
 
-// Stores a name's start and size at an entry.
+// Stores a name's start and size at an entry. These two casts are all that the table keeps of a name (`narrow-loses-nothing`).
 fn put_entry(table: &mut [Entry; 1024], n: usize, from: usize, size: usize)
     requires { ⌜ (n < 1024) × (from < 65536) × (size < 65536) ⌝ }
-    ensures { λ r. ⌜ (startsOf (now (table .exit)) ≡ set (startsOf (now (table .entry))) n from) × (sizesOf (now (table .exit)) ≡ set (sizesOf (now (table .entry))) n size) ⌝ }
+    ensures { λ r. ⌜ now (table .exit) ≡ set (now (table .entry)) n (narrowEntry from size) ⌝ }
 {
     table[n] = [from as u16, size as u16];
 }

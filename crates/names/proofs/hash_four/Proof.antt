@@ -1,6 +1,5 @@
 -- `names::hash_four` meets its contract. Assumes nothing.
 use borrow.Author.Needs.{needs}
-use native.Mathlib.Omega.{arith}
 use Rattle.names.proofs.Laws as L
 use Rattle.names.proofs.hash_four.Statement.{statement}
 use Rattle.names.proofs.hash_four.Tie as tie

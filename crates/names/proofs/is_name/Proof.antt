@@ -1,8 +1,6 @@
 -- `names::is_name` meets its contract. Assumes nothing.
 use borrow.Author.Needs.{needs}
-use mathlib.Core.Path.{_≡_, refl, sym, _∙_, ap}
 use denote.Ref.{now}
-use Rattle.text.specs.Text.{same, piece}
 use Rattle.names.proofs.Columns.{column-at}
 use Rattle.names.proofs.is_name.Statement.{statement}
 use Rattle.names.proofs.is_name.Tie as tie

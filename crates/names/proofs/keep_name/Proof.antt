@@ -1,9 +1,9 @@
 -- `names::keep_name` meets its contract. Assumes nothing.
 use borrow.Author.Needs.{needs}
 use Prim.Native.Nat.{ℕ, _+_, _-_, _*_, _≤_, _<_}
-use mathlib.Core.Path.{_≡_, refl, sym, _∙_, ap}
 use native.Mathlib.Omega.{arith}
 use Rattle.names.proofs.Laws as L
+use Rattle.names.proofs.Narrow.{entry-set}
 use Rattle.names.proofs.keep_name.Statement.{statement}
 use Rattle.names.proofs.keep_name.Tie as tie
 
@@ -21,4 +21,4 @@ keep-name-spec =
     (λ c. search needs)
     (λ c κs. search needs)
     (λ c. search needs)
-    (λ c. let c2 = c .before .before in let c4 = c2 .before .before in let c5 = c4 .before in let c7 = c5 .before .before in let c10 = c7 .before .before .before in let c11 = c10 .before in rw (← c10 .piece .ensures, c2 .put-entry .ensures .0, c2 .put-entry .ensures .1) ((λ want h. L.keep-new _ _ _ _ _ _ want h _ (c11 .if1 .left) (c7 .probe .ensures .0 .2) (c7 .probe .ensures .0 .0) (c5 .if2 .left) _ _ _ (c10 .piece .ensures) (c4 .if3 .left) (c .put-hint .ensures _ (c7 .probe .ensures .1 (let x = c7 .probe .ensures .0 .0 in let y = c5 .if2 .left in omega (arith, x, y))))), L.lists-new _ _ _ _ _ _ _ (c11 .if1 .left) (c4 .if3 .left) (c10 .piece .ensures))))
+    (λ c. let c2 = c .before .before in let c4 = c2 .before .before in let c5 = c4 .before in let c7 = c5 .before .before in let c10 = c7 .before .before .before in let c11 = c10 .before in let c13 = c11 .before .before in let k = entry-set (c13 .args .table .now) _ (c13 .args .n) _ _ (c13 .pre .0) (c13 .pre .1) (c2 .put-entry .ensures) in rw (← c10 .piece .ensures, k .0, k .1) ((λ want h. L.keep-new _ _ _ _ _ _ want h _ (c11 .if1 .left) (c7 .probe .ensures .0 .2) (c7 .probe .ensures .0 .0) (c5 .if2 .left) _ _ _ (c10 .piece .ensures) (c4 .if3 .left) (c .put-hint .ensures _ (c7 .probe .ensures .1 (let x = c7 .probe .ensures .0 .0 in let y = c5 .if2 .left in omega (arith, x, y))))), L.lists-new _ _ _ _ _ _ _ (c11 .if1 .left) (c4 .if3 .left) (c10 .piece .ensures))))

@@ -1,6 +1,5 @@
 -- `names::place` meets its contract. Assumes nothing.
 use borrow.Author.Needs.{needs}
-use native.Mathlib.Omega.{arith}
 use Rattle.names.proofs.Laws as L
 use Rattle.names.proofs.place.Statement.{statement}
 use Rattle.names.proofs.place.Tie as tie

@@ -1,6 +1,8 @@
 -- `names::put_entry` meets its contract. Assumes nothing.
 use borrow.Author.Needs.{needs}
-use Rattle.names.proofs.Columns.{column-set}
+use mathlib.Core.Path.{sym, ap}
+use lib.ListN.{set}
+use Rattle.names.proofs.Narrow.{kept-whole}
 use Rattle.names.proofs.put_entry.Statement.{statement}
 use Rattle.names.proofs.put_entry.Tie as tie
 
@@ -12,4 +14,4 @@ put-entry-spec =
     (λ c. search needs)
     (λ c. search needs)
     (λ c. search needs)
-    (λ c. (column-set 0 _ _ _, column-set 1 _ _ _)))
+    (λ c. ap (set (c .args .table .now) (c .args .n)) (sym (kept-whole _ _ (c .pre .1) (c .pre .2)))))

@@ -1,6 +1,5 @@
 -- `names::put_hint` meets its contract. Assumes nothing.
 use borrow.Author.Needs.{needs}
-use native.Mathlib.Omega.{arith}
 use Rattle.names.proofs.put_hint.Statement.{statement}
 use Rattle.names.proofs.put_hint.Tie as tie
 

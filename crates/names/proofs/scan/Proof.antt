@@ -3,7 +3,6 @@ use borrow.Author.Needs.{needs}
 use Prim.Native.Nat.{ℕ, _+_, _-_, _*_, _≤_, _<_}
 use mathlib.Core.Path.{_≡_, refl, sym, _∙_, ap}
 use native.Mathlib.Omega.{arith}
-use lib.ListN.{length, getD, drop}
 use Rattle.names.proofs.Laws as L
 use Rattle.algebra.specs.Valid.{mem}
 use mathlib.Core.Bool.{true, false}
