@@ -13,7 +13,7 @@ use Rattle.text.proofs.Places.{lines-end}
 use Rattle.algebra.specs.Tally.{Tally, bounds, start}
 use Rattle.algebra.specs.Reader.{malformed, overBound}
 use Rattle.algebra.specs.bridge.Table.{Sort}
-use Rattle.algebra.specs.bridge.Machine.{Want, want, More, done, entries, demand, Check, good, bad, run, turn, checkText}
+use Rattle.algebra.specs.bridge.Machine.{Want, want, More, done, entries, Check, good, bad, run, checkText}
 use Rattle.algebra.specs.declared.Answer.{Answer}
 use Rattle.algebra.specs.declared.Answer.the-variants as A
 use Rattle.names.specs.bridge.Names.{Holds}

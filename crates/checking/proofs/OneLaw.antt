@@ -1,17 +1,15 @@
 -- One line that is awaited alone: before it nothing has happened, and behind it the run and the walk are that line's. Assumes nothing.
-use Prim.Native.Nat.{ℕ, zero, suc, _-_, _≤_, _<_}
-use mathlib.Core.Path.{_≡_, refl, sym, _∙_, ap, subst}
+use Prim.Native.Nat.{ℕ, _-_, _≤_, _<_}
+use mathlib.Core.Path.{_≡_, _∙_, ap, subst}
 use mathlib.Core.List.{List, [], _∷_}
 use mathlib.Core.Bool.{Bool, true, false}
 use native.Mathlib.Omega.{arith}
 use lib.Dec.{eqb}
-use Rattle.text.specs.Text.{Bytes}
-use Rattle.algebra.specs.bridge.Machine.{Want, want}
+use Rattle.algebra.specs.bridge.Machine.{want}
 use Rattle.scoping.specs.bridge.Places.{Mark, visible}
 use Rattle.words.specs.bridge.Code.{sortAt}
 use Rattle.checking.specs.declared.place.Place.{Place}
 use Rattle.lines.specs.bridge.Says.{below}
-use Rattle.lines.specs.bridge.Spotted.{markAt}
 use Rattle.checking.specs.bridge.Walks.{Book, Walks, HeadWalks, entryOf}
 use Rattle.lines.specs.bridge.Below.{markUnder}
 use Rattle.checking.proofs.DescentLaw.{SamePlace, Rest, rest-begin, rest-then, rest-to}

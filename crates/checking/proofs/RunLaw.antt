@@ -1,21 +1,19 @@
 -- The machine's run over a text by places in it: a turn of the run by its ways out, and the fields of a line. Assumes nothing.
-use Prim.Native.Nat.{ℕ, zero, suc, _+_, _-_, _≤_, _<_, zero-le, suc-le-suc}
-use mathlib.Core.Path.{_≡_, refl, sym, _∙_, ap}
+use Prim.Native.Nat.{ℕ, suc, _+_, _-_, _≤_, _<_, zero-le, suc-le-suc}
+use mathlib.Core.Path.{_≡_, refl, sym, _∙_}
 use mathlib.Core.List.{List, [], _∷_, _++_}
-use mathlib.Core.Bool.{Bool, true, false, cond, not, _&&_}
+use mathlib.Core.Bool.{true}
 use mathlib.Core.Option.{Option, none, some}
-use native.Mathlib.Nat.{le-refl, sub-zero}
 use native.Mathlib.Omega.{arith}
-use lib.ListN.{length, getD, take, drop, length-take, length-drop}
-use lib.Seq.{take-length, getD-take, getD-drop}
-use lib.Dec.{eqb, ltb}
+use lib.ListN.{length, getD, drop, length-take}
+use lib.Seq.{getD-take, getD-drop}
 use borrow.Author.Tests.{ne-eqb, lt-ltb, le-ltb}
 use Rattle.text.specs.Text.{Bytes, Line, split, linesFrom, part, First}
 use Rattle.text.specs.Field.{Kind, clean, isKind, fits}
 use Rattle.text.proofs.Places.{lines-start}
 use Rattle.algebra.specs.Tally.{bounds, Tally, start}
-use Rattle.algebra.specs.Reader.{Refusal, malformed, overBound, Got, got, refused, one}
-use Rattle.algebra.specs.bridge.Machine.{Want, lineOf, Check, good, bad, resume, More, Demand, demand, turn, run, checkText}
+use Rattle.algebra.specs.Reader.{Refusal, malformed, overBound, got, refused, one}
+use Rattle.algebra.specs.bridge.Machine.{Want, lineOf, good, bad, More, Demand, demand, turn, run, checkText}
 use Rattle.cursor.specs.bridge.Cursor.{left}
 use Rattle.cursor.proofs.Laws.{left-next, left-all}
 

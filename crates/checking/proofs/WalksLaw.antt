@@ -1,13 +1,13 @@
 -- The descent and the walk: one after the other, and each way out of a line. Assumes nothing.
 use Prim.Native.Nat.{ℕ, zero, suc, _+_, _-_, _*_, _/_, _%_, _≤_, _<_}
 use mathlib.Core.Path.{_≡_, refl, sym, _∙_, ap, ap₂, subst, subst₂}
-use mathlib.Core.List.{List, [], _∷_, _++_, map, append-nil}
-use mathlib.Core.Bool.{Bool, true, false, cond, not, _&&_, true≢false}
+use mathlib.Core.List.{List, [], _∷_, _++_, append-nil}
+use mathlib.Core.Bool.{Bool, true, false, cond, true≢false}
 use mathlib.Core.Logic.{⊎-elim}
 use native.Mathlib.Numerals.{add-one}
 use native.Mathlib.Nat.{mul-add-mod-self-right, mod-mod, mod-eq-of-lt, div-add-mod'}
 use native.Mathlib.Omega.{arith}
-use lib.ListN.{length, getD, set, length-set, List·getD-map}
+use lib.ListN.{length, set, length-set}
 use lib.Seq.{getD-set-same, getD-set-other}
 use lib.Dec.{eqb}
 use borrow.Author.Tests.{eq-eqb, ne-eqb, eqb-true, eqb-false}
@@ -17,11 +17,11 @@ use Rattle.cursor.specs.declared.Cursor.{Cursor}
 use Rattle.cursor.specs.bridge.Cursor.{lineAt, lineDone}
 use Rattle.algebra.specs.declared.Answer.{Answer}
 use Rattle.algebra.specs.declared.Answer.the-variants as A
-use Rattle.algebra.specs.bridge.Table.{Sort, patterns, heads, Below, opens}
+use Rattle.algebra.specs.bridge.Table.{patterns, heads, Below, opens}
 use Rattle.algebra.specs.bridge.Machine.{Check}
 use Rattle.scoping.specs.bridge.Places.{Mark, visible, covered, silent, under}
 use Rattle.scoping.specs.bridge.Walk.{State, state, times as many, child, beneath, whole, tree}
-use Rattle.scoping.specs.bridge.Spots.{Spot, Node, node, groupsBelow, noted, Trace, trace, spotLine}
+use Rattle.scoping.specs.bridge.Spots.{Node, node, groupsBelow, noted, Trace, trace, spotLine}
 use Rattle.words.specs.declared.Found.the-variants.{Is, None}
 use Rattle.words.specs.bridge.Code.{sortAt, groupsIn, rowOf, found}
 use Rattle.words.specs.bridge.Words.{codeAt}

@@ -1,24 +1,23 @@
 -- What each step along a line adds to the spots. Assumes nothing.
-use Prim.Native.Nat.{ℕ, suc, _+_, _-_, _≤_, _<_}
-use mathlib.Core.Path.{_≡_, refl, sym, _∙_, ap, subst}
-use mathlib.Core.List.{List, [], _∷_, _++_}
-use mathlib.Core.Option.{Option, none, some}
+use Prim.Native.Nat.{ℕ, _+_, _-_, _≤_}
+use mathlib.Core.Path.{_≡_, refl}
+use mathlib.Core.List.{List, [], _∷_}
+use mathlib.Core.Option.{some}
 use native.Mathlib.Omega.{arith}
-use lib.ListN.{length}
 use Rattle.text.specs.Text.{Bytes, piece}
-use Rattle.text.specs.Field.{Kind, variable}
+use Rattle.text.specs.Field.{Kind}
 use Rattle.cursor.specs.declared.Cursor.{Cursor}
 use Rattle.cursor.proofs.Laws.{Next}
 use Rattle.algebra.specs.bridge.Table.{Slot, term, text, count, choice}
 use Rattle.scoping.specs.bridge.Places.{Mark}
-use Rattle.words.specs.bridge.Code.{oneSlot, tailOf}
+use Rattle.words.specs.bridge.Code.{tailOf}
 use Rattle.lines.specs.bridge.Line.{takeField, takeTail}
-use Rattle.lines.specs.bridge.Steps.{InLine, leftAt, Along, Follows, restOf, restIn}
+use Rattle.lines.specs.bridge.Steps.{InLine, leftAt, Follows, restOf, restIn}
 use Rattle.lines.specs.bridge.Stored.{Store, Adds, found, oneSpot}
 use Rattle.lines.proofs.StepLaw.{field, left-is, in-line}
-use Rattle.lines.proofs.RepeatLaw.{follows-along, follows-fine, follows-line}
+use Rattle.lines.proofs.RepeatLaw.{follows-fine, follows-line}
 use Rattle.lines.proofs.StoreLaw.{adds-none, adds-then, adds-front, adds-as}
-use Rattle.lines.proofs.SpotsLaw.{Passes, passes-text, passes-count, passes-choice, came-from, found-passed, found-term, found-alone, found-plain, left-size}
+use Rattle.lines.proofs.SpotsLaw.{Passes, passes-text, passes-count, passes-choice, came-from, found-passed, found-term, found-alone, found-plain}
 
 -- a term
 pub term-adds : (s : Bytes) (c : Cursor) (e : ℕ) (d : Cursor) (line : InLine s c) (here : Next s c e d) (A B : Store) (m : Mark) (κ : Kind) (ss : List Slot)

@@ -1,13 +1,12 @@
 -- Terms that go into the table, choices, and how many fields are left. Assumes nothing.
 use Prim.Native.Nat.{ℕ, zero, suc, _+_, _-_, _≤_, _<_}
-use mathlib.Core.Path.{_≡_, refl, sym, _∙_, ap, ap₂, subst}
+use mathlib.Core.Path.{_≡_, refl, sym, _∙_, ap}
 use mathlib.Core.List.{List, [], _∷_, _++_, append-assoc, append-nil}
 use mathlib.Core.Bool.{Bool, true, false, cond}
 use mathlib.Core.Option.{Option, none, some}
 use native.Mathlib.Omega.{arith}
 use lib.ListN.{length, length-take, length-drop}
 use lib.Dec.{eqb, leb}
-use borrow.Author.Tests.{le-leb, lt-leb}
 use Rattle.text.specs.Text.{Bytes, split, onto, part}
 use Rattle.text.specs.Field.{numberOf}
 use Rattle.cursor.specs.declared.Cursor.{Cursor}

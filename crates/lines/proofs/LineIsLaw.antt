@@ -1,27 +1,24 @@
 -- A line by its word, its fields and the bounds: each way out of the code is what the line machine does. Assumes nothing.
-use Prim.Native.Nat.{ℕ, zero, suc, _+_, _≤_, _<_, pred}
-use mathlib.Core.Path.{_≡_, refl, sym, _∙_, ap, subst}
-use mathlib.Core.List.{List, [], _∷_}
-use mathlib.Core.Bool.{Bool, true, false, cond}
-use mathlib.Core.Option.{Option, none, some}
+use Prim.Native.Nat.{ℕ, _+_, _≤_, _<_}
+use mathlib.Core.Path.{_≡_, sym, _∙_, ap, subst}
+use mathlib.Core.List.{List, _∷_}
+use mathlib.Core.Bool.{Bool, true, false}
+use mathlib.Core.Option.{some}
 use native.Mathlib.Omega.{arith}
-use lib.ListN.{length, getD}
+use lib.ListN.{length}
 use Rattle.text.specs.Text.{Bytes, split, part}
 use Rattle.cursor.specs.declared.Cursor.{Cursor}
 use Rattle.cursor.proofs.Laws.{left-all, Next}
 use Rattle.algebra.specs.Tally.{Tally, bounds, within, notes}
-use Rattle.algebra.specs.Reader.{malformed, overBound, got, refused}
-use Rattle.algebra.specs.bridge.Table.{Row, rowFor, opens}
-use Rattle.algebra.specs.bridge.Machine.{want, wants, lineOf}
+use Rattle.algebra.specs.bridge.Table.{rowFor, opens}
 use Rattle.words.specs.declared.Row.{Row as Code}
 use Rattle.words.specs.declared.Found.{Found}
 use Rattle.words.specs.declared.Found.the-variants.{Is, None}
 use Rattle.words.specs.bridge.Code.{sortAt, rowOf, rowFound, Tidy}
 use Rattle.names.specs.bridge.Names.{Holds}
 use Rattle.names.proofs.Laws.{holds-long}
-use Rattle.lines.specs.declared.line.Line.{Line}
 use Rattle.lines.specs.declared.line.Line.the-variants.{Asks, Malformed, OverBound}
-use Rattle.lines.specs.bridge.Line.{Fields, takeLine, columnsOf}
+use Rattle.lines.specs.bridge.Line.{Fields, takeLine}
 use Rattle.lines.specs.bridge.Steps.{InLine, leftAt, termsIn}
 use Rattle.lines.specs.bridge.Says.{Says, LineIs}
 use Rattle.lines.proofs.StepLaw.{field, left-is}

@@ -1,9 +1,9 @@
 -- What a line asks for, or how it is refused: one law a way out, and how the line is counted. Assumes nothing.
 use Prim.Native.Nat.{ℕ, zero, suc, _+_, _≤_, _<_, pred, max}
-use mathlib.Core.Path.{_≡_, refl, sym, _∙_, ap}
+use mathlib.Core.Path.{_≡_, refl, _∙_}
 use mathlib.Core.List.{List, [], _∷_, _++_}
 use mathlib.Core.Bool.{Bool, true, false, cond, _&&_}
-use mathlib.Core.Option.{Option, none, some}
+use mathlib.Core.Option.{none, some}
 use native.Mathlib.Omega.{arith}
 use lib.ListN.{length}
 use lib.Dec.{leb}
@@ -12,10 +12,10 @@ use Rattle.text.specs.Text.{Bytes}
 use Rattle.text.specs.Field.{isVar}
 use Rattle.algebra.specs.Valid.{mem}
 use Rattle.algebra.specs.Tally.{bounds, Tally, within, notes, noted, headed}
-use Rattle.algebra.specs.Reader.{malformed, overBound, Got, got, refused, one, end, tooMany}
-use Rattle.algebra.specs.bridge.Table.{Slot, Tail, nothing, columns, variables, texts, values, value, Sort, Row, rowFor, opens}
-use Rattle.algebra.specs.bridge.Machine.{Want, want, wants, closing, lineOf}
-use Rattle.words.specs.bridge.Code.{tailOf, slotsUnder, rowOf}
+use Rattle.algebra.specs.Reader.{malformed, overBound, got, refused, one, end, tooMany}
+use Rattle.algebra.specs.bridge.Table.{Tail, nothing, columns, variables, texts, values, value, Sort, Row, rowFor, opens}
+use Rattle.algebra.specs.bridge.Machine.{want, wants, closing, lineOf}
+use Rattle.words.specs.bridge.Code.{rowOf}
 use Rattle.words.specs.declared.Row.{Row as Code}
 use Rattle.lines.specs.bridge.Line.{Fields, takeLine, columnsOf}
 use Rattle.lines.proofs.LineTook.{counted, Refuses, lineGot, line-took}

@@ -2,7 +2,7 @@
 use Prim.Native.Nat.{ℕ, zero, suc, _+_, _-_, _/_, _%_, _≤_, _<_}
 use mathlib.Core.Path.{_≡_, refl, sym, _∙_, ap, ap₂, subst}
 use mathlib.Core.List.{List, [], _∷_, _++_, append-nil}
-use mathlib.Core.Bool.{Bool, true, false, cond, not, _&&_, _||_, true≢false, false≢true}
+use mathlib.Core.Bool.{Bool, true, false, cond, not, _&&_, _||_, false≢true}
 use mathlib.Core.Option.{Option, none, some}
 use native.Mathlib.Omega.{arith}
 use lib.ListN.{length, getD}
@@ -16,16 +16,15 @@ use Rattle.text.proofs.Basics.{and-left, and-right, same-eq}
 use Rattle.cursor.specs.declared.Cursor.{Cursor}
 use Rattle.cursor.proofs.Laws.{left-all, Next}
 use Rattle.algebra.specs.Reader.{kept, zeroOne}
-use Rattle.algebra.specs.bridge.Table.{Slot, term, text, count, choice, Tail, Sort, triples, columns, patterns, expressions, rows, orders, aggregates, heads, sets, positions, valueRows, parts, Row, row as row-of, one, _of_, Entry, rowsOf, rowIn, rowFor, opens}
+use Rattle.algebra.specs.bridge.Table.{Slot, term, text, count, choice, Sort, triples, columns, patterns, expressions, rows, orders, aggregates, heads, sets, positions, valueRows, parts, Row, row as row-of, one, _of_, Entry, rowsOf, rowIn, rowFor, opens}
 use Rattle.scoping.specs.bridge.Places.{Mark}
 use Rattle.scoping.specs.bridge.Walk.{State, state, numberIn, hides, beneath, whole}
-use Rattle.scoping.specs.bridge.Spots.{Spot, spotsIn, fieldsSize, Node, node, Group, groupsBelow, noted, Trace, trace, lineSpots, lineNodes, spotLine}
+use Rattle.scoping.specs.bridge.Spots.{Spot, spotsIn, fieldsSize, Node, node, Group, noted, Trace, trace, lineSpots, lineNodes, spotLine}
 use Rattle.words.specs.declared.Row.{Row as Code}
 use Rattle.words.specs.declared.Found.{Found}
-use Rattle.words.specs.declared.Found.the-variants.{Is, None}
+use Rattle.words.specs.declared.Found.the-variants.{Is}
 use Rattle.words.specs.bridge.Code.{oneSlot, slotsIn, mapped, sortAt, rowOf, rowFound, sortsIn, counting, countsIn, inTree, Tidy, flagOf, Flags}
 use Rattle.lines.specs.declared.line.Asked.{Asked}
-use Rattle.lines.specs.declared.line.Line.{Line as Read}
 use Rattle.lines.specs.declared.line.Line.the-variants.{Asks, Malformed, OverBound}
 use Rattle.lines.specs.bridge.Below.{amountIn}
 use Rattle.lines.specs.bridge.Line.{andThen, Took, took, takeField, Fields, fields, takeSlots, takeTail, takeLine}

@@ -1,28 +1,23 @@
 -- Several fields of a line, one after the other, as the code takes them. Assumes nothing.
 use Prim.Native.Nat.{ℕ, zero, suc, _+_, _-_, _≤_, _<_}
-use mathlib.Core.Path.{_≡_, refl, sym, _∙_, ap, ap₂, subst}
-use mathlib.Core.List.{List, [], _∷_, _++_, append-assoc}
-use mathlib.Core.Bool.{Bool, true, false, cond, not, _&&_}
+use mathlib.Core.Path.{_≡_, refl, sym, _∙_, ap, subst}
+use mathlib.Core.List.{List, [], _∷_, _++_}
+use mathlib.Core.Bool.{Bool, true, false, _&&_}
 use mathlib.Core.Option.{Option, none, some}
-use native.Mathlib.Numerals.{add-one}
 use native.Mathlib.Omega.{arith}
-use lib.ListN.{length, getD}
 use Rattle.text.specs.Text.{Bytes}
-use Rattle.text.specs.Field.{Kind, variable, lexical, numberOf, fits, allFit}
+use Rattle.text.specs.Field.{Kind, lexical, numberOf, fits}
 use Rattle.text.specs.declared.Number.{Number}
 use Rattle.text.specs.declared.Number.the-variants.{Is, Not}
 use Rattle.text.specs.bridge.Code.{numberIn, kindAt}
 use Rattle.cursor.specs.declared.Cursor.{Cursor}
-use Rattle.cursor.specs.bridge.Cursor.{left}
 use Rattle.cursor.proofs.Laws.{left-none, Next}
 use Rattle.algebra.specs.Reader.{kept}
-use Rattle.algebra.specs.Tally.{notes}
-use Rattle.algebra.specs.bridge.Table.{Slot, term, text, count, choice}
+use Rattle.algebra.specs.bridge.Table.{Slot, text, count}
 use Rattle.words.specs.bridge.Code.{mapped, extraOf, extraFound}
-use Rattle.names.specs.bridge.Names.{Holds}
 use Rattle.lines.specs.bridge.Line.{andThen, Took, took, takeField, Fields, fields, takeTimes, takeValue, takeValues}
-use Rattle.lines.specs.bridge.Steps.{InLine, leftAt, Along, Follows, restOf, restIn, termsOf, termsIn, numberTaken}
-use Rattle.lines.proofs.StepLaw.{Failed, field, left-is, in-line, step-follows}
+use Rattle.lines.specs.bridge.Steps.{InLine, leftAt, Along, Follows, restOf, restIn}
+use Rattle.lines.proofs.StepLaw.{field, left-is, step-follows}
 
 -- ---- where a step left the cursor
 

@@ -1,22 +1,22 @@
 -- The fields of a whole line, slots and tail together. Assumes nothing.
-use Prim.Native.Nat.{ℕ, zero, suc, _+_, _≤_, _<_}
-use mathlib.Core.Path.{_≡_, refl, sym, _∙_, ap, subst}
-use mathlib.Core.List.{List, [], _∷_, _++_, map}
+use Prim.Native.Nat.{ℕ, _+_, _≤_, _<_}
+use mathlib.Core.Path.{_≡_, refl, sym, _∙_, ap}
+use mathlib.Core.List.{List, [], _∷_, _++_}
 use mathlib.Core.Bool.{Bool, true, false, cond}
 use mathlib.Core.Option.{Option, none, some}
-use mathlib.Core.Logic.{_⊎_, inl, inr, ⊎-elim}
+use mathlib.Core.Logic.{_⊎_, ⊎-elim}
 use native.Mathlib.Omega.{arith}
-use lib.ListN.{length, getD, List·getD-map}
-use lib.Dec.{eqb, leb}
+use lib.ListN.{getD}
+use lib.Dec.{eqb}
 use borrow.Author.Tests.{le-leb}
 use Rattle.text.specs.Text.{Bytes, split, onto, part}
 use Rattle.cursor.specs.declared.Cursor.{Cursor}
 use Rattle.cursor.specs.bridge.Cursor.{left}
 use Rattle.cursor.proofs.Laws.{left-none}
-use Rattle.algebra.specs.bridge.Table.{Sort, Tail, nothing, columns, variables, texts, values, value, opens, sorts, parts}
+use Rattle.algebra.specs.bridge.Table.{Tail, nothing, columns, variables, texts, values, value}
 use Rattle.words.specs.declared.Row.{Row as Code}
-use Rattle.words.specs.bridge.Code.{rowOf, sortAt}
-use Rattle.lines.specs.bridge.Line.{andThen, Fields, fields, takeSlots, takeTail, whole, takeLine, columnsOf}
+use Rattle.words.specs.bridge.Code.{rowOf}
+use Rattle.lines.specs.bridge.Line.{Fields, fields, takeSlots, takeTail, whole, takeLine, columnsOf}
 use Rattle.lines.specs.bridge.Steps.{InLine, leftAt, Along, Follows, restIn, termsIn, numbersIn, TookSlots}
 use Rattle.lines.specs.bridge.Says.{Says}
 use Rattle.lines.proofs.RepeatLaw.{follows-along, follows-fine, follows-fault, follows-line}

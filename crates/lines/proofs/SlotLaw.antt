@@ -1,6 +1,6 @@
 -- The slots of a row, one after the other. Assumes nothing.
 use Prim.Native.Nat.{ℕ, zero, suc, _+_, _-_, _/_, _%_, _≤_, _<_}
-use mathlib.Core.Path.{_≡_, refl, sym, _∙_, ap, ap₂, subst}
+use mathlib.Core.Path.{_≡_, refl, sym, _∙_, ap, subst}
 use mathlib.Core.List.{List, [], _∷_, _++_, append-nil, append-assoc}
 use mathlib.Core.Bool.{Bool, true, false, cond}
 use mathlib.Core.Option.{Option, none, some}
@@ -8,7 +8,7 @@ use mathlib.Core.Logic.{_⊎_, inl, inr, ⊎-elim}
 use native.Mathlib.Omega.{arith}
 use lib.Dec.{leb}
 use borrow.Author.Tests.{leb-true, leb-false, ne-eqb}
-use lib.ListN.{length, getD}
+use lib.ListN.{getD}
 use Rattle.text.specs.Text.{Bytes}
 use Rattle.text.specs.Field.{Kind, fits, numberOf}
 use Rattle.text.specs.bridge.Code.{kindAt}
@@ -20,7 +20,7 @@ use Rattle.cursor.proofs.Laws.{left-none}
 use Rattle.algebra.specs.bridge.Table.{Slot, term, text, count, choice}
 use Rattle.words.specs.bridge.Code.{oneSlot, slotsIn, mapped, slotsUnder, tailOf}
 use Rattle.lines.specs.bridge.Line.{andThen, Took, took, takeField, Fields, fields, takeSlots}
-use Rattle.lines.specs.bridge.Steps.{InLine, leftAt, Along, Follows, restOf, restIn, termsOf, termsIn, numberTaken, numbersIn, TookSlots}
+use Rattle.lines.specs.bridge.Steps.{leftAt, Along, Follows, restOf, restIn, termsOf, termsIn, numberTaken, TookSlots}
 use Rattle.lines.proofs.RepeatLaw.{follows-along, follows-fine, follows-fault}
 
 pub le-or-lt : (a b : ℕ) → (a ≤ b) ⊎ (b < a)

@@ -1,27 +1,27 @@
 -- The spots that are to come in a line, one field after the other. Assumes nothing.
 use Prim.Native.Nat.{ℕ, zero, suc, _+_, _-_, _≤_, _<_}
-use mathlib.Core.Path.{_≡_, refl, sym, _∙_, ap, ap₂, subst}
+use mathlib.Core.Path.{_≡_, refl, sym, _∙_, ap, ap₂}
 use mathlib.Core.List.{List, [], _∷_, _++_}
 use mathlib.Core.Bool.{Bool, true, false, cond, _&&_, true≢false}
 use mathlib.Core.Option.{Option, none, some}
 use mathlib.Core.Logic.{⊎-elim}
 use native.Mathlib.Omega.{arith}
-use lib.ListN.{length, getD, take, drop, length-take, length-drop}
+use lib.ListN.{length, getD, length-take, length-drop}
 use lib.Dec.{eqb, leb}
 use borrow.Author.Tests.{ne-eqb, le-leb, lt-leb}
 use Rattle.text.specs.Text.{Bytes, split, onto, part}
-use Rattle.text.specs.Field.{Kind, variable, cell, most, digitsOf, numberOf, clean, isVar, isIri, isLiteral, isDash, isKind, fits}
-use Rattle.text.proofs.Basics.{and-left, and-right}
+use Rattle.text.specs.Field.{Kind, cell, digitsOf, numberOf, clean, isVar, isIri, isLiteral, isDash, isKind, fits}
+use Rattle.text.proofs.Basics.{and-right}
 use Rattle.cursor.specs.declared.Cursor.{Cursor}
 use Rattle.cursor.specs.bridge.Cursor.{left}
 use Rattle.cursor.proofs.Laws.{left-none}
-use Rattle.algebra.specs.Reader.{kept, zeroOne}
-use Rattle.algebra.specs.bridge.Table.{Slot, term, text, count, choice, Tail, nothing, texts}
+use Rattle.algebra.specs.Reader.{kept}
+use Rattle.algebra.specs.bridge.Table.{Slot, term, text, count, choice}
 use Rattle.scoping.specs.bridge.Places.{Mark}
 use Rattle.scoping.specs.bridge.Walk.{opened}
-use Rattle.scoping.specs.bridge.Spots.{Spot, spot, spotsIn, fieldsSize}
+use Rattle.scoping.specs.bridge.Spots.{spot, spotsIn, fieldsSize}
 use Rattle.words.specs.bridge.Code.{mapped, tailOf}
-use Rattle.lines.specs.bridge.Line.{andThen, Took, took, takeField, Fields, fields, takeTimes, takeTail}
+use Rattle.lines.specs.bridge.Line.{andThen, took, takeField, takeTimes, takeTail}
 use Rattle.lines.specs.bridge.Steps.{InLine, leftAt, Along, Follows, restOf, restIn, numberTaken}
 use Rattle.lines.specs.bridge.Stored.{found, oneSpot}
 use Rattle.lines.proofs.RepeatLaw.{follows-fine, times-more, times-end}

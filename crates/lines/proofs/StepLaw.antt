@@ -1,15 +1,14 @@
 -- One field of a line, as the code takes it. Assumes nothing.
-use Prim.Native.Nat.{ℕ, zero, suc, _+_, _-_, _≤_, _<_, zero-le, suc-le-suc}
-use mathlib.Core.Path.{_≡_, refl, sym, _∙_, ap, ap₂, subst}
-use mathlib.Core.List.{List, [], _∷_, _++_}
-use mathlib.Core.Bool.{Bool, true, false, cond, not, _&&_}
+use Prim.Native.Nat.{ℕ, suc, _+_, _-_, _≤_, _<_, zero-le, suc-le-suc}
+use mathlib.Core.Path.{_≡_, refl, sym, _∙_, ap₂, subst}
+use mathlib.Core.List.{List, [], _∷_}
+use mathlib.Core.Bool.{Bool, true, false}
 use mathlib.Core.Option.{Option, none, some}
 use native.Mathlib.Omega.{arith}
-use lib.ListN.{length, getD, take, drop, length-take, length-drop}
+use lib.ListN.{length, getD, length-take, length-drop}
 use lib.Seq.{getD-take, getD-drop}
-use lib.Dec.{eqb}
 use borrow.Author.Tests.{ne-eqb}
-use Rattle.text.specs.Text.{Bytes, part, First}
+use Rattle.text.specs.Text.{Bytes, part}
 use Rattle.text.specs.Field.{Kind, clean, isKind, fits}
 use Rattle.cursor.specs.declared.Cursor.{Cursor}
 use Rattle.cursor.specs.bridge.Cursor.{left}
@@ -17,10 +16,9 @@ use Rattle.cursor.proofs.Laws.{left-none, left-next, Next}
 use Rattle.algebra.specs.Reader.{kept}
 use Rattle.algebra.specs.Tally.{notes}
 use Rattle.algebra.specs.bridge.Table.{Slot, term, text}
-use Rattle.words.specs.bridge.Code.{mapped}
 use Rattle.names.specs.bridge.Names.{Holds}
 use Rattle.lines.specs.bridge.Line.{Took, takeField}
-use Rattle.lines.specs.bridge.Steps.{InLine, leftAt, Along, Follows, restOf, termsOf}
+use Rattle.lines.specs.bridge.Steps.{InLine, leftAt, Follows, restOf, termsOf}
 
 -- bytes without a tab and without a line end
 clean-bytes : (f : Bytes) → ((k : ℕ) → k < length f → getD f k 0 ≡ 9 → ⊥) → ((k : ℕ) → k < length f → getD f k 0 ≡ 10 → ⊥) → clean f ≡ true

@@ -1,20 +1,19 @@
 -- What was noted stays while the table of names and the spots grow. Assumes nothing.
-use Prim.Native.Nat.{ℕ, zero, suc, _+_, _-_, _*_, _≤_, _<_}
-use mathlib.Core.Path.{_≡_, refl, sym, _∙_, ap, ap₂, subst}
+use Prim.Native.Nat.{ℕ, zero, suc, _+_, _-_, _≤_, _<_}
+use mathlib.Core.Path.{_≡_, refl, sym, _∙_, ap, subst}
 use mathlib.Core.List.{List, [], _∷_, _++_, append-assoc, append-nil}
-use mathlib.Core.Bool.{Bool, true, false, cond, _&&_}
+use mathlib.Core.Bool.{Bool, true, false, cond}
 use mathlib.Core.Logic.{⊎-elim}
 use native.Mathlib.Numerals.{add-one}
 use native.Mathlib.Nat.{eq-or-lt-of-le}
 use native.Mathlib.Omega.{arith}
-use lib.ListN.{length, getD, set, take, drop, length-set, length-append, length-take}
+use lib.ListN.{length, getD, set, take, length-set, length-append, length-take}
 use lib.Seq.{getD-set-same, getD-set-other, take-append-seam}
 use lib.Dec.{eqb, leb}
 use borrow.Author.Tests.{leb-true, ne-eqb}
 use Rattle.text.specs.Text.{Bytes, piece}
 use Rattle.text.specs.Field.{isVar}
 use Rattle.text.proofs.Basics.{and-left}
-use Rattle.scoping.specs.bridge.Places.{Mark}
 use Rattle.scoping.specs.bridge.Spots.{Spot, spot}
 use Rattle.names.specs.bridge.Names.{listing, Lists}
 use Rattle.names.proofs.Laws.{getD-front, listing-long}

@@ -1,8 +1,8 @@
 -- What stands behind the slots of a row. Assumes nothing.
-use Prim.Native.Nat.{ℕ, zero, suc, _+_, _≤_, _<_}
+use Prim.Native.Nat.{ℕ, zero, suc, _+_, _≤_}
 use mathlib.Core.Path.{_≡_, refl, sym, _∙_, ap, subst}
 use mathlib.Core.List.{List, [], _∷_, _++_}
-use mathlib.Core.Bool.{Bool, true, false, cond, _&&_}
+use mathlib.Core.Bool.{Bool, true, false, _&&_}
 use mathlib.Core.Option.{Option, none, some}
 use native.Mathlib.Omega.{arith}
 use lib.ListN.{length}
@@ -10,7 +10,7 @@ use Rattle.text.specs.Text.{Bytes}
 use Rattle.text.specs.Field.{Kind, variable, cell, integer, fits, allFit}
 use Rattle.cursor.specs.declared.Cursor.{Cursor}
 use Rattle.algebra.specs.Reader.{kept}
-use Rattle.algebra.specs.bridge.Table.{Slot, term, text, Tail, nothing, columns, variables, texts, values, value}
+use Rattle.algebra.specs.bridge.Table.{term, text, Tail, nothing, columns, variables, texts, values, value}
 use Rattle.words.specs.bridge.Code.{mapped, tailOf}
 use Rattle.lines.specs.bridge.Line.{andThen, Took, took, takeField, Fields, fields, takeTimes, takeValue, takeValues, takeTail, columnsOf}
 use Rattle.lines.specs.bridge.Steps.{leftAt, Follows, restIn, termsIn, termsOf}

@@ -3,7 +3,6 @@ use Prim.Native.Nat.{ℕ, zero, suc, _+_, _/_, _%_, _≤_, _<_}
 use mathlib.Core.Path.{_≡_, refl, sym, _∙_, ap, subst}
 use mathlib.Core.List.{List, [], _∷_, _++_, append-nil, append-assoc}
 use mathlib.Core.Bool.{Bool, true, false, cond}
-use native.Mathlib.Numerals.{add-one}
 use native.Mathlib.Omega.{arith}
 use lib.Dec.{eqb}
 use lib.ListN.{length, getD}
@@ -18,9 +17,9 @@ use Rattle.scoping.specs.bridge.Places.{Mark}
 use Rattle.words.specs.bridge.Code.{oneSlot, slotsIn, fitsIn}
 use Rattle.lines.specs.bridge.Line.{takeField, takeSlots}
 use Rattle.lines.specs.bridge.Steps.{InLine, leftAt, Follows, restOf, termsOf, termsIn, numberTaken, TookSlots}
-use Rattle.lines.specs.bridge.Stored.{Store, store, Adds, found}
+use Rattle.lines.specs.bridge.Stored.{store, Adds, found}
 use Rattle.lines.proofs.LineLaw.{notes-more}
-use Rattle.lines.proofs.RepeatLaw.{follows-along, follows-line}
+use Rattle.lines.proofs.RepeatLaw.{follows-line}
 use Rattle.lines.proofs.SlotLaw.{Steps, stop, steps-along, steps-more, steps-took, steps-terms, slots-none, slots-more}
 use Rattle.lines.proofs.SpotsLaw.{came-from}
 use Rattle.lines.proofs.StoreLaw.{adds-then}

@@ -1,6 +1,6 @@
 -- Laws of the walk over a tree's lines, whatever is made of each line. Assumes nothing.
 use Prim.Native.Nat.{ℕ, zero, suc, _+_, _-_, _/_, _%_, _≤_, _<_}
-use mathlib.Core.Path.{_≡_, refl, sym, ap, ap₂, subst, _∙_}
+use mathlib.Core.Path.{_≡_, refl, sym, ap, ap₂, _∙_}
 use mathlib.Core.List.{List, [], _∷_, _++_}
 use mathlib.Core.Bool.{Bool, true, false, cond, _&&_}
 use mathlib.Core.Option.{Option, none, some}
@@ -8,7 +8,6 @@ use native.Mathlib.Omega.{arith}
 use lib.ListN.{getD}
 use lib.Dec.{eqb}
 use Rattle.text.specs.Text.{Bytes, Line, same}
-use Rattle.text.specs.Word.{bytes}
 use Rattle.text.proofs.Basics.{and-left, and-right}
 use Rattle.algebra.specs.bridge.Table.{Sort, triples, columns, patterns, expressions, rows, orders, aggregates, Below, Row, Entry, rowsOf, rowIn, rowFor, opens}
 use Rattle.words.specs.declared.Row.{Row as Code}

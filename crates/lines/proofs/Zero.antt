@@ -1,18 +1,17 @@
 -- A choice is a number that is 0 or 1. Assumes nothing.
 use Prim.Native.Nat.{ℕ, zero, suc, _≤_, _<_}
-use mathlib.Core.Path.{_≡_, refl, sym, _∙_, ap}
+use mathlib.Core.Path.{_≡_, refl, _∙_, ap}
 use mathlib.Core.List.{List, [], _∷_}
-use mathlib.Core.Bool.{Bool, true, false, cond}
-use mathlib.Core.Option.{Option, none, some}
+use mathlib.Core.Bool.{Bool, true, false}
+use mathlib.Core.Option.{none, some}
 use native.Mathlib.Omega.{arith}
 use Rattle.text.specs.Text.{Bytes, same}
 use Rattle.text.specs.Word.{bytes}
 use Rattle.text.specs.Field.{digitsOf, numberOf, digits, decimal}
 use Rattle.text.proofs.Basics.{same-eq}
 use Rattle.text.proofs.Numbers.{number-sound}
-use Rattle.algebra.specs.Reader.{zeroOne}
 use Rattle.algebra.specs.bridge.Table.{choice}
-use Rattle.lines.specs.bridge.Line.{Took, took, takeField}
+use Rattle.lines.specs.bridge.Line.{took, takeField}
 
 -- a field with another number is another field
 differs : (f w : Bytes) (v : ℕ) → numberOf w ≡ some v → (numberOf f ≡ some v → ⊥) → same f w ≡ false

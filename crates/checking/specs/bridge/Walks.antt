@@ -2,14 +2,14 @@
 use Prim.Native.Nat.{ℕ, _+_, _*_, _%_, _≤_, _<_}
 use mathlib.Core.Path.{_≡_}
 use mathlib.Core.List.{List, [], _∷_}
-use mathlib.Core.Bool.{Bool, true, false, cond, _&&_}
+use mathlib.Core.Bool.{Bool, true, false}
 use lib.ListN.{length, set}
 use lib.Dec.{eqb, ltb}
 use Rattle.text.specs.Text.{Bytes, linesFrom}
 use Rattle.algebra.specs.bridge.Table.{Sort, patterns, heads, opens}
 use Rattle.algebra.specs.declared.Answer.{Answer}
 use Rattle.algebra.specs.declared.Answer.the-variants as A
-use Rattle.scoping.specs.bridge.Places.{Mark, visible, silent, under}
+use Rattle.scoping.specs.bridge.Places.{Mark, visible}
 use Rattle.scoping.specs.bridge.Walk.{State, state, beneath, whole, tree}
 use Rattle.scoping.specs.bridge.Spots.{Spot, Node, noted, Trace, trace, spotLine}
 use Rattle.words.specs.bridge.Code.{sortAt, rowOf}

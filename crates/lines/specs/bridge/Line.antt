@@ -1,11 +1,11 @@
 -- What one line says, field by field, as the code takes it: the line machine's reading of a line without the rest of the text. Assumes nothing.
 use Prim.Native.Nat.{ℕ, zero, suc, _+_}
 use mathlib.Core.List.{List, [], _∷_, _++_}
-use mathlib.Core.Bool.{Bool, true, false, cond, _&&_}
+use mathlib.Core.Bool.{cond, _&&_}
 use mathlib.Core.Option.{Option, none, some}
 use lib.ListN.{length}
 use Rattle.text.specs.Text.{Bytes}
-use Rattle.text.specs.Field.{Kind, variable, lexical, numberOf, fits, allFit}
+use Rattle.text.specs.Field.{variable, lexical, numberOf, fits, allFit}
 use Rattle.algebra.specs.Reader.{kept, zeroOne}
 use Rattle.algebra.specs.bridge.Table.{Slot, term, text, count, choice, Tail, nothing, columns, variables, texts, values, value, Row}
 use Rattle.words.specs.bridge.Code.{mapped, extraOf}

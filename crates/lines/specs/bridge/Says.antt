@@ -2,7 +2,7 @@
 use Prim.Native.Nat.{ℕ, suc, _+_, _≤_, _<_, pred}
 use mathlib.Core.Path.{_≡_}
 use mathlib.Core.List.{List, [], _∷_}
-use mathlib.Core.Bool.{Bool, true, false, cond}
+use mathlib.Core.Bool.{true, cond}
 use mathlib.Core.Option.{Option, none, some}
 use lib.ListN.{getD}
 use Rattle.text.specs.Text.{Bytes, split, part}
@@ -10,7 +10,7 @@ use Rattle.cursor.specs.declared.Cursor.{Cursor}
 use Rattle.algebra.specs.Tally.{Tally, bounds}
 use Rattle.algebra.specs.Reader.{malformed, overBound, got, refused}
 use Rattle.algebra.specs.bridge.Table.{Tail, patterns, one, _of_, opens}
-use Rattle.algebra.specs.bridge.Machine.{Want, want, wants, lineOf}
+use Rattle.algebra.specs.bridge.Machine.{want, wants, lineOf}
 use Rattle.words.specs.declared.Found.the-variants.{Is}
 use Rattle.words.specs.declared.Row.{Row as Code}
 use Rattle.words.specs.bridge.Code.{sortAt, groupsIn, rowOf, found, Tidy}
@@ -21,7 +21,7 @@ use Rattle.lines.specs.declared.line.Asked.{Asked}
 use Rattle.lines.specs.declared.line.Line.{Line}
 use Rattle.lines.specs.declared.line.Line.the-variants.{Asks, Malformed, OverBound}
 use Rattle.lines.specs.bridge.Line.{Fields, columnsOf}
-use Rattle.lines.specs.bridge.Steps.{Along, termsIn}
+use Rattle.lines.specs.bridge.Steps.{Along}
 
 -- one past the line's end everything was taken, with these numbers and columns; elsewhere it could not be
 pub record Says (c : Cursor) (o : Option Fields) (t : Tail) (d : Cursor) (first second width : ℕ) : Type 0 where

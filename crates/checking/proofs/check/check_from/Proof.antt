@@ -1,6 +1,6 @@
 -- `checking::check/check_from` meets its contract. Assumes nothing.
 use borrow.Author.Needs.{needs}
-use mathlib.Core.Path.{_≡_, sym, _∙_, ap}
+use mathlib.Core.Path.{sym, _∙_, ap}
 use mathlib.Core.List.{[], _∷_}
 use Rattle.algebra.specs.bridge.Machine.{want}
 use Rattle.words.specs.bridge.Code.{sortAt}

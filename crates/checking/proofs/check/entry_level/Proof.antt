@@ -1,5 +1,4 @@
 -- `checking::check/entry_level` meets its contract. Assumes nothing.
-use borrow.Author.Needs.{needs}
 use Rattle.checking.proofs.CheckLaw as K
 use Rattle.checking.proofs.check.entry_level.Statement.{statement}
 use Rattle.checking.proofs.check.entry_level.Tie as tie

@@ -8,7 +8,7 @@ use Rattle.algebra.specs.bridge.Table.{opens}
 use Rattle.words.specs.bridge.Code.{sortAt}
 use Rattle.lines.specs.bridge.Says.{below}
 use mathlib.Core.Path.{_≡_, refl, sym, _∙_, ap}
-use mathlib.Core.Bool.{true, false, true≢false}
+use mathlib.Core.Bool.{true, true≢false}
 use mathlib.Core.List.{[], _∷_}
 use lib.ListN.{length, replicate}
 use lib.Dec.{eqb}

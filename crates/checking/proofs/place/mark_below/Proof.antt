@@ -1,5 +1,4 @@
 -- `checking::place/mark_below` meets its contract. Assumes nothing.
-use borrow.Author.Needs.{needs}
 use borrow.Author.Tests.{not-true, not-false}
 use Rattle.checking.proofs.WalksLaw as W
 use Rattle.checking.proofs.place.mark_below.Statement.{statement}

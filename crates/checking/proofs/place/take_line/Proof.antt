@@ -1,6 +1,6 @@
 -- `checking::place/take_line` meets its contract. Assumes nothing.
 use borrow.Author.Needs.{needs}
-use mathlib.Core.Path.{_≡_, refl, sym, _∙_, ap, subst}
+use mathlib.Core.Path.{refl, ap, subst}
 use native.Mathlib.Omega.{arith}
 use Rattle.lines.specs.bridge.Says.{Small}
 use Rattle.checking.proofs.DescentLaw as D

@@ -1,14 +1,13 @@
 -- `lines::fields/count_field` meets its contract. Assumes nothing.
 use borrow.Author.Needs.{needs}
-use Prim.Native.Nat.{ℕ, _+_, _-_, _*_, _≤_, _<_}
-use mathlib.Core.Path.{_≡_, refl, sym, _∙_, ap, subst}
+use Prim.Native.Nat.{_-_}
+use mathlib.Core.Path.{ap}
 use native.Mathlib.Omega.{arith}
-use lib.ListN.{length, getD, drop}
 use Rattle.lines.proofs.StepLaw as S
 use Rattle.lines.proofs.RepeatLaw as R
 use Rattle.cursor.proofs.Laws as C
 use denote.Ref.{now}
-use Rattle.algebra.specs.bridge.Table.{Slot, term, text, count, choice}
+use Rattle.algebra.specs.bridge.Table.{count}
 use Rattle.lines.specs.bridge.Steps.{restOf, numberTaken}
 use Rattle.lines.proofs.fields.count_field.Statement.{statement}
 use Rattle.lines.proofs.fields.count_field.Tie as tie

@@ -1,13 +1,13 @@
 -- `lines::fields/fields_left` meets its contract. Assumes nothing.
 use borrow.Author.Needs.{needs}
-use Prim.Native.Nat.{ℕ, _+_, _-_, _*_, _≤_, _<_}
-use mathlib.Core.Path.{_≡_, refl, sym, _∙_, ap, subst}
+use Prim.Native.Nat.{_+_, _-_, _≤_}
+use mathlib.Core.Path.{_≡_, ap}
 use native.Mathlib.Omega.{arith}
-use lib.ListN.{length, getD, drop}
+use lib.ListN.{length}
 use Rattle.lines.proofs.StepLaw as S
 use Rattle.lines.proofs.FieldsLaw as F
 use Rattle.cursor.proofs.Laws as C
-use Rattle.lines.specs.bridge.Steps.{leftAt, restOf, restIn, Along, InLine, Follows}
+use Rattle.lines.specs.bridge.Steps.{leftAt, InLine}
 use denote.Ref.{now}
 use Rattle.lines.proofs.fields.fields_left.Statement.{statement}
 use Rattle.lines.proofs.fields.fields_left.Tie as tie

@@ -1,9 +1,8 @@
 -- `lines::fields/text_field` meets its contract. Assumes nothing.
 use borrow.Author.Needs.{needs}
-use Prim.Native.Nat.{ℕ, _+_, _-_, _*_, _≤_, _<_}
-use mathlib.Core.Path.{_≡_, refl, sym, _∙_, ap, subst}
+use Prim.Native.Nat.{_-_}
+use mathlib.Core.Path.{ap}
 use native.Mathlib.Omega.{arith}
-use lib.ListN.{length, getD, drop}
 use Rattle.lines.proofs.StepLaw as S
 use Rattle.cursor.proofs.Laws as C
 use Rattle.lines.specs.bridge.Steps.{restOf}

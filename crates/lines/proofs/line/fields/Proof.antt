@@ -1,13 +1,9 @@
 -- `lines::line/fields` meets its contract. Assumes nothing.
 use borrow.Author.Needs.{needs}
-use Prim.Native.Nat.{ℕ, _+_, _-_, _*_, _≤_, _<_}
-use mathlib.Core.Path.{_≡_, refl, sym, _∙_, ap, subst}
+use Prim.Native.Nat.{_-_}
 use native.Mathlib.Omega.{arith}
-use lib.ListN.{length, getD, drop}
 use Rattle.lines.proofs.SaysLaw as Y
 use Rattle.lines.proofs.StoreLaw as T
-use Rattle.lines.specs.bridge.Steps.{leftAt, restOf, restIn, Along, InLine, Follows}
-use denote.Ref.{now}
 use Rattle.lines.proofs.LineLaw.{notes-more}
 use Rattle.lines.proofs.line.fields.Statement.{statement}
 use Rattle.lines.proofs.line.fields.Tie as tie

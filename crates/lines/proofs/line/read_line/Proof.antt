@@ -1,13 +1,12 @@
 -- `lines::line/read_line` meets its contract. Assumes nothing.
 use borrow.Author.Needs.{needs}
-use Prim.Native.Nat.{ℕ, _+_, _-_, _*_, _≤_, _<_}
-use mathlib.Core.Path.{_≡_, refl, sym, _∙_, ap, subst}
+use Prim.Native.Nat.{_+_, _-_}
+use mathlib.Core.Path.{refl, sym, _∙_, ap, subst}
 use native.Mathlib.Omega.{arith}
 use Rattle.lines.proofs.StepLaw as S
 use Rattle.cursor.proofs.Laws as C
 use Rattle.lines.proofs.LineIsLaw as K
 use Rattle.lines.proofs.NotesLaw as N
-use denote.Ref.{now}
 use Rattle.words.specs.bridge.Code.{Tidy}
 use Rattle.lines.proofs.line.read_line.Statement.{statement}
 use Rattle.lines.proofs.line.read_line.Tie as tie

@@ -1,5 +1,4 @@
 -- `lines::line/spots_behind` meets its contract. Assumes nothing.
-use borrow.Author.Needs.{needs}
 use Rattle.lines.proofs.StoreLaw as T
 use Rattle.lines.proofs.line.spots_behind.Statement.{statement}
 use Rattle.lines.proofs.line.spots_behind.Tie as tie

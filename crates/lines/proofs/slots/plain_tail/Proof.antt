@@ -1,9 +1,5 @@
 -- `lines::slots/plain_tail` meets its contract. Assumes nothing.
-use borrow.Author.Needs.{needs}
-use Prim.Native.Nat.{ℕ, _+_, _-_, _*_, _≤_, _<_}
-use mathlib.Core.Path.{_≡_, refl, sym, _∙_, ap, subst}
-use native.Mathlib.Omega.{arith}
-use lib.ListN.{length, getD, drop}
+use Prim.Native.Nat.{_-_}
 use Rattle.lines.proofs.TailLaw as T
 use Rattle.lines.proofs.slots.plain_tail.Statement.{statement}
 use Rattle.lines.proofs.slots.plain_tail.Tie as tie

@@ -1,15 +1,13 @@
 -- `lines::slots/tail` meets its contract. Assumes nothing.
 use borrow.Author.Needs.{needs}
-use Prim.Native.Nat.{ℕ, _+_, _-_, _*_, _≤_, _<_}
-use mathlib.Core.Path.{_≡_, refl, sym, _∙_, ap, subst}
-use native.Mathlib.Omega.{arith}
+use Prim.Native.Nat.{_-_}
+use mathlib.Core.Path.{sym, _∙_}
 use Rattle.lines.proofs.TailLaw as T
 use Rattle.lines.proofs.SlotLaw as L
 use Rattle.lines.proofs.RepeatLaw as R
 use Rattle.lines.proofs.AddLaw as D
-use Rattle.lines.specs.bridge.Steps.{leftAt, restOf, restIn, Along, InLine, Follows}
+use Rattle.lines.specs.bridge.Steps.{leftAt}
 use denote.Ref.{now}
-use Rattle.text.specs.bridge.Code.{kindAt}
 use Rattle.words.specs.bridge.Code.{tailOf}
 use Rattle.lines.proofs.slots.tail.Statement.{statement}
 use Rattle.lines.proofs.slots.tail.Tie as tie

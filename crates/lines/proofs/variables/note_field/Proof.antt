@@ -1,6 +1,6 @@
 -- `lines::variables/note_field` meets its contract. Assumes nothing.
 use borrow.Author.Needs.{needs}
-use mathlib.Core.Path.{_≡_, sym, _∙_, ap}
+use mathlib.Core.Path.{_∙_, ap}
 use Rattle.text.specs.Field.{isVar}
 use Rattle.names.proofs.Laws as N
 use Rattle.lines.proofs.StoreLaw as T

@@ -1,19 +1,18 @@
 -- `lines::variables/variable_fields` meets its contract. Assumes nothing.
 use borrow.Author.Needs.{needs}
-use Prim.Native.Nat.{ℕ, _+_, _-_, _*_, _≤_, _<_}
-use mathlib.Core.Path.{_≡_, refl, sym, _∙_, ap, subst}
+use Prim.Native.Nat.{ℕ, _+_, _-_, _≤_}
+use mathlib.Core.Path.{_≡_, refl, _∙_}
 use native.Mathlib.Omega.{arith}
-use lib.ListN.{length, getD, drop}
-use Rattle.lines.proofs.StepLaw as S
+use lib.ListN.{length}
 use Rattle.lines.proofs.RepeatLaw as R
 use Rattle.lines.proofs.FieldsLaw as F
 use Rattle.lines.proofs.AddLaw as D
-use Rattle.lines.specs.bridge.Steps.{leftAt, restOf, restIn, Along, InLine, Follows, termsOf}
-use Rattle.lines.specs.bridge.Line.{takeField, takeTimes, takeValue, takeValues}
+use Rattle.lines.specs.bridge.Steps.{leftAt, restOf, restIn, Along, InLine, termsOf}
+use Rattle.lines.specs.bridge.Line.{takeField, takeTimes}
 use Rattle.lines.specs.bridge.Spotted.{markAt}
 use Rattle.lines.specs.bridge.Stored.{store, Adds, found}
 use denote.Ref.{now}
-use Rattle.algebra.specs.bridge.Table.{Slot, term, text, count, choice}
+use Rattle.algebra.specs.bridge.Table.{term}
 use mathlib.Core.List.{List, [], _++_}
 use Rattle.text.specs.Field.{variable}
 use Rattle.algebra.specs.Tally.{notes}
