@@ -1,11 +1,11 @@
 -- A text of either form: what its check says of it, and where its tree stands. Assumes nothing.
 use Prim.Native.Nat.{ℕ, _≤_}
 use mathlib.Core.Path.{_≡_, sym, ap, subst}
-use mathlib.Core.List.{List, []}
+use mathlib.Core.List.{List, [], _++_}
 use mathlib.Core.Bool.{Bool, true, false}
 use native.Mathlib.Omega.{arith}
-use lib.ListN.{length, take, set}
-use lib.Seq.{getD-set-same, getD-set-other}
+use lib.ListN.{length, getD, take, set, length-append}
+use lib.Seq.{getD-set-same, getD-set-other, take-append-le}
 use Rattle.text.specs.Text.{Bytes}
 use Rattle.algebra.specs.Query.{Query}
 use Rattle.algebra.specs.Reader.{reads, refuses, malformed, overBound}
@@ -23,6 +23,7 @@ use Rattle.names.specs.bridge.Names.{startsOf, sizesOf}
 use Rattle.sides.specs.declared.side.Standing.{Standing}
 use Rattle.projects.specs.bridge.Joining.{Stands, HasRoom, HasNodes}
 use Rattle.projects.proofs.Known.{tree-stands, query-stands, tree-count, query-count, good-tree, good-query, tree-nodes, query-nodes, tree-shaped, query-shaped}
+use Rattle.projects.proofs.Halves.{shaped-in}
 use Rattle.joining.specs.bridge.Form.{headless, readForm, headOf, mayMerge, NotedAs, Known, StartsAt, KnownAt}
 
 -- ---- the functions of a form, by its two ways
@@ -92,6 +93,17 @@ module _ (s : Bytes) (a l h : List ℕ) (before after words b : List (List ℕ))
       as-shaped false c = tree-shaped s a l h before after words b r n k m good room c space
       as-shaped true c = query-shaped s a l h before after words b r n k m good room c space
 
+      -- noted at the start of longer arrays
+      module _ (query : Bool) (c : NotedAs query s a l h before after words b r) (more others : List (List ℕ)) where
+        pub front-known : Known query s a l n (take k (after ++ more))
+        front-known = subst (Known query s a l n) (sym (take-append-le k after more (as-count query c))) (as-known query c)
+
+        pub front-shaped : Shaped words (take m (b ++ others)) (length (take m (b ++ others))) (length (take k (after ++ more)))
+        front-shaped = shaped-in words _ _ _ _ (sym (take-append-le m b others (as-nodes query c))) (sym (take-append-le k after more (as-count query c))) (as-shaped query c)
+
+        pub front-high : (k ≤ length (after ++ more)) × (m ≤ length (b ++ others))
+        front-high = let i = as-count query c in let j = as-nodes query c in let e = length-append after more in let f = length-append b others in (omega (arith, i, e), omega (arith, j, f))
+
 module _ (s : Bytes) (a l : List ℕ) (n : ℕ) (v : List (List ℕ)) where
   -- what it says
   unfoldable pub said : (query : Bool) → Known query s a l n v → Query
@@ -117,16 +129,16 @@ module _ (s : Bytes) (a l : List ℕ) (n : ℕ) (v : List (List ℕ)) where
 
 -- ---- the tables of two texts
 
-module _ (query : Bool) (s : Bytes) (t : Standing) (tables : List (List (List ℕ))) (x : List (List ℕ)) (v : List (List ℕ)) where
-  -- the second is filled, the first stays
-  pub known-first : KnownAt 0 query s t tables v → KnownAt 0 query s t (set tables 1 x) v
+module _ (query : Bool) (s : Bytes) (t : Standing) (tables : List (List (List ℕ))) (x v w : List (List ℕ)) (same : v ≡ w) where
+  -- the second is filled, the first stays; the variables stand in an array that is the same
+  pub known-first : KnownAt 0 query s t tables v → KnownAt 0 query s t (set tables 1 x) w
   known-first k = record {
-    known = subst (λ (e : List (List ℕ)). Known query s (startsOf e) (sizesOf e) (t .n) v) (sym (getD-set-other tables 1 0 x [] (λ e. omega arith))) (k .known);
+    known = subst (λ (e : List (List ℕ)). Known query s (startsOf e) (sizesOf e) (t .n) w) (sym (getD-set-other tables 1 0 x [] (λ e. omega arith))) (subst (Known query s (startsOf (getD tables 0 [])) (sizesOf (getD tables 0 [])) (t .n)) same (k .known));
     starts = k .starts;
   }
 
-  pub known-second : length tables ≡ 2 → Known query s (startsOf x) (sizesOf x) (t .n) v → StartsAt query s (t .from) → KnownAt 1 query s t (set tables 1 x) v
-  known-second two k w = record {
-    known = subst (λ (e : List (List ℕ)). Known query s (startsOf e) (sizesOf e) (t .n) v) (sym (getD-set-same tables 1 x [] (omega arith))) k;
-    starts = w;
+  pub known-second : length tables ≡ 2 → Known query s (startsOf x) (sizesOf x) (t .n) v → StartsAt query s (t .from) → KnownAt 1 query s t (set tables 1 x) w
+  known-second two k u = record {
+    known = subst (λ (e : List (List ℕ)). Known query s (startsOf e) (sizesOf e) (t .n) w) (sym (getD-set-same tables 1 x [] (omega arith))) (subst (Known query s (startsOf x) (sizesOf x) (t .n)) same k);
+    starts = u;
   }

@@ -21,11 +21,11 @@ use words::table::all_words;
 ghost use mathlib.Core.Path.{_≡_};
 ghost use mathlib.Core.List.{List};
 ghost use Prim.Native.Nat.{_≤_};
-ghost use lib.ListN.{length};
+ghost use lib.ListN.{length, take};
 ghost use Rattle.algebra.specs.Query.{Pair};
 ghost use Rattle.answers.specs.Outcome.{Answered};
 ghost use Rattle.algebra.specs.Tree.{Pattern};
-ghost use Rattle.projects.specs.bridge.Joining.{StandsAt, HasRoom, HasNodes, Lists, mergedBehind, ListsRead, TermsChecked, ListsChecked};
+ghost use Rattle.projects.specs.bridge.Joining.{half, rest, BothShaped, StandsAt, HasRoom, HasNodes, Lists, mergedBehind, ListsRead, TermsChecked, ListsChecked};
 ghost use Rattle.words.specs.bridge.Words.{Worded};
 ghost use Rattle.descending.specs.bridge.Renamed.{Shaped};
 ghost use Rattle.joining.specs.bridge.Form.{mergeOutcome, KnownAt};
@@ -62,17 +62,15 @@ fn merge_trees(
     right: &[u8],
     texts: Texts,
     tables: &[[Entry; 1024]; 2],
-    left_nodes: &[Node],
-    left_spots: &mut [Spot],
-    right_nodes: &[Node],
-    right_spots: &mut [Spot],
+    nodes: &[Node],
+    spots: &mut [Spot],
     pairs: &[u8],
     left_constants: &[u8],
     right_constants: &[u8],
     out: &mut [u8],
 ) -> Answer
-    requires { ⌜ ((p : Pattern) × StandsAt 0 (now left) (texts .left) (now tables) (now «left_spots») p) × ((q : Pattern) × StandsAt 1 (now right) (texts .right) (now tables) (now «right_spots») q) × ListsRead (now pairs) (now «left_constants») (now «right_constants») × Worded (now words) × Shaped (now words) (now «left_nodes») (length (now «left_nodes»)) (length (now «left_spots»)) × Shaped (now words) (now «right_nodes») (length (now «right_nodes»)) (length (now «right_spots»)) ⌝ }
-    ensures { λ r. ⌜ ((p q : Pattern) (js ks ls : List Pair) → StandsAt 0 (now (left .entry)) (texts .left) (now (tables .entry)) (now («left_spots» .entry)) p → StandsAt 1 (now (right .entry)) (texts .right) (now (tables .entry)) (now («right_spots» .entry)) q → Lists (now (pairs .entry)) (now («left_constants» .entry)) (now («right_constants» .entry)) js ks ls → Answered (mergedBehind (now (head .entry)) p q js ks ls) (now (out .entry)) (now (out .exit)) r) ⌝ }
+    requires { ⌜ ((p : Pattern) × StandsAt 0 (now left) (texts .left) (now tables) (take (texts .spots) (now spots)) p) × ((q : Pattern) × StandsAt 1 (now right) (texts .right) (now tables) (rest (texts .spots) (now spots)) q) × ListsRead (now pairs) (now «left_constants») (now «right_constants») × Worded (now words) × BothShaped (now words) (now nodes) (texts .nodes) (now spots) (texts .spots) ⌝ }
+    ensures { λ r. ⌜ ((p q : Pattern) (js ks ls : List Pair) → StandsAt 0 (now (left .entry)) (texts .left) (now (tables .entry)) (take (texts .spots) (now (spots .entry))) p → StandsAt 1 (now (right .entry)) (texts .right) (now (tables .entry)) (rest (texts .spots) (now (spots .entry))) q → Lists (now (pairs .entry)) (now («left_constants» .entry)) (now («right_constants» .entry)) js ks ls → Answered (mergedBehind (now (head .entry)) p q js ks ls) (now (out .entry)) (now (out .exit)) r) ⌝ }
 {
     if !is_project(left, texts.left.from) {
         return Answer::NotProject;
@@ -87,10 +85,8 @@ fn merge_trees(
         right,
         texts,
         tables,
-        left_nodes,
-        left_spots,
-        right_nodes,
-        right_spots,
+        nodes,
+        spots,
         pairs,
         left_constants,
         right_constants,
@@ -116,16 +112,14 @@ fn merge_heads(
     right: &[u8],
     texts: Texts,
     tables: &[[Entry; 1024]; 2],
-    left_nodes: &[Node],
-    left_spots: &mut [Spot],
-    right_nodes: &[Node],
-    right_spots: &mut [Spot],
+    nodes: &[Node],
+    spots: &mut [Spot],
     pairs: &[u8],
     left_constants: &[u8],
     right_constants: &[u8],
     out: &mut [u8],
 ) -> Answer
-    requires { ⌜ KnownAt 0 query (now left) (texts .left) (now tables) (now «left_spots») × KnownAt 1 query (now right) (texts .right) (now tables) (now «right_spots») × ListsRead (now pairs) (now «left_constants») (now «right_constants») × Worded (now words) × Shaped (now words) (now «left_nodes») (length (now «left_nodes»)) (length (now «left_spots»)) × Shaped (now words) (now «right_nodes») (length (now «right_nodes»)) (length (now «right_spots»)) ⌝ }
+    requires { ⌜ KnownAt 0 query (now left) (texts .left) (now tables) (take (texts .spots) (now spots)) × KnownAt 1 query (now right) (texts .right) (now tables) (rest (texts .spots) (now spots)) × ListsRead (now pairs) (now «left_constants») (now «right_constants») × Worded (now words) × BothShaped (now words) (now nodes) (texts .nodes) (now spots) (texts .spots) ⌝ }
     ensures { λ r. ⌜ Answered (mergeOutcome query (now (left .entry)) (now (right .entry)) (now (pairs .entry)) (now («left_constants» .entry)) (now («right_constants» .entry))) (now (out .entry)) (now (out .exit)) r ⌝ }
 {
     if !may_merge(query, left, texts.left.from, right, texts.right.from) {
@@ -138,10 +132,8 @@ fn merge_heads(
         right,
         texts,
         tables,
-        left_nodes,
-        left_spots,
-        right_nodes,
-        right_spots,
+        nodes,
+        spots,
         pairs,
         left_constants,
         right_constants,
@@ -157,16 +149,14 @@ fn merge_listed(
     right: &[u8],
     texts: Texts,
     tables: &[[Entry; 1024]; 2],
-    left_nodes: &[Node],
-    left_spots: &mut [Spot],
-    right_nodes: &[Node],
-    right_spots: &mut [Spot],
+    nodes: &[Node],
+    spots: &mut [Spot],
     pairs: &[u8],
     left_constants: &[u8],
     right_constants: &[u8],
     out: &mut [u8],
 ) -> Answer
-    requires { ⌜ KnownAt 0 query (now left) (texts .left) (now tables) (now «left_spots») × KnownAt 1 query (now right) (texts .right) (now tables) (now «right_spots») × Worded (now words) × Shaped (now words) (now «left_nodes») (length (now «left_nodes»)) (length (now «left_spots»)) × Shaped (now words) (now «right_nodes») (length (now «right_nodes»)) (length (now «right_spots»)) ⌝ }
+    requires { ⌜ KnownAt 0 query (now left) (texts .left) (now tables) (take (texts .spots) (now spots)) × KnownAt 1 query (now right) (texts .right) (now tables) (rest (texts .spots) (now spots)) × Worded (now words) × BothShaped (now words) (now nodes) (texts .nodes) (now spots) (texts .spots) ⌝ }
     ensures { λ r. ⌜ Answered (mergeOutcome query (now (left .entry)) (now (right .entry)) (now (pairs .entry)) (now («left_constants» .entry)) (now («right_constants» .entry))) (now (out .entry)) (now (out .exit)) r ⌝ }
 {
     match check_lists(pairs, left_constants, right_constants) {
@@ -177,10 +167,8 @@ fn merge_listed(
             right,
             texts,
             tables,
-            left_nodes,
-            left_spots,
-            right_nodes,
-            right_spots,
+            nodes,
+            spots,
             pairs,
             left_constants,
             right_constants,
@@ -191,26 +179,34 @@ fn merge_listed(
     }
 }
 
+// A left text that was checked, and how many spots and nodes it has.
+struct Noted {
+    standing: Standing,
+    spots: usize,
+    nodes: usize,
+}
+
 // The same for a left text that was checked and any right one.
 fn merge_right(
     query: bool,
     words: &[WordRow; 56],
     left: &[u8],
     right: &[u8],
-    standing: Standing,
+    noted: Noted,
     tables: &mut [[Entry; 1024]; 2],
-    left_nodes: &[Node],
-    left_spots: &mut [Spot],
-    right_nodes: &mut [Node],
-    right_spots: &mut [Spot],
+    nodes: &mut [Node],
+    spots: &mut [Spot],
     pairs: &[u8],
     left_constants: &[u8],
     right_constants: &[u8],
     out: &mut [u8],
 ) -> Answer
-    requires { ⌜ KnownAt 0 query (now left) standing (now tables) (now «left_spots») × HasRoom (now right) (now «right_spots») × Worded (now words) × Shaped (now words) (now «left_nodes») (length (now «left_nodes»)) (length (now «left_spots»)) × HasNodes (now right) (now «right_nodes») × (length (now tables) ≡ 2) ⌝ }
+    requires { ⌜ KnownAt 0 query (now left) (noted .standing) (now tables) (take (noted .spots) (now spots)) × HasRoom (now right) (rest (noted .spots) (now spots)) × Worded (now words) × Shaped (now words) (take (noted .nodes) (now nodes)) (length (take (noted .nodes) (now nodes))) (length (take (noted .spots) (now spots))) × HasNodes (now right) (rest (noted .nodes) (now nodes)) × (length (now tables) ≡ 2) × (noted .spots ≤ length (now spots)) × (noted .nodes ≤ length (now nodes)) ⌝ }
     ensures { λ r. ⌜ Answered (mergeOutcome query (now (left .entry)) (now (right .entry)) (now (pairs .entry)) (now («left_constants» .entry)) (now («right_constants» .entry))) (now (out .entry)) (now (out .exit)) r ⌝ }
 {
+    let standing = noted.standing;
+    let k = noted.spots;
+    let m = noted.nodes;
     let mut hints = [0u16; 2048];
     match note_form(
         query,
@@ -218,11 +214,13 @@ fn merge_right(
         right,
         &mut tables[1],
         &mut hints,
-        right_spots,
-        right_nodes,
+        &mut spots[k..],
+        &mut nodes[m..],
     ) {
-        Noting::Good(n, k, m) => {
+        Noting::Good(n, more_spots, more_nodes) => {
             let from = start_of(query, right);
+            let i = k + more_spots;
+            let j = m + more_nodes;
             merge_listed(
                 query,
                 words,
@@ -231,12 +229,12 @@ fn merge_right(
                 Texts {
                     left: standing,
                     right: Standing { from, n },
+                    spots: k,
+                    nodes: m,
                 },
                 tables,
-                left_nodes,
-                left_spots,
-                &right_nodes[..m],
-                &mut right_spots[..k],
+                &nodes[..j],
+                &mut spots[..i],
                 pairs,
                 left_constants,
                 right_constants,
@@ -248,24 +246,24 @@ fn merge_right(
     }
 }
 
-// The same for any two texts, with room for their variables.
+// The same for any two texts, with room for their variables: each has half of it.
 fn merge_left(
     query: bool,
     words: &[WordRow; 56],
     left: &[u8],
     right: &[u8],
-    left_nodes: &mut [Node],
-    left_spots: &mut [Spot],
-    right_nodes: &mut [Node],
-    right_spots: &mut [Spot],
+    nodes: &mut [Node],
+    spots: &mut [Spot],
     pairs: &[u8],
     left_constants: &[u8],
     right_constants: &[u8],
     out: &mut [u8],
 ) -> Answer
-    requires { ⌜ HasRoom (now left) (now «left_spots») × HasRoom (now right) (now «right_spots») × Worded (now words) × HasNodes (now left) (now «left_nodes») × HasNodes (now right) (now «right_nodes») ⌝ }
+    requires { ⌜ HasRoom (now left) (half (now spots)) × HasRoom (now right) (half (now spots)) × Worded (now words) × HasNodes (now left) (half (now nodes)) × HasNodes (now right) (half (now nodes)) ⌝ }
     ensures { λ r. ⌜ Answered (mergeOutcome query (now (left .entry)) (now (right .entry)) (now (pairs .entry)) (now («left_constants» .entry)) (now («right_constants» .entry))) (now (out .entry)) (now (out .exit)) r ⌝ }
 {
+    let i = spots.len() / 2;
+    let j = nodes.len() / 2;
     let mut tables = [[[0u16; 2]; 1024]; 2];
     let mut hints = [0u16; 2048];
     match note_form(
@@ -274,8 +272,8 @@ fn merge_left(
         left,
         &mut tables[0],
         &mut hints,
-        left_spots,
-        left_nodes,
+        &mut spots[..i],
+        &mut nodes[..j],
     ) {
         Noting::Good(n, k, m) => {
             let from = start_of(query, left);
@@ -284,12 +282,14 @@ fn merge_left(
                 words,
                 left,
                 right,
-                Standing { from, n },
+                Noted {
+                    standing: Standing { from, n },
+                    spots: k,
+                    nodes: m,
+                },
                 &mut tables,
-                &left_nodes[..m],
-                &mut left_spots[..k],
-                right_nodes,
-                right_spots,
+                nodes,
+                spots,
                 pairs,
                 left_constants,
                 right_constants,
@@ -315,19 +315,15 @@ fn merge_small(
     requires { ⌜ Worded (now words) × (length (now left) ≤ 1536) × (length (now right) ≤ 1536) ⌝ }
     ensures { λ r. ⌜ Answered (mergeOutcome query (now (left .entry)) (now (right .entry)) (now (pairs .entry)) (now («left_constants» .entry)) (now («right_constants» .entry))) (now (out .entry)) (now (out .exit)) r ⌝ }
 {
-    let mut left_nodes = [[0u32; 3]; 512];
-    let mut left_spots = [[0u16; 3]; 512];
-    let mut right_nodes = [[0u32; 3]; 512];
-    let mut right_spots = [[0u16; 3]; 512];
+    let mut nodes = [[0u32; 3]; 1024];
+    let mut spots = [[0u16; 3]; 1024];
     merge_left(
         query,
         words,
         left,
         right,
-        &mut left_nodes,
-        &mut left_spots,
-        &mut right_nodes,
-        &mut right_spots,
+        &mut nodes,
+        &mut spots,
         pairs,
         left_constants,
         right_constants,
@@ -349,19 +345,15 @@ fn merge_middle(
     requires { ⌜ Worded (now words) × (length (now left) ≤ 6144) × (length (now right) ≤ 6144) ⌝ }
     ensures { λ r. ⌜ Answered (mergeOutcome query (now (left .entry)) (now (right .entry)) (now (pairs .entry)) (now («left_constants» .entry)) (now («right_constants» .entry))) (now (out .entry)) (now (out .exit)) r ⌝ }
 {
-    let mut left_nodes = [[0u32; 3]; 2048];
-    let mut left_spots = [[0u16; 3]; 2048];
-    let mut right_nodes = [[0u32; 3]; 2048];
-    let mut right_spots = [[0u16; 3]; 2048];
+    let mut nodes = [[0u32; 3]; 4096];
+    let mut spots = [[0u16; 3]; 4096];
     merge_left(
         query,
         words,
         left,
         right,
-        &mut left_nodes,
-        &mut left_spots,
-        &mut right_nodes,
-        &mut right_spots,
+        &mut nodes,
+        &mut spots,
         pairs,
         left_constants,
         right_constants,
@@ -383,19 +375,15 @@ fn merge_large(
     requires { ⌜ Worded (now words) ⌝ }
     ensures { λ r. ⌜ Answered (mergeOutcome query (now (left .entry)) (now (right .entry)) (now (pairs .entry)) (now («left_constants» .entry)) (now («right_constants» .entry))) (now (out .entry)) (now (out .exit)) r ⌝ }
 {
-    let mut left_nodes = [[0u32; 3]; 2048];
-    let mut left_spots = [[0u16; 3]; 5462];
-    let mut right_nodes = [[0u32; 3]; 2048];
-    let mut right_spots = [[0u16; 3]; 5462];
+    let mut nodes = [[0u32; 3]; 4096];
+    let mut spots = [[0u16; 3]; 10924];
     merge_left(
         query,
         words,
         left,
         right,
-        &mut left_nodes,
-        &mut left_spots,
-        &mut right_nodes,
-        &mut right_spots,
+        &mut nodes,
+        &mut spots,
         pairs,
         left_constants,
         right_constants,

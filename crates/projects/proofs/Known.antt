@@ -139,6 +139,13 @@ has-room s n x h = rw (length-replicate n x) h
 pub has-nodes : (s : Bytes) (n : ℕ) (x : List ℕ) → (length s ≤ 16384 → (m : ℕ) → 3 * m ≤ length s → m ≤ 2048 → m ≤ n) → HasNodes s (replicate n x)
 has-nodes s n x h = rw (length-replicate n x) h
 
+-- an array that is no shorter has no less room
+pub room-more : (s : Bytes) (b c : List (List ℕ)) → length b ≤ length c → HasRoom s b → HasRoom s c
+room-more s b c e h short = let r = h short in omega (arith, e, r)
+
+pub nodes-more : (s : Bytes) (b c : List (List ℕ)) → length b ≤ length c → HasNodes s b → HasNodes s c
+nodes-more s b c e h short m g l = let r = h short m g l in omega (arith, e, r)
+
 -- an array that keeps its length keeps its room
 pub nodes-kept : (s : Bytes) (b c : List (List ℕ)) → length c ≡ length b → HasNodes s b → HasNodes s c
 nodes-kept s b c e h short m g l = let r = h short m g l in omega (arith, e, r)

@@ -3,6 +3,7 @@ pub mod Among
 pub mod SideLines
 pub mod Merged
 pub mod Known
+pub mod Halves
 pub mod Outcomes
 pub mod Whole
 pub mod OneSide

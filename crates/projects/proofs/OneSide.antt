@@ -27,6 +27,14 @@ use Rattle.projects.proofs.Whole.{columns-few}
 pub asked-of : (s : Bytes) (at : ℕ) (a l : List ℕ) (n : ℕ) (v : List (List ℕ)) (pairs constants : Bytes) (x : Projection) (js : List Pair) → Stands s at a l n v (tree x) → Listed pairs js → KnownTerms constants → Asked s at pairs constants
 asked-of s at a l n v pairs constants x js t j k = record { projection = x; lines = t .tree-in .lines; narrow = t .narrow x refl; joins = js; joins-listed = j; terms = k .list; terms-listed = k .terms .listed }
 
+-- the variables of a side, in an array that is the same
+module _ {s : Bytes} {from : ℕ} {a l : List ℕ} {n : ℕ} {v w : List (List ℕ)} (same : v ≡ w) {second : Bool} {constants : Bytes} {at lines : List ℕ} {x : Projection} {js ks : List Pair} where
+  pub found-in : {joins : List ℕ} {o : Outline} → Outlined s from a l n v second constants joins at lines o x js ks → Outlined s from a l n w second constants joins at lines o x js ks
+  found-in {joins} {o} d = subst (λ (u : List (List ℕ)). Outlined s from a l n u second constants joins at lines o x js ks) same d
+
+  pub named-in : {prefix : ℕ} {pool targets spans line : List ℕ} {side : Side} → Sided s from a l n v prefix second constants pool targets spans line at lines side x js ks → Sided s from a l n w prefix second constants pool targets spans line at lines side x js ks
+  named-in {prefix} {pool} {targets} {spans} {line} {side} d = subst (λ (u : List (List ℕ)). Sided s from a l n u prefix second constants pool targets spans line at lines side x js ks) same d
+
 -- what find_side promises
 abbrev pub Promised : Bytes → ℕ → Bool → Bytes → Bytes → List ℕ → List ℕ → List ℕ → Finding → Type 0
 Promised text from second pairs constants joins at lines r =

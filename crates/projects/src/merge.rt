@@ -1,4 +1,5 @@
-// merge_project_patterns for two projects. Tables of both texts are arrays of two, the left text's first.
+// merge_project_patterns for two projects. Tables of both texts are arrays of two, the left text's first; spots and nodes of
+// both stand in one array each, the right text's behind the left text's.
 use crate::one::FoundSide;
 use crate::one::NamedSide;
 use crate::one::name_one;
@@ -22,7 +23,7 @@ ghost use mathlib.Core.Path.{_≡_};
 ghost use Prim.Native.Nat.{_-_, _≤_};
 ghost use mathlib.Core.List.{List, [], _∷_, _++_};
 ghost use mathlib.Core.Bool.{true, false};
-ghost use lib.ListN.{length, getD};
+ghost use lib.ListN.{length, getD, take};
 ghost use lib.Count.{ones};
 ghost use Rattle.text.specs.Text.{Line, textOf};
 ghost use Rattle.text.specs.Word.{bytes};
@@ -34,30 +35,34 @@ ghost use Rattle.answers.specs.Outcome.{Answered};
 ghost use Rattle.scoping.specs.Label.{prefixL, prefixR};
 ghost use Rattle.merging.specs.Request.{Projection, tree};
 ghost use Rattle.columns.specs.bridge.Columns.{columnsIn, picked};
-ghost use Rattle.projects.specs.bridge.Joining.{StandsAt, IsFound, IsNamed, goneMask, mergedTree, Lists, joinedBehind, ListsRead};
+ghost use Rattle.projects.specs.bridge.Joining.{StandsAt, IsFound, IsNamed, goneMask, mergedTree, Lists, joinedBehind, ListsRead, rest, BothShaped};
 ghost use Rattle.words.specs.bridge.Words.{Worded};
-ghost use Rattle.descending.specs.bridge.Renamed.{Shaped};
 
 const PROJECT: [u8; 7] = *b"project";
 
 const JOIN: [u8; 6] = *b"\njoin\n";
 
-// Both texts of a merge.
+// Both texts of a merge, and how many spots and nodes are the left one's.
 pub struct Texts {
     pub left: Standing,
     pub right: Standing,
+    pub spots: usize,
+    pub nodes: usize,
 }
 
-// Two sides that were found.
+// Two sides that were found, and how many spots and nodes are the left one's.
 struct FoundPair {
     left: FoundSide,
     right: FoundSide,
+    spots: usize,
+    nodes: usize,
 }
 
-// Two sides that are ready, and which right columns go.
+// Two sides that are ready, how many spots are the left one's, and which right columns go.
 struct NamedPair {
     left: NamedSide,
     right: NamedSide,
+    spots: usize,
     gone: u64,
 }
 
@@ -101,8 +106,7 @@ fn put_merged(
     right: &[u8],
     sides: NamedPair,
     tables: &[[Entry; 1024]; 2],
-    left_spots: &[Spot],
-    right_spots: &[Spot],
+    spots: &[Spot],
     pools: &[[u8; 16384]; 2],
     news: &[[Entry; 1024]; 2],
     lines: &[[u8; 8336]; 2],
@@ -110,14 +114,15 @@ fn put_merged(
     right_constants: &[u8],
     out: &mut [u8],
 ) -> usize
-    requires { ⌜ ((x : Projection) × (y : Projection) × (js : List Pair) × (ks : List Pair) × (ls : List Pair) × IsNamed (now left) (getD (now tables) 0 []) (now «left_spots») prefixL false (now «left_constants») (getD (now pools) 0 []) (getD (now news) 0 []) (getD (now lines) 0 []) (sides .left) x js ks × IsNamed (now right) (getD (now tables) 1 []) (now «right_spots») prefixR true (now «right_constants») (getD (now pools) 1 []) (getD (now news) 1 []) (getD (now lines) 1 []) (sides .right) y js ls) × (sides .gone ≡ goneMask (getD (now lines) 0 []) (sides .left .side) (getD (now lines) 1 []) (sides .right .side)) ⌝ }
-    ensures { λ result. ⌜ ((x y : Projection) (js ks ls : List Pair) → IsNamed (now (left .entry)) (getD (now (tables .entry)) 0 []) (now («left_spots» .entry)) prefixL false (now («left_constants» .entry)) (getD (now (pools .entry)) 0 []) (getD (now (news .entry)) 0 []) (getD (now (lines .entry)) 0 []) (sides .left) x js ks → IsNamed (now (right .entry)) (getD (now (tables .entry)) 1 []) (now («right_spots» .entry)) prefixR true (now («right_constants» .entry)) (getD (now (pools .entry)) 1 []) (getD (now (news .entry)) 1 []) (getD (now (lines .entry)) 1 []) (sides .right) y js ls → em result (now (out .exit)) ≡ puts (now (head .entry) ++ layout (mergedTree x y js ks ls)) (em 0 (now (out .entry)))) ⌝ }
+    requires { ⌜ ((x : Projection) × (y : Projection) × (js : List Pair) × (ks : List Pair) × (ls : List Pair) × IsNamed (now left) (getD (now tables) 0 []) (take (sides .spots) (now spots)) prefixL false (now «left_constants») (getD (now pools) 0 []) (getD (now news) 0 []) (getD (now lines) 0 []) (sides .left) x js ks × IsNamed (now right) (getD (now tables) 1 []) (rest (sides .spots) (now spots)) prefixR true (now «right_constants») (getD (now pools) 1 []) (getD (now news) 1 []) (getD (now lines) 1 []) (sides .right) y js ls) × (sides .gone ≡ goneMask (getD (now lines) 0 []) (sides .left .side) (getD (now lines) 1 []) (sides .right .side)) × (sides .spots ≤ length (now spots)) ⌝ }
+    ensures { λ result. ⌜ ((x y : Projection) (js ks ls : List Pair) → IsNamed (now (left .entry)) (getD (now (tables .entry)) 0 []) (take (sides .spots) (now (spots .entry))) prefixL false (now («left_constants» .entry)) (getD (now (pools .entry)) 0 []) (getD (now (news .entry)) 0 []) (getD (now (lines .entry)) 0 []) (sides .left) x js ks → IsNamed (now (right .entry)) (getD (now (tables .entry)) 1 []) (rest (sides .spots) (now (spots .entry))) prefixR true (now («right_constants» .entry)) (getD (now (pools .entry)) 1 []) (getD (now (news .entry)) 1 []) (getD (now (lines .entry)) 1 []) (sides .right) y js ls → em result (now (out .exit)) ≡ puts (now (head .entry) ++ layout (mergedTree x y js ks ls)) (em 0 (now (out .entry)))) ⌝ }
 {
+    let k = sides.spots;
     let a = put_head(head, lines, sides, out);
     let b = put_one(
         left,
         &tables[0],
-        left_spots,
+        &spots[..k],
         &pools[0],
         &news[0],
         &lines[0],
@@ -129,7 +134,7 @@ fn put_merged(
     put_one(
         right,
         &tables[1],
-        right_spots,
+        &spots[k..],
         &pools[1],
         &news[1],
         &lines[1],
@@ -147,8 +152,7 @@ fn merge_ready(
     right: &[u8],
     sides: NamedPair,
     tables: &[[Entry; 1024]; 2],
-    left_spots: &[Spot],
-    right_spots: &[Spot],
+    spots: &[Spot],
     pools: &[[u8; 16384]; 2],
     news: &[[Entry; 1024]; 2],
     lines: &[[u8; 8336]; 2],
@@ -156,8 +160,8 @@ fn merge_ready(
     right_constants: &[u8],
     out: &mut [u8],
 ) -> Answer
-    requires { ⌜ ((x : Projection) × (y : Projection) × (js : List Pair) × (ks : List Pair) × (ls : List Pair) × IsNamed (now left) (getD (now tables) 0 []) (now «left_spots») prefixL false (now «left_constants») (getD (now pools) 0 []) (getD (now news) 0 []) (getD (now lines) 0 []) (sides .left) x js ks × IsNamed (now right) (getD (now tables) 1 []) (now «right_spots») prefixR true (now «right_constants») (getD (now pools) 1 []) (getD (now news) 1 []) (getD (now lines) 1 []) (sides .right) y js ls) × (sides .gone ≡ goneMask (getD (now lines) 0 []) (sides .left .side) (getD (now lines) 1 []) (sides .right .side)) ⌝ }
-    ensures { λ result. ⌜ ((x y : Projection) (js ks ls : List Pair) → IsNamed (now (left .entry)) (getD (now (tables .entry)) 0 []) (now («left_spots» .entry)) prefixL false (now («left_constants» .entry)) (getD (now (pools .entry)) 0 []) (getD (now (news .entry)) 0 []) (getD (now (lines .entry)) 0 []) (sides .left) x js ks → IsNamed (now (right .entry)) (getD (now (tables .entry)) 1 []) (now («right_spots» .entry)) prefixR true (now («right_constants» .entry)) (getD (now (pools .entry)) 1 []) (getD (now (news .entry)) 1 []) (getD (now (lines .entry)) 1 []) (sides .right) y js ls → Answered (joinedBehind (now (head .entry)) x y js ks ls) (now (out .entry)) (now (out .exit)) result) ⌝ }
+    requires { ⌜ ((x : Projection) × (y : Projection) × (js : List Pair) × (ks : List Pair) × (ls : List Pair) × IsNamed (now left) (getD (now tables) 0 []) (take (sides .spots) (now spots)) prefixL false (now «left_constants») (getD (now pools) 0 []) (getD (now news) 0 []) (getD (now lines) 0 []) (sides .left) x js ks × IsNamed (now right) (getD (now tables) 1 []) (rest (sides .spots) (now spots)) prefixR true (now «right_constants») (getD (now pools) 1 []) (getD (now news) 1 []) (getD (now lines) 1 []) (sides .right) y js ls) × (sides .gone ≡ goneMask (getD (now lines) 0 []) (sides .left .side) (getD (now lines) 1 []) (sides .right .side)) × (sides .spots ≤ length (now spots)) ⌝ }
+    ensures { λ result. ⌜ ((x y : Projection) (js ks ls : List Pair) → IsNamed (now (left .entry)) (getD (now (tables .entry)) 0 []) (take (sides .spots) (now (spots .entry))) prefixL false (now («left_constants» .entry)) (getD (now (pools .entry)) 0 []) (getD (now (news .entry)) 0 []) (getD (now (lines .entry)) 0 []) (sides .left) x js ks → IsNamed (now (right .entry)) (getD (now (tables .entry)) 1 []) (rest (sides .spots) (now (spots .entry))) prefixR true (now («right_constants» .entry)) (getD (now (pools .entry)) 1 []) (getD (now (news .entry)) 1 []) (getD (now (lines .entry)) 1 []) (sides .right) y js ls → Answered (joinedBehind (now (head .entry)) x y js ks ls) (now (out .entry)) (now (out .exit)) result) ⌝ }
 {
     let mut none = [0u8; 0];
     let size = put_merged(
@@ -166,8 +170,7 @@ fn merge_ready(
         right,
         sides,
         tables,
-        left_spots,
-        right_spots,
+        spots,
         pools,
         news,
         lines,
@@ -184,8 +187,7 @@ fn merge_ready(
         right,
         sides,
         tables,
-        left_spots,
-        right_spots,
+        spots,
         pools,
         news,
         lines,
@@ -204,26 +206,26 @@ fn merge_found(
     right: &[u8],
     found: FoundPair,
     tables: &[[Entry; 1024]; 2],
-    left_nodes: &[Node],
-    left_spots: &mut [Spot],
-    right_nodes: &[Node],
-    right_spots: &mut [Spot],
+    nodes: &[Node],
+    spots: &mut [Spot],
     left_constants: &[u8],
     right_constants: &[u8],
     out: &mut [u8],
 ) -> Answer
-    requires { ⌜ ((x : Projection) × (y : Projection) × (js : List Pair) × (ks : List Pair) × (ls : List Pair) × IsFound (now left) (getD (now tables) 0 []) (now «left_spots») false (now «left_constants») (found .left) x js ks × IsFound (now right) (getD (now tables) 1 []) (now «right_spots») true (now «right_constants») (found .right) y js ls) × Worded (now words) × Shaped (now words) (now «left_nodes») (length (now «left_nodes»)) (length (now «left_spots»)) × Shaped (now words) (now «right_nodes») (length (now «right_nodes»)) (length (now «right_spots»)) ⌝ }
-    ensures { λ result. ⌜ ((x y : Projection) (js ks ls : List Pair) → IsFound (now (left .entry)) (getD (now (tables .entry)) 0 []) (now («left_spots» .entry)) false (now («left_constants» .entry)) (found .left) x js ks → IsFound (now (right .entry)) (getD (now (tables .entry)) 1 []) (now («right_spots» .entry)) true (now («right_constants» .entry)) (found .right) y js ls → Answered (joinedBehind (now (head .entry)) x y js ks ls) (now (out .entry)) (now (out .exit)) result) ⌝ }
+    requires { ⌜ ((x : Projection) × (y : Projection) × (js : List Pair) × (ks : List Pair) × (ls : List Pair) × IsFound (now left) (getD (now tables) 0 []) (take (found .spots) (now spots)) false (now «left_constants») (found .left) x js ks × IsFound (now right) (getD (now tables) 1 []) (rest (found .spots) (now spots)) true (now «right_constants») (found .right) y js ls) × Worded (now words) × BothShaped (now words) (now nodes) (found .nodes) (now spots) (found .spots) ⌝ }
+    ensures { λ result. ⌜ ((x y : Projection) (js ks ls : List Pair) → IsFound (now (left .entry)) (getD (now (tables .entry)) 0 []) (take (found .spots) (now (spots .entry))) false (now («left_constants» .entry)) (found .left) x js ks → IsFound (now (right .entry)) (getD (now (tables .entry)) 1 []) (rest (found .spots) (now (spots .entry))) true (now («right_constants» .entry)) (found .right) y js ls → Answered (joinedBehind (now (head .entry)) x y js ks ls) (now (out .entry)) (now (out .exit)) result) ⌝ }
 {
     let mut pools = [[0u8; 16384]; 2];
     let mut news = [[[0u16; 2]; 1024]; 2];
     let mut lines = [[0u8; 8336]; 2];
+    let k = found.spots;
+    let m = found.nodes;
     let l = name_one(
         words,
         left,
         &tables[0],
-        left_nodes,
-        left_spots,
+        &nodes[..m],
+        &mut spots[..k],
         b'l',
         found.left,
         &mut pools[0],
@@ -234,8 +236,8 @@ fn merge_found(
         words,
         right,
         &tables[1],
-        right_nodes,
-        right_spots,
+        &nodes[m..],
+        &mut spots[k..],
         b'r',
         found.right,
         &mut pools[1],
@@ -250,11 +252,11 @@ fn merge_found(
         NamedPair {
             left: l,
             right: r,
+            spots: k,
             gone,
         },
         tables,
-        left_spots,
-        right_spots,
+        spots,
         &pools,
         &news,
         &lines,
@@ -273,17 +275,15 @@ pub fn merge_projects(
     right: &[u8],
     texts: Texts,
     tables: &[[Entry; 1024]; 2],
-    left_nodes: &[Node],
-    left_spots: &mut [Spot],
-    right_nodes: &[Node],
-    right_spots: &mut [Spot],
+    nodes: &[Node],
+    spots: &mut [Spot],
     pairs: &[u8],
     left_constants: &[u8],
     right_constants: &[u8],
     out: &mut [u8],
 ) -> Answer
-    requires { ⌜ ((x : Projection) × StandsAt 0 (now left) (texts .left) (now tables) (now «left_spots») (tree x)) × ((y : Projection) × StandsAt 1 (now right) (texts .right) (now tables) (now «right_spots») (tree y)) × ListsRead (now pairs) (now «left_constants») (now «right_constants») × Worded (now words) × Shaped (now words) (now «left_nodes») (length (now «left_nodes»)) (length (now «left_spots»)) × Shaped (now words) (now «right_nodes») (length (now «right_nodes»)) (length (now «right_spots»)) ⌝ }
-    ensures { λ r. ⌜ ((x y : Projection) (js ks ls : List Pair) → StandsAt 0 (now (left .entry)) (texts .left) (now (tables .entry)) (now («left_spots» .entry)) (tree x) → StandsAt 1 (now (right .entry)) (texts .right) (now (tables .entry)) (now («right_spots» .entry)) (tree y) → Lists (now (pairs .entry)) (now («left_constants» .entry)) (now («right_constants» .entry)) js ks ls → Answered (joinedBehind (now (head .entry)) x y js ks ls) (now (out .entry)) (now (out .exit)) r) ⌝ }
+    requires { ⌜ ((x : Projection) × StandsAt 0 (now left) (texts .left) (now tables) (take (texts .spots) (now spots)) (tree x)) × ((y : Projection) × StandsAt 1 (now right) (texts .right) (now tables) (rest (texts .spots) (now spots)) (tree y)) × ListsRead (now pairs) (now «left_constants») (now «right_constants») × Worded (now words) × BothShaped (now words) (now nodes) (texts .nodes) (now spots) (texts .spots) ⌝ }
+    ensures { λ r. ⌜ ((x y : Projection) (js ks ls : List Pair) → StandsAt 0 (now (left .entry)) (texts .left) (now (tables .entry)) (take (texts .spots) (now (spots .entry))) (tree x) → StandsAt 1 (now (right .entry)) (texts .right) (now (tables .entry)) (rest (texts .spots) (now (spots .entry))) (tree y) → Lists (now (pairs .entry)) (now («left_constants» .entry)) (now («right_constants» .entry)) js ks ls → Answered (joinedBehind (now (head .entry)) x y js ks ls) (now (out .entry)) (now (out .exit)) r) ⌝ }
 {
     let mut joins = [0u16; ENTRIES];
     let mut at = [0u16; ENTRIES];
@@ -337,12 +337,12 @@ pub fn merge_projects(
         FoundPair {
             left: left_found,
             right: right_found,
+            spots: texts.spots,
+            nodes: texts.nodes,
         },
         tables,
-        left_nodes,
-        left_spots,
-        right_nodes,
-        right_spots,
+        nodes,
+        spots,
         left_constants,
         right_constants,
         out,

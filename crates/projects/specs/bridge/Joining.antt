@@ -1,9 +1,9 @@
 -- What the calls that join know once their texts are checked, and what is to come of it. Assumes nothing.
-use Prim.Native.Nat.{ℕ, _*_, _≤_}
+use Prim.Native.Nat.{ℕ, _*_, _-_, _/_, _≤_}
 use mathlib.Core.Path.{_≡_}
 use mathlib.Core.List.{List, [], _++_}
 use mathlib.Core.Bool.{Bool, true, false}
-use lib.ListN.{length, getD}
+use lib.ListN.{length, getD, take, drop}
 use lib.Count.{ones}
 use Rattle.text.specs.Text.{Bytes, Line, textOf}
 use Rattle.algebra.specs.Tree.{Pattern}
@@ -33,7 +33,7 @@ use Rattle.projects.specs.declared.one.NamedSide.{NamedSide}
 use Rattle.sides.specs.declared.side.Outline.{Outline}
 use Rattle.sides.specs.declared.side.Side.{Side}
 use Rattle.columns.specs.bridge.Columns.{columnsIn, maskOf, picked, goneBits}
-use Rattle.descending.specs.bridge.Renamed.{Renamed}
+use Rattle.descending.specs.bridge.Renamed.{Renamed, Shaped}
 use Rattle.columns.specs.bridge.Listed.{Listed, positionsIn, Kept, termsFrom}
 use Rattle.sides.specs.bridge.Side.{TreeIn, Placed, Renames, OutlineIs, SideIs, joinLine, valuesLines}
 
@@ -131,6 +131,21 @@ pushedBehind head x ks =
     (written (head ++ layout (pushedTree x ks)))
 
 -- ---- two sides
+
+-- the first half of an array
+abbrev pub half : List (List ℕ) → List (List ℕ)
+half v = take (length v / 2) v
+
+-- what stands behind the first k entries
+abbrev pub rest : ℕ → List (List ℕ) → List (List ℕ)
+rest k v = take (length v - k) (drop k v)
+
+-- the lines and the variables that were noted of two trees: the first m and k are the left one's, the others the right one's
+pub record BothShaped (words nodes : List (List ℕ)) (m : ℕ) (spots : List (List ℕ)) (k : ℕ) : Type 0 where
+  pub left : Shaped words (take m nodes) (length (take m nodes)) (length (take k spots))
+  pub right : Shaped words (rest m nodes) (length (rest m nodes)) (length (rest k spots))
+  pub nodes-high : m ≤ length nodes
+  pub spots-high : k ≤ length spots
 
 -- the lists of a merge
 pub record Lists (pairs leftConstants rightConstants : Bytes) (js ks ls : List Pair) : Type 0 where

@@ -2,7 +2,7 @@
 use borrow.Author.Needs.{needs}
 use native.Mathlib.Omega.{arith}
 use lib.ListN.{replicate}
-use Rattle.projects.proofs.Known as KN
+use Rattle.projects.proofs.Halves as H
 use Rattle.joining.proofs.merge.merge_small.Statement.{statement}
 use Rattle.joining.proofs.merge.merge_small.Tie as tie
 
@@ -12,8 +12,6 @@ merge-small-spec =
     (tie.spec
     (λ c. search needs)
     (λ c. search needs)
-    (λ c. search needs)
-    (λ c. search needs)
-    (λ c κs. let c11 = c .before .before .before .before .before .before .before .before .before .before .before in (KN.has-room (c11 .args .left .now) 512 (replicate 3 0) (λ h. let p = c11 .pre .1 in omega (arith, p)), KN.has-room (c11 .args .right .now) 512 (replicate 3 0) (λ h. let p = c11 .pre .2 in omega (arith, p)), c11 .pre .0, KN.has-nodes (c11 .args .left .now) 512 (replicate 3 0) (λ h m g k. let p = c11 .pre .1 in omega (arith, p, g)), KN.has-nodes (c11 .args .right .now) 512 (replicate 3 0) (λ h m g k. let p = c11 .pre .2 in omega (arith, p, g))))
+    (λ c κs. let c9 = c .before .before .before .before .before .before .before .before .before in (H.half-room (c9 .args .left .now) 512 (replicate 3 0) (λ h. let p = c9 .pre .1 in omega (arith, p)), H.half-room (c9 .args .right .now) 512 (replicate 3 0) (λ h. let p = c9 .pre .2 in omega (arith, p)), c9 .pre .0, H.half-nodes (c9 .args .left .now) 512 (replicate 3 0) (λ h m g k. let p = c9 .pre .1 in omega (arith, p, g)), H.half-nodes (c9 .args .right .now) 512 (replicate 3 0) (λ h m g k. let p = c9 .pre .2 in omega (arith, p, g))))
     (λ c. search needs)
     (λ c. search needs))
