@@ -15,15 +15,18 @@ use Rattle.algebra.specs.Texts.{readTree, readQuery, readPairs}
 use Rattle.algebra.specs.Query as Query
 use Rattle.algebra.specs.declared.Answer.{Answer as Check}
 use Rattle.algebra.specs.declared.Answer.the-variants as C
-use Rattle.answers.specs.Outcome.{written, then, refusedUnless, Reported, Answered}
-use Rattle.answers.specs.declared.Answer.the-variants.{Malformed, OverBound, NotMergeable}
+use Rattle.answers.specs.Outcome.{Outcome, written, then, refusedUnless, Reported, Answered}
+use Rattle.answers.specs.declared.Answer.{Answer}
+use Rattle.answers.proofs.Answers.{answered}
+use Rattle.answers.specs.declared.Answer.the-variants.{Malformed, OverBound, NotMergeable, NotProject}
 use Rattle.merging.specs.Request.{Projection, asProject, made, readConstants, joinPositions, byPosition, constantsIn}
 use Rattle.merging.specs.Merge.{lists, isSelectOrAsk, mergeable, mergeTrees, mergePatternsOutcome, mergeQueriesOutcome}
 use Rattle.merging.specs.Push.{pushConstantsInProjectPattern, pushed, pushConstants, pushConstantsOutcome}
 use Rattle.heads.specs.bridge.TreeAt.{TreeAt}
 use Rattle.heads.proofs.Queries.{over-layout, query-layout}
 use Rattle.joining.specs.bridge.Form.{headless, readForm, headOf, mayMerge, mergeOutcome}
-use Rattle.projects.specs.bridge.Joining.{KnownTerms, ListsRead, ListsChecked, pushedBehind, mergedBehind}
+use Rattle.projects.specs.bridge.Joining.{KnownTerms, ListsRead, ListsChecked, pushedBehind, mergedBehind, joinedBehind}
+use Rattle.projects.proofs.Outcomes as O
 
 -- ---- push constants
 
@@ -127,7 +130,23 @@ module _ (query : Bool) (left right pairs leftConstants rightConstants : Bytes) 
   unfolding mergeOutcome Reported
   not-mergeable out h = rw (read, read′, r .joins-read, r .left .read, r .right .read, sym e ∙ not-true b h) (refl, refl, refl)
 
-  pub merge-asks : (head : Bytes) → head ≡ headOf query p → not b ≡ false → mergeOutcome query left right pairs leftConstants rightConstants ≡ mergedBehind head (p .tree) (q .tree) (r .js) (r .left .list) (r .right .list)
+  merge-asks : (head : Bytes) → head ≡ headOf query p → not b ≡ false → mergeOutcome query left right pairs leftConstants rightConstants ≡ mergedBehind head (p .tree) (q .tree) (r .js) (r .left .list) (r .right .list)
   unfolding mergeOutcome
   merge-asks head w h = rw (read, read′, r .joins-read, r .left .read, r .right .read, sym e ∙ not-false b h)
       (λ i. mergeTrees (p .tree) (q .tree) (joinPositions (r .js)) (byPosition (constantsIn (r .left .list))) (byPosition (constantsIn (r .right .list))) (λ t. written (sym w i ++ layout t)))
+
+  abbrev behind : Bytes → Outcome
+  behind head = mergedBehind head (p .tree) (q .tree) (r .js) (r .left .list) (r .right .list)
+
+  -- their heads are one
+  module _ (may : not b ≡ false) where
+    pub left-no-project : (out : Bytes) → asProject (p .tree) ≡ none → Answered (mergeOutcome query left right pairs leftConstants rightConstants) out out NotProject
+    left-no-project out z = answered (behind (headOf query p)) _ out out NotProject (merge-asks (headOf query p) refl may) (O.left-no-project (headOf query p) (p .tree) (q .tree) (r .js) (r .left .list) (r .right .list) out z)
+
+    pub right-no-project : (out : Bytes) (x : Projection) → asProject (p .tree) ≡ some x → asProject (q .tree) ≡ none → Answered (mergeOutcome query left right pairs leftConstants rightConstants) out out NotProject
+    right-no-project out x e z = answered (behind (headOf query p)) _ out out NotProject (merge-asks (headOf query p) refl may) (O.right-no-project (headOf query p) (p .tree) (q .tree) (r .js) (r .left .list) (r .right .list) out x e z)
+
+    -- both trees are projects
+    pub projects-answer : (head : Bytes) → head ≡ headOf query p → (x y : Projection) → asProject (p .tree) ≡ some x → asProject (q .tree) ≡ some y → (out out′ : Bytes) (a : Answer)
+        → Answered (joinedBehind head x y (r .js) (r .left .list) (r .right .list)) out out′ a → Answered (mergeOutcome query left right pairs leftConstants rightConstants) out out′ a
+    projects-answer head w x y e f out out′ a z = answered (joinedBehind head x y (r .js) (r .left .list) (r .right .list)) _ out out′ a (merge-asks head w may ∙ O.merged-as head (p .tree) (q .tree) (r .js) (r .left .list) (r .right .list) x y e f) z

@@ -19,13 +19,10 @@ use text::piece;
 use words::table::WordRow;
 use words::table::all_words;
 ghost use mathlib.Core.Path.{_≡_};
-ghost use mathlib.Core.List.{List};
 ghost use Prim.Native.Nat.{_≤_};
 ghost use lib.ListN.{length, take};
-ghost use Rattle.algebra.specs.Query.{Pair};
 ghost use Rattle.answers.specs.Outcome.{Answered};
-ghost use Rattle.algebra.specs.Tree.{Pattern};
-ghost use Rattle.projects.specs.bridge.Joining.{half, rest, BothShaped, StandsAt, HasRoom, HasNodes, Lists, mergedBehind, ListsRead, TermsChecked, ListsChecked};
+ghost use Rattle.projects.specs.bridge.Joining.{half, rest, BothShaped, HasRoom, HasNodes, ListsRead, TermsChecked, ListsChecked};
 ghost use Rattle.words.specs.bridge.Words.{Worded};
 ghost use Rattle.descending.specs.bridge.Renamed.{Shaped};
 ghost use Rattle.joining.specs.bridge.Form.{mergeOutcome, KnownAt};
@@ -54,46 +51,6 @@ fn check_lists(pairs: &[u8], left_constants: &[u8], right_constants: &[u8]) -> C
     }
 }
 
-// merge_project_patterns: two trees that were checked, behind a head.
-fn merge_trees(
-    words: &[WordRow; 56],
-    head: &[u8],
-    left: &[u8],
-    right: &[u8],
-    texts: Texts,
-    tables: &[[Entry; 1024]; 2],
-    nodes: &[Node],
-    spots: &mut [Spot],
-    pairs: &[u8],
-    left_constants: &[u8],
-    right_constants: &[u8],
-    out: &mut [u8],
-) -> Answer
-    requires { ⌜ ((p : Pattern) × StandsAt 0 (now left) (texts .left) (now tables) (take (texts .spots) (now spots)) p) × ((q : Pattern) × StandsAt 1 (now right) (texts .right) (now tables) (rest (texts .spots) (now spots)) q) × ListsRead (now pairs) (now «left_constants») (now «right_constants») × Worded (now words) × BothShaped (now words) (now nodes) (texts .nodes) (now spots) (texts .spots) ⌝ }
-    ensures { λ r. ⌜ ((p q : Pattern) (js ks ls : List Pair) → StandsAt 0 (now (left .entry)) (texts .left) (now (tables .entry)) (take (texts .spots) (now (spots .entry))) p → StandsAt 1 (now (right .entry)) (texts .right) (now (tables .entry)) (rest (texts .spots) (now (spots .entry))) q → Lists (now (pairs .entry)) (now («left_constants» .entry)) (now («right_constants» .entry)) js ks ls → Answered (mergedBehind (now (head .entry)) p q js ks ls) (now (out .entry)) (now (out .exit)) r) ⌝ }
-{
-    if !is_project(left, texts.left.from) {
-        return Answer::NotProject;
-    }
-    if !is_project(right, texts.right.from) {
-        return Answer::NotProject;
-    }
-    merge_projects(
-        words,
-        head,
-        left,
-        right,
-        texts,
-        tables,
-        nodes,
-        spots,
-        pairs,
-        left_constants,
-        right_constants,
-        out,
-    )
-}
-
 // The longer of two lengths.
 fn longer(a: usize, b: usize) -> usize
     ensures { λ r. ⌜ (a ≤ r) × (b ≤ r) ⌝ }
@@ -104,8 +61,8 @@ fn longer(a: usize, b: usize) -> usize
     a
 }
 
-// A merge for two texts and lists that were checked: 5 unless their heads are one, then their trees.
-fn merge_heads(
+// A merge for two texts and lists that were checked: 5 unless their heads are one, 4 unless their trees are projects.
+fn merge_checked(
     query: bool,
     words: &[WordRow; 56],
     left: &[u8],
@@ -125,7 +82,13 @@ fn merge_heads(
     if !may_merge(query, left, texts.left.from, right, texts.right.from) {
         return Answer::NotMergeable;
     }
-    merge_trees(
+    if !is_project(left, texts.left.from) {
+        return Answer::NotProject;
+    }
+    if !is_project(right, texts.right.from) {
+        return Answer::NotProject;
+    }
+    merge_projects(
         words,
         piece(left, 0, texts.left.from),
         left,
@@ -160,7 +123,7 @@ fn merge_listed(
     ensures { λ r. ⌜ Answered (mergeOutcome query (now (left .entry)) (now (right .entry)) (now (pairs .entry)) (now («left_constants» .entry)) (now («right_constants» .entry))) (now (out .entry)) (now (out .exit)) r ⌝ }
 {
     match check_lists(pairs, left_constants, right_constants) {
-        Check::Good(_) => merge_heads(
+        Check::Good(_) => merge_checked(
             query,
             words,
             left,
@@ -246,10 +209,9 @@ fn merge_right(
     }
 }
 
-// The same for any two texts, with room for their variables: each has half of it.
+// The same for any two texts, with room for their variables, of which each has half; the table of words is laid out.
 fn merge_left(
     query: bool,
-    words: &[WordRow; 56],
     left: &[u8],
     right: &[u8],
     nodes: &mut [Node],
@@ -259,16 +221,17 @@ fn merge_left(
     right_constants: &[u8],
     out: &mut [u8],
 ) -> Answer
-    requires { ⌜ HasRoom (now left) (half (now spots)) × HasRoom (now right) (half (now spots)) × Worded (now words) × HasNodes (now left) (half (now nodes)) × HasNodes (now right) (half (now nodes)) ⌝ }
+    requires { ⌜ HasRoom (now left) (half (now spots)) × HasRoom (now right) (half (now spots)) × HasNodes (now left) (half (now nodes)) × HasNodes (now right) (half (now nodes)) ⌝ }
     ensures { λ r. ⌜ Answered (mergeOutcome query (now (left .entry)) (now (right .entry)) (now (pairs .entry)) (now («left_constants» .entry)) (now («right_constants» .entry))) (now (out .entry)) (now (out .exit)) r ⌝ }
 {
+    let words = all_words();
     let i = spots.len() / 2;
     let j = nodes.len() / 2;
     let mut tables = [[[0u16; 2]; 1024]; 2];
     let mut hints = [0u16; 2048];
     match note_form(
         query,
-        words,
+        &words,
         left,
         &mut tables[0],
         &mut hints,
@@ -279,7 +242,7 @@ fn merge_left(
             let from = start_of(query, left);
             merge_right(
                 query,
-                words,
+                &words,
                 left,
                 right,
                 Noted {
@@ -304,7 +267,6 @@ fn merge_left(
 // The same for texts of 1,536 bytes at most: room for their variables is cleared first, so there is as much as pays.
 fn merge_small(
     query: bool,
-    words: &[WordRow; 56],
     left: &[u8],
     right: &[u8],
     pairs: &[u8],
@@ -312,14 +274,13 @@ fn merge_small(
     right_constants: &[u8],
     out: &mut [u8],
 ) -> Answer
-    requires { ⌜ Worded (now words) × (length (now left) ≤ 1536) × (length (now right) ≤ 1536) ⌝ }
+    requires { ⌜ (length (now left) ≤ 1536) × (length (now right) ≤ 1536) ⌝ }
     ensures { λ r. ⌜ Answered (mergeOutcome query (now (left .entry)) (now (right .entry)) (now (pairs .entry)) (now («left_constants» .entry)) (now («right_constants» .entry))) (now (out .entry)) (now (out .exit)) r ⌝ }
 {
     let mut nodes = [[0u32; 3]; 1024];
     let mut spots = [[0u16; 3]; 1024];
     merge_left(
         query,
-        words,
         left,
         right,
         &mut nodes,
@@ -334,7 +295,6 @@ fn merge_small(
 // The same for texts of 6,144 bytes at most.
 fn merge_middle(
     query: bool,
-    words: &[WordRow; 56],
     left: &[u8],
     right: &[u8],
     pairs: &[u8],
@@ -342,14 +302,13 @@ fn merge_middle(
     right_constants: &[u8],
     out: &mut [u8],
 ) -> Answer
-    requires { ⌜ Worded (now words) × (length (now left) ≤ 6144) × (length (now right) ≤ 6144) ⌝ }
+    requires { ⌜ (length (now left) ≤ 6144) × (length (now right) ≤ 6144) ⌝ }
     ensures { λ r. ⌜ Answered (mergeOutcome query (now (left .entry)) (now (right .entry)) (now (pairs .entry)) (now («left_constants» .entry)) (now («right_constants» .entry))) (now (out .entry)) (now (out .exit)) r ⌝ }
 {
     let mut nodes = [[0u32; 3]; 4096];
     let mut spots = [[0u16; 3]; 4096];
     merge_left(
         query,
-        words,
         left,
         right,
         &mut nodes,
@@ -364,7 +323,6 @@ fn merge_middle(
 // The same for any texts.
 fn merge_large(
     query: bool,
-    words: &[WordRow; 56],
     left: &[u8],
     right: &[u8],
     pairs: &[u8],
@@ -372,14 +330,12 @@ fn merge_large(
     right_constants: &[u8],
     out: &mut [u8],
 ) -> Answer
-    requires { ⌜ Worded (now words) ⌝ }
     ensures { λ r. ⌜ Answered (mergeOutcome query (now (left .entry)) (now (right .entry)) (now (pairs .entry)) (now («left_constants» .entry)) (now («right_constants» .entry))) (now (out .entry)) (now (out .exit)) r ⌝ }
 {
     let mut nodes = [[0u32; 3]; 4096];
     let mut spots = [[0u16; 3]; 10924];
     merge_left(
         query,
-        words,
         left,
         right,
         &mut nodes,
@@ -391,7 +347,7 @@ fn merge_large(
     )
 }
 
-// The same with the table of words laid out, and as much room as the longer text asks for.
+// The same with as much room as the longer text asks for.
 pub fn merge_texts(
     query: bool,
     left: &[u8],
@@ -403,12 +359,10 @@ pub fn merge_texts(
 ) -> Answer
     ensures { λ r. ⌜ Answered (mergeOutcome query (now (left .entry)) (now (right .entry)) (now (pairs .entry)) (now («left_constants» .entry)) (now («right_constants» .entry))) (now (out .entry)) (now (out .exit)) r ⌝ }
 {
-    let words = all_words();
     let most = longer(left.len(), right.len());
     if most <= 1536 {
         return merge_small(
             query,
-            &words,
             left,
             right,
             pairs,
@@ -420,7 +374,6 @@ pub fn merge_texts(
     if most <= 6144 {
         return merge_middle(
             query,
-            &words,
             left,
             right,
             pairs,
@@ -431,7 +384,6 @@ pub fn merge_texts(
     }
     merge_large(
         query,
-        &words,
         left,
         right,
         pairs,

@@ -12,6 +12,6 @@ merge-large-spec =
     (tie.spec
     (λ c. search needs)
     (λ c. search needs)
-    (λ c κs. let c9 = c .before .before .before .before .before .before .before .before .before in (H.half-room (c9 .args .left .now) 5462 (replicate 3 0) (λ h. omega (arith, h)), H.half-room (c9 .args .right .now) 5462 (replicate 3 0) (λ h. omega (arith, h)), c9 .pre, H.half-nodes (c9 .args .left .now) 2048 (replicate 3 0) (λ h m g k. k), H.half-nodes (c9 .args .right .now) 2048 (replicate 3 0) (λ h m g k. k)))
+    (λ c κs. let c9 = c .before .before .before .before .before .before .before .before .before in (H.half-room (c9 .args .left .now) 5462 (replicate 3 0) (λ h. omega (arith, h)), H.half-room (c9 .args .right .now) 5462 (replicate 3 0) (λ h. omega (arith, h)), H.half-nodes (c9 .args .left .now) 2048 (replicate 3 0) (λ h m g k. k), H.half-nodes (c9 .args .right .now) 2048 (replicate 3 0) (λ h m g k. k)))
     (λ c. search needs)
     (λ c. search needs))

@@ -16,6 +16,6 @@ merge-listed-spec =
     (λ c. search needs)
     (λ c. search needs)
     (λ c. search needs)
-    (λ c. let c4 = c .before .before .before in c4 .merge-heads .ensures)
+    (λ c. let c4 = c .before .before .before in c4 .merge-checked .ensures)
     (λ c. let c2 = c .before .before in let c9 = c2 .before .before .before .before .before .before .before in Calls.lists-malformed _ _ _ _ _ _ _ _ (F.said-read _ _ _ _ _ _ (c9 .pre .0 .known)) _ (F.said-read _ _ _ _ _ _ (c9 .pre .1 .known)) _ (c2 .check-lists .ensures) (c .enum-told2 .given .1))
     (λ c. let c2 = c .before .before in let c9 = c2 .before .before .before .before .before .before .before in Calls.lists-over _ _ _ _ _ _ _ _ (F.said-read _ _ _ _ _ _ (c9 .pre .0 .known)) _ (F.said-read _ _ _ _ _ _ (c9 .pre .1 .known)) _ (c2 .check-lists .ensures) (c .enum-told3 .given .1)))
