@@ -12,7 +12,7 @@ use Rattle.parted.specs.Parted.{texts}
 use Rattle.algebra.specs.Query.{Query, mapping}
 use Rattle.algebra.specs.Texts.{readTree, readQuery, readPairs, readSets, readFilters}
 use Rattle.answers.specs.declared.Answer.{Answer}
-use Rattle.answers.specs.Outcome.{Outcome, refused, written, Answered}
+use Rattle.answers.specs.Outcome.{Outcome, refused, Answered}
 use Rattle.answers.proofs.Numbered.{Numbered, written-numbered, then-numbered, test-numbered, not-zero}
 use Rattle.surveying.specs.Scope.{scopeOutcome}
 use Rattle.renaming.specs.Rename.{renameOutcome}

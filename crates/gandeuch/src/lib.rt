@@ -9,7 +9,6 @@ use joining::queries::merge_queries;
 use negating::negate;
 use renaming::rename::rename;
 use surveying::scope::scope;
-ghost use mathlib.Core.Path.{_≡_};
 ghost use Rattle.answers.specs.Outcome.{Reported};
 ghost use Rattle.filtering.specs.Bindings.{bindingsOutcome};
 ghost use Rattle.filtering.specs.Filters.{filtersOutcome};

@@ -1,14 +1,14 @@
 -- An array that two texts share, the first k entries the left one's, the others the right one's: what becomes of each part when one is lent and comes back. Assumes nothing.
 use Prim.Native.Nat.{ℕ, _+_, _-_, _*_, _/_, _≤_}
 use mathlib.Core.Path.{_≡_, ap, ap₂, sym, subst, _∙_}
-use mathlib.Core.List.{List, [], _++_, append-nil}
+use mathlib.Core.List.{List, _++_, append-nil}
 use native.Mathlib.Omega.{arith}
 use borrow.Rule.Slice.PartAt.{part-to-end}
 use borrow.Rule.Slice.PartMut.{putMid, post-is, take-put, same-len-mid}
 use lib.ListN.{length, take, drop, replicate, length-append, length-drop, length-replicate}
 use lib.Seq.{take-at, drop-at, drop-length, take-add, length-take-le, length-front}
 use Rattle.text.specs.Text.{Bytes}
-use Rattle.walking.specs.bridge.Renamed.{Shaped}
+use Rattle.descending.specs.bridge.Renamed.{Shaped}
 use Rattle.projects.specs.bridge.Joining.{HasRoom, HasNodes, half, rest, BothShaped}
 use Rattle.projects.proofs.Known.{has-room, has-nodes, room-more, nodes-more}
 

@@ -9,7 +9,7 @@ use lib.Seq.{getD-take, take-all, drop-at}
 use Rattle.text.specs.Text.{Bytes, ended, part, split, linesIn, linesOf, linesFrom}
 use Rattle.text.proofs.Texts.{lines-back}
 use Rattle.text.proofs.Places.{lines-start}
-use Rattle.algebra.specs.Tree.{Pattern, project}
+use Rattle.algebra.specs.Tree.{Pattern}
 use Rattle.algebra.specs.Query.{Query, Pair, PairList, joins, constants}
 use Rattle.algebra.specs.Layout.{put, putPairs, layout}
 use Rattle.algebra.specs.Bounded.{IsPairs, layoutPairs}
@@ -44,7 +44,7 @@ use Rattle.merging.proofs.Lists.{positions-different}
 use Rattle.heads.specs.bridge.TreeAt.{headLine, TreeAt}
 use Rattle.heads.proofs.Queries.{query-valid, query-depth, query-names, query-text}
 use Rattle.columns.specs.bridge.Listed.{Listed}
-use Rattle.projects.specs.bridge.Joining.{Stands, KnownTree, KnownText, HasRoom, HasNodes, Terms, KnownTerms}
+use Rattle.projects.specs.bridge.Joining.{Stands, KnownTree, KnownText, HasRoom, HasNodes, KnownTerms}
 use Rattle.projects.proofs.Picks.{positions-are}
 
 -- ---- trees

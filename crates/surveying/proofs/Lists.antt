@@ -13,7 +13,7 @@ use Rattle.text.specs.Text.{Bytes, piece, ended, textOf}
 use Rattle.text.specs.Word.{bytes}
 use Rattle.names.specs.bridge.Names.{nameAt, listing}
 use Rattle.names.proofs.Laws.{listing-long}
-use Rattle.emit.specs.bridge.Emit.{Em, em, puts}
+use Rattle.emit.specs.bridge.Emit.{Em, puts}
 use Rattle.emit.proofs.Laws.{puts-append}
 use Rattle.names.proofs.Laws.{listing-at}
 use Rattle.scoping.specs.bridge.Becomes.{chosen}

@@ -1,5 +1,5 @@
 -- The call scope: docs/SPECIFICATION.md, "Operation by operation", scope. Assumes nothing.
-use mathlib.Core.List.{List, [], _∷_}
+use mathlib.Core.List.{[], _∷_}
 use Rattle.text.specs.Text.{Bytes, textOf}
 use Rattle.text.specs.Word.{bytes}
 use Rattle.algebra.specs.Tree.{Pattern}

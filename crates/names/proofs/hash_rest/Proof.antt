@@ -1,8 +1,8 @@
 -- `names::hash_rest` meets its contract. Assumes nothing.
 use borrow.Author.Needs.{needs}
-use Prim.Native.Nat.{ℕ, _+_, _-_, _*_, _%_, _≤_, _<_}
+use Prim.Native.Nat.{_-_, _≤_, _<_}
 use mathlib.Core.Path.{_≡_, refl, sym, _∙_}
-use lib.ListN.{length, getD, drop}
+use lib.ListN.{length, drop}
 use Rattle.names.proofs.Laws as L
 use Rattle.names.specs.bridge.Names.{hashOf}
 use Rattle.names.proofs.hash_rest.Statement.{statement}

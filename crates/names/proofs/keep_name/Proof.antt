@@ -1,6 +1,6 @@
 -- `names::keep_name` meets its contract. Assumes nothing.
 use borrow.Author.Needs.{needs}
-use Prim.Native.Nat.{ℕ, _+_, _-_, _*_, _≤_, _<_}
+use Prim.Native.Nat.{_-_}
 use native.Mathlib.Omega.{arith}
 use Rattle.names.proofs.Laws as L
 use Rattle.names.proofs.Narrow.{entry-set}

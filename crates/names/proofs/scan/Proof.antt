@@ -1,11 +1,11 @@
 -- `names::scan` meets its contract. Assumes nothing.
 use borrow.Author.Needs.{needs}
-use Prim.Native.Nat.{ℕ, _+_, _-_, _*_, _≤_, _<_}
-use mathlib.Core.Path.{_≡_, refl, sym, _∙_, ap}
+use Prim.Native.Nat.{_-_, _≤_}
+use mathlib.Core.Path.{_≡_, sym, _∙_}
 use native.Mathlib.Omega.{arith}
 use Rattle.names.proofs.Laws as L
 use Rattle.algebra.specs.Valid.{mem}
-use mathlib.Core.Bool.{true, false}
+use mathlib.Core.Bool.{false}
 use Rattle.names.specs.bridge.Names.{listing, startsOf, sizesOf}
 use Rattle.names.proofs.scan.Statement.{statement}
 use Rattle.names.proofs.scan.Tie as tie
