@@ -1,8 +1,8 @@
 // From a filter to an expression: a filter calls itself on its parts, the lines left falling.
 use cursor::Cursor;
 use names::Columns;
-use operators::head::parts_below;
-use operators::head::put_head;
+use operators::line::parts_below;
+use operators::line::put_line;
 use placing::steps::both;
 use words::table::WordRow;
 use words::word_at;
@@ -67,9 +67,9 @@ pub fn tree_to_expression(
     }
     let w = word_at(filters, from, end);
     let first = w.end + 1;
-    let head = put_head(tree, columns, n, filters, w.key, first, end, out, at);
-    let mut expressed = head.expressed;
-    let mut to = head.at;
+    let put = put_line(tree, columns, n, filters, w.key, first, end, out, at);
+    let mut expressed = put.expressed;
+    let mut to = put.at;
     let parts = parts_below(filters, words, w.key, first, end);
     let mut c = line.line_done().awaiting(parts);
     while 0 < c.awaited {

@@ -3,7 +3,7 @@ use crate::express::Walked;
 use crate::express::tree_to_expression;
 use cursor::Cursor;
 use names::Columns;
-use operators::head::is_constant_true;
+use operators::line::is_constant_true;
 use placing::steps::both;
 use words::table::WordRow;
 ghost use mathlib.Core.Path.{_≡_};

@@ -1,2 +1,2 @@
 // One line of a filter as SPARQL has it: constants, references and operators.
-pub mod head;
+pub mod line;

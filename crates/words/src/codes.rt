@@ -30,7 +30,7 @@ const SECOND: u64 = 0x100;
 const THIRD: u64 = 0x1_0000;
 
 // What stands behind the fields.
-const COLUMNS: u64 = 0x100_0000;
+const HAS_COLUMNS: u64 = 0x100_0000;
 
 const VARIABLES: u64 = 0x200_0000;
 
@@ -122,7 +122,7 @@ pub const OF_VALUES: u64 = COUNT
 
 pub const OF_ORDERBY: u64 = COUNT + (LINE + PATTERNS) * BELOW + (FIRST_NUMBER + ORDERS) * NEXT;
 
-pub const OF_PROJECT: u64 = COLUMNS + HIDES + (LINE + PATTERNS) * BELOW;
+pub const OF_PROJECT: u64 = HAS_COLUMNS + HIDES + (LINE + PATTERNS) * BELOW;
 
 pub const OF_DISTINCT: u64 = (LINE + PATTERNS) * BELOW;
 

@@ -16,8 +16,8 @@ use borrow.Fn.PlainCycle.{Measures, is, falls, and}
 use Rattle.expressing.proofs.express.tree_to_expression.Reads as tree-to-expression
 use Rattle.expressing.proofs.express.tree_to_expression.Kinds as tree-to-expression-kinds
 use Rattle.expressing.proofs.express.+tree_to_expression.Lts-tree_to_expression as tree-to-expression-lts
-use Rattle.operators.proofs.head.parts_below.Reads as parts-below-reads
-use Rattle.operators.proofs.head.put_head.Reads as put-head-reads
+use Rattle.operators.proofs.line.parts_below.Reads as parts-below-reads
+use Rattle.operators.proofs.line.put_line.Reads as put-line-reads
 use Rattle.placing.proofs.steps.both.Reads as both-reads
 use Rattle.expressing.proofs.express.line_from.Reads as line-from-reads
 use Rattle.cursor.proofs.Cursor.awaiting.Reads as awaiting-reads
@@ -68,8 +68,8 @@ pub +tree-to-expression-spec : {M : Type 1} → statement M
   line-from-reads.Learnt,
   word-at-reads.Asked,
   word-at-reads.Learnt,
-  put-head-reads.Asked,
-  put-head-reads.Learnt,
+  put-line-reads.Asked,
+  put-line-reads.Learnt,
   parts-below-reads.Asked,
   parts-below-reads.Learnt,
   line-done-reads.Asked,
@@ -107,4 +107,4 @@ pub +tree-to-expression-spec : {M : Type 1} → statement M
     (λ c. let e = ap awaited (c .child-done .ensures) in let t = c .before .before .before .before .before .before .before .if3 .taken in omega (arith, e, t))
     (λ c. let e = ap at (c .child-done .ensures) ∙ ap at (c .before .moved-to .ensures) in let i = ap awaited (c .child-done .ensures) in (search needs, rw (e, i) (X.going-next _ _ _ _ _ _ _ _ _ (c .before .before .before .before .before .before .before .before .before .loop .inv .1) (c .before .before .before .before .before .before .before .if3 .taken) _ _ (c .before .before .before .before .before .tree-to-expression .ensures) _ (c .before .before .both .ensures))))
     (λ c. search needs)
-    (λ c. let c2 = c .before .before in let c8 = c2 .before .before .before .before .before .before in let c11 = c8 .before .before .before in let c12 = c11 .before in let c13 = c12 .before in let c14 = c13 .before in let c18 = c14 .before .before .before .before in let a = c18 .args in let cs = namesIn (a .tree .now) (a .columns .now) (a .n) in let w = c11 .word-at .ensures in let l = c2 .loop .inv .1 in let n = c .if3 .left in X.walked cs _ _ (a .left) _ (c14 .if1 .left) (c13 .line-from .ensures) (c12 .if2 .left) _ _ _ _ (X.headed cs _ _ (a .left) _ (c14 .if1 .left) (c13 .line-from .ensures) (c12 .if2 .left) _ (w .0) _ _ _ (c8 .put-head .ensures _ (w .1))) _ (X.all-expressed _ _ _ _ _ _ _ _ _ l n) (X.all-left _ _ _ _ _ _ _ _ _ l n) (X.all-lines _ _ _ _ _ _ _ _ _ l n))
+    (λ c. let c2 = c .before .before in let c8 = c2 .before .before .before .before .before .before in let c11 = c8 .before .before .before in let c12 = c11 .before in let c13 = c12 .before in let c14 = c13 .before in let c18 = c14 .before .before .before .before in let a = c18 .args in let cs = namesIn (a .tree .now) (a .columns .now) (a .n) in let w = c11 .word-at .ensures in let l = c2 .loop .inv .1 in let n = c .if3 .left in X.walked cs _ _ (a .left) _ (c14 .if1 .left) (c13 .line-from .ensures) (c12 .if2 .left) _ _ _ _ (X.headed cs _ _ (a .left) _ (c14 .if1 .left) (c13 .line-from .ensures) (c12 .if2 .left) _ (w .0) _ _ _ (c8 .put-line .ensures _ (w .1))) _ (X.all-expressed _ _ _ _ _ _ _ _ _ l n) (X.all-left _ _ _ _ _ _ _ _ _ l n) (X.all-lines _ _ _ _ _ _ _ _ _ l n))

@@ -1,9 +1,9 @@
--- `operators::head/put_leaf` meets its contract. Assumes nothing.
+-- `operators::line/put_leaf` meets its contract. Assumes nothing.
 use borrow.Author.Needs.{needs}
 use native.Mathlib.Omega.{arith}
 use Rattle.operators.proofs.Headed as H
-use Rattle.operators.proofs.head.put_leaf.Statement.{statement}
-use Rattle.operators.proofs.head.put_leaf.Tie as tie
+use Rattle.operators.proofs.line.put_leaf.Statement.{statement}
+use Rattle.operators.proofs.line.put_leaf.Tie as tie
 
 pub put-leaf-spec : {M : Type 1} → statement M
 put-leaf-spec =

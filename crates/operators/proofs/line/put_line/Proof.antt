@@ -1,15 +1,15 @@
--- `operators::head/put_head` meets its contract. Assumes nothing.
+-- `operators::line/put_line` meets its contract. Assumes nothing.
 use borrow.Author.Needs.{needs}
 use native.Mathlib.Omega.{arith}
 use Rattle.names.specs.bridge.Names.{namesIn}
 use Rattle.words.specs.bridge.Key.{keyOf}
 use Rattle.operators.proofs.Headed as H
-use Rattle.operators.proofs.head.put_head.Statement.{statement}
-use Rattle.operators.proofs.head.put_head.Tie as tie
+use Rattle.operators.proofs.line.put_line.Statement.{statement}
+use Rattle.operators.proofs.line.put_line.Tie as tie
 
-pub put-head-spec : {M : Type 1} → statement M
+pub put-line-spec : {M : Type 1} → statement M
 unfolding keyOf
-put-head-spec =
+put-line-spec =
     tie.close
     (tie.spec
     (λ c κs. let p = c .before .before .before .before .before .pre in (p .1, p .2))

@@ -1,10 +1,10 @@
--- `operators::head/parts_below` meets its contract. Assumes nothing.
+-- `operators::line/parts_below` meets its contract. Assumes nothing.
 use borrow.Author.Needs.{needs}
 use mathlib.Core.Path.{ap, _∙_}
 use Rattle.words.specs.bridge.Code.{rowFound}
 use Rattle.operators.proofs.Headed as H
-use Rattle.operators.proofs.head.parts_below.Statement.{statement}
-use Rattle.operators.proofs.head.parts_below.Tie as tie
+use Rattle.operators.proofs.line.parts_below.Statement.{statement}
+use Rattle.operators.proofs.line.parts_below.Tie as tie
 
 pub parts-below-spec : {M : Type 1} → statement M
 parts-below-spec =

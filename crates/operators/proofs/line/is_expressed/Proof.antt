@@ -1,7 +1,7 @@
--- `operators::head/is_expressed` meets its contract. Assumes nothing.
+-- `operators::line/is_expressed` meets its contract. Assumes nothing.
 use Rattle.operators.proofs.Headed as H
-use Rattle.operators.proofs.head.is_expressed.Statement.{statement}
-use Rattle.operators.proofs.head.is_expressed.Tie as tie
+use Rattle.operators.proofs.line.is_expressed.Statement.{statement}
+use Rattle.operators.proofs.line.is_expressed.Tie as tie
 
 pub is-expressed-spec : {M : Type 1} → statement M
 is-expressed-spec =

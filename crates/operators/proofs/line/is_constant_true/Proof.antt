@@ -1,10 +1,10 @@
--- `operators::head/is_constant_true` meets its contract. Assumes nothing.
+-- `operators::line/is_constant_true` meets its contract. Assumes nothing.
 use borrow.Author.Needs.{needs}
 use native.Mathlib.Omega.{arith}
 use Rattle.words.specs.bridge.Key.{keyOf}
 use Rattle.operators.proofs.Headed as H
-use Rattle.operators.proofs.head.is_constant_true.Statement.{statement}
-use Rattle.operators.proofs.head.is_constant_true.Tie as tie
+use Rattle.operators.proofs.line.is_constant_true.Statement.{statement}
+use Rattle.operators.proofs.line.is_constant_true.Tie as tie
 
 pub is-constant-true-spec : {M : Type 1} → statement M
 unfolding keyOf

@@ -181,7 +181,7 @@ fn put_binary(name: &[u8], out: &mut [u8], at: usize) -> Head
 }
 
 // The lines that a line becomes whose word has this key and whose other fields stand from `first` to its end; its parts' follow.
-pub fn put_head(
+pub fn put_line(
     tree: &[u8],
     columns: &Columns,
     n: usize,

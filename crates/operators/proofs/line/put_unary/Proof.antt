@@ -1,8 +1,8 @@
--- `operators::head/put_unary` meets its contract. Assumes nothing.
+-- `operators::line/put_unary` meets its contract. Assumes nothing.
 use borrow.Author.Needs.{needs}
 use Rattle.operators.proofs.Headed as H
-use Rattle.operators.proofs.head.put_unary.Statement.{statement}
-use Rattle.operators.proofs.head.put_unary.Tie as tie
+use Rattle.operators.proofs.line.put_unary.Statement.{statement}
+use Rattle.operators.proofs.line.put_unary.Tie as tie
 
 pub put-unary-spec : {M : Type 1} → statement M
 put-unary-spec =

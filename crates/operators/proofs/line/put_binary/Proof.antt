@@ -1,8 +1,8 @@
--- `operators::head/put_binary` meets its contract. Assumes nothing.
+-- `operators::line/put_binary` meets its contract. Assumes nothing.
 use borrow.Author.Needs.{needs}
 use Rattle.operators.proofs.Headed as H
-use Rattle.operators.proofs.head.put_binary.Statement.{statement}
-use Rattle.operators.proofs.head.put_binary.Tie as tie
+use Rattle.operators.proofs.line.put_binary.Statement.{statement}
+use Rattle.operators.proofs.line.put_binary.Tie as tie
 
 pub put-binary-spec : {M : Type 1} → statement M
 put-binary-spec =

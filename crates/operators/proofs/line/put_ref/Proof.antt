@@ -1,10 +1,10 @@
--- `operators::head/put_ref` meets its contract. Assumes nothing.
+-- `operators::line/put_ref` meets its contract. Assumes nothing.
 use borrow.Author.Needs.{needs}
 use native.Mathlib.Omega.{arith}
 use Rattle.names.specs.bridge.Names.{namesIn}
 use Rattle.operators.proofs.Headed as H
-use Rattle.operators.proofs.head.put_ref.Statement.{statement}
-use Rattle.operators.proofs.head.put_ref.Tie as tie
+use Rattle.operators.proofs.line.put_ref.Statement.{statement}
+use Rattle.operators.proofs.line.put_ref.Tie as tie
 
 pub put-ref-spec : {M : Type 1} → statement M
 put-ref-spec =
