@@ -12,6 +12,7 @@ pub enum Answer {
     NotMergeable,
     TooShort,
     NotUsable,
+    Repeated,
 }
 
 // Its number: docs/SPECIFICATION.md, "Numbers".
@@ -27,6 +28,7 @@ pub fn number(a: Answer) -> u8
         Answer::NotMergeable => 5,
         Answer::TooShort => 6,
         Answer::NotUsable => 7,
+        Answer::Repeated => 10,
     }
 }
 
@@ -43,5 +45,6 @@ pub fn size_of(a: Answer) -> usize
         Answer::NotMergeable => 0,
         Answer::TooShort => 0,
         Answer::NotUsable => 0,
+        Answer::Repeated => 0,
     }
 }

@@ -76,13 +76,13 @@ one-term (c ∷ cs) (x ∷ xs) d = and-both (compatible x (named cs xs c)) (oneT
 
 module _ (prefix : ℕ) (x : Projection) (is : List ℕ) (ks : List Constant) (k : Known prefix x is ks) (s : Supposed x) where
   -- the premises as crates/scoping wants them for the names
-  pub names-of : differentPositions is ≡ true → NamePremises (x .columns) (x .inner) is
-  names-of d = record {
+  pub names-of : NamePremises (x .columns) (x .inner) is
+  names-of = record {
     valid = k .valid;
     plain = s .no-label;
     columns = s .columns-once;
     positions = k .joins-inside;
-    different = d;
+    different = k .joins-once;
   }
 
   -- every name of the tree is numbered
@@ -96,11 +96,11 @@ module _ (prefix : ℕ) (x : Projection) (is : List ℕ) (ks : List Constant) (k
   few-pairs : length is ≤ most
   few-pairs = let a = k .pairs in omega arith
 
-  side-fit : (prefix ≡ prefixJ → ⊥) → differentPositions is ≡ true → SideFit (standardized prefix (x .columns) (x .inner) is ks)
+  side-fit : (prefix ≡ prefixJ → ⊥) → SideFit (standardized prefix (x .columns) (x .inner) is ks)
   unfolding isVar
-  side-fit n d = record {
-    apart = λ u v h j. side-apart (x .columns) (x .inner) is (names-of d) prefix n u v (numbered-if u h) (numbered-if v j);
-    variables = λ v h. side-variables (x .columns) (x .inner) is (names-of d) prefix few-names few-pairs v (numbered-if v h);
+  side-fit n = record {
+    apart = λ u v h j. side-apart (x .columns) (x .inner) is names-of prefix n u v (numbered-if u h) (numbered-if v j);
+    variables = λ v h. side-variables (x .columns) (x .inner) is names-of prefix few-names few-pairs v (numbered-if v h);
     no-empty = not-true (mem [] (names (tree x))) (λ m. false≢true (numbered-variable (tree x) (k .valid) [] (numbered-if [] m)));
     constant-inside = k .constants-inside;
     constant-once = one-term (constantColumns (x .columns) ks) (map cell (constantTerms ks)) (columns-at-different (x .columns) (s .columns-once) (λ c. c .position) ks (k .constants-inside) (k .constants-good .different));
@@ -115,15 +115,15 @@ columns-map cs f (j ∷ js) = ap (λ (l : List Bytes). getD cs (f j) [] ∷ l) (
 
 module _ (m : Request) (a : Known prefixL (m .left) (lefts (m .joins)) (m .left-constants)) (b : Known prefixR (m .right) (rights (m .joins)) (m .right-constants)) (s : Premises m) where
   pub left-names : NamePremises (m .left .columns) (m .left .inner) (lefts (m .joins))
-  left-names = names-of prefixL (m .left) (lefts (m .joins)) (m .left-constants) a (s .left) (s .left-once)
+  left-names = names-of prefixL (m .left) (lefts (m .joins)) (m .left-constants) a (s .left)
 
   pub right-names : NamePremises (m .right .columns) (m .right .inner) (rights (m .joins))
-  right-names = names-of prefixR (m .right) (rights (m .joins)) (m .right-constants) b (s .right) (s .right-once)
+  right-names = names-of prefixR (m .right) (rights (m .joins)) (m .right-constants) b (s .right)
 
   pub sides-fit : Fit (leftSide m) (rightSide m) (m .joins)
   sides-fit = record {
-    left = side-fit prefixL (m .left) (lefts (m .joins)) (m .left-constants) a (s .left) (λ e. omega arith) (s .left-once);
-    right = side-fit prefixR (m .right) (rights (m .joins)) (m .right-constants) b (s .right) (λ e. omega arith) (s .right-once);
+    left = side-fit prefixL (m .left) (lefts (m .joins)) (m .left-constants) a (s .left) (λ e. omega arith);
+    right = side-fit prefixR (m .right) (rights (m .joins)) (m .right-constants) b (s .right) (λ e. omega arith);
     joined = λ u v h k.
         sides-meet (m .left .columns) (m .left .inner) (lefts (m .joins)) (m .right .columns) (m .right .inner) (rights (m .joins)) left-names right-names u v
         (numbered-if prefixL (m .left) (lefts (m .joins)) (m .left-constants) a (s .left) u h) (numbered-if prefixR (m .right) (rights (m .joins)) (m .right-constants) b (s .right) v k)

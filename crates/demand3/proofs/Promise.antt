@@ -1,4 +1,4 @@
--- The promise of demand 3, of two trees that were read and of lists whose positions are all inside. Assumes nothing.
+-- The promise of demand 3, of two trees that were read and of lists whose positions are all inside, none twice on its side. Assumes nothing.
 use mathlib.Core.Path.{_≡_, refl, sym, ap, _∙_}
 use mathlib.Core.Bool.{true, _&&_}
 use mathlib.Core.List.{List, map}
@@ -13,7 +13,7 @@ use Rattle.algebra.specs.Layout.{layout}
 use Rattle.algebra.proofs.Roomy.{read-any-exactly}
 use Rattle.algebra.specs.Tally.{bounds}
 use Rattle.scoping.specs.Label.{prefixL, prefixR}
-use Rattle.scoping.specs.Premises.{inside}
+use Rattle.scoping.specs.Premises.{inside, differentPositions}
 use Rattle.counting.specs.Bag.{count}
 use Rattle.counting.specs.Row.{Cell, sameRow}
 use Rattle.counting.specs.Answer.{answer}
@@ -25,6 +25,7 @@ use Rattle.demand3.specs.Names.{mergedNames}
 use Rattle.demand3.specs.Expected.{expectedCount}
 use Rattle.merging.specs.Asked.{Lists}
 use Rattle.demand3.specs.Demand3.{Premises, Counted}
+use Rattle.merging.proofs.Given.{noneTwice}
 use Rattle.merging.proofs.Lists.{map-length, joins-few, constants-good}
 use Rattle.merging.proofs.Written.{Known, merged-valid}
 use Rattle.merging.proofs.Names.{Letter}
@@ -70,7 +71,7 @@ letter-r : Letter prefixR
 unfolding clean
 letter-r = refl
 
-module _ (m : Request) (pairs leftConstants rightConstants : Bytes) (a : TreeRead (m .left)) (b : TreeRead (m .right)) (ls : Lists pairs leftConstants rightConstants m) (i : allInside m ≡ true) where
+module _ (m : Request) (pairs leftConstants rightConstants : Bytes) (a : TreeRead (m .left)) (b : TreeRead (m .right)) (ls : Lists pairs leftConstants rightConstants m) (i : allInside m ≡ true) (o : noneTwice (m .joins) ≡ true) where
   pairs-few : {B : Type 0} (f : Pair → B) → length (map f (m .joins)) ≤ bounds .entries
   pairs-few f = let e = map-length f (m .joins) in let h = joins-few pairs (m .joins) (ls .joins) in omega arith
 
@@ -85,6 +86,10 @@ module _ (m : Request) (pairs leftConstants rightConstants : Bytes) (a : TreeRea
         and-right (inside (m .left .columns) (positions (m .left-constants))) (inside (m .right .columns) (positions (m .right-constants))) ks,
       )
 
+  each : (differentPositions (lefts (m .joins)) ≡ true) × (differentPositions (rights (m .joins)) ≡ true)
+  unfolding noneTwice
+  each = (and-left (differentPositions (lefts (m .joins))) (differentPositions (rights (m .joins))) o, and-right (differentPositions (lefts (m .joins))) (differentPositions (rights (m .joins))) o)
+
   left-known : Known prefixL (m .left) (lefts (m .joins)) (m .left-constants)
   left-known = record {
     letter = letter-l;
@@ -92,6 +97,7 @@ module _ (m : Request) (pairs leftConstants rightConstants : Bytes) (a : TreeRea
     names = a .names;
     pairs = pairs-few (λ j. j .left);
     joins-inside = four .0;
+    joins-once = each .0;
     constants-inside = four .2;
     constants-good = constants-good leftConstants (m .left-constants) (ls .left-constants);
   }
@@ -103,6 +109,7 @@ module _ (m : Request) (pairs leftConstants rightConstants : Bytes) (a : TreeRea
     names = b .names;
     pairs = pairs-few (λ j. j .right);
     joins-inside = four .1;
+    joins-once = each .1;
     constants-inside = four .3;
     constants-good = constants-good rightConstants (m .right-constants) (ls .right-constants);
   }

@@ -40,7 +40,7 @@ merge-patterns-counts left right pairs leftConstants rightConstants b e =
       m,
       record { left-tree = l; right-tree = r },
       z .says (w .left) (w .right),
-      all-promised m pairs leftConstants rightConstants (tree-read left (w .left) l) (tree-read right (w .right) r) (z .says (w .left) (w .right)) (w .all-inside) b t,
+      all-promised m pairs leftConstants rightConstants (tree-read left (w .left) l) (tree-read right (w .right) r) (z .says (w .left) (w .right)) (w .all-inside) (w .none-twice) b t,
     )
 
 -- ---- the same for queries
@@ -80,5 +80,5 @@ merge-queries-counts left right pairs leftConstants rightConstants b e =
       record { left-query = l; right-query = r },
       z .says (w .left) (w .right),
       t,
-      all-promised m pairs leftConstants rightConstants (query-read left (a .kind) (a .dataset) (a .base) (w .left) l) (query-read right (a .kind) (a .dataset) (a .base) (w .right) r) (z .says (w .left) (w .right)) (w .all-inside) (layout (mergeProjectPatterns m)) refl,
+      all-promised m pairs leftConstants rightConstants (query-read left (a .kind) (a .dataset) (a .base) (w .left) l) (query-read right (a .kind) (a .dataset) (a .base) (w .right) r) (z .says (w .left) (w .right)) (w .all-inside) (w .none-twice) (layout (mergeProjectPatterns m)) refl,
     )

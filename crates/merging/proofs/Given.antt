@@ -1,6 +1,6 @@
--- What is known where bytes are written: every text was read, both roots are project, every position is inside. Assumes nothing.
-use mathlib.Core.Path.{_≡_, refl, ap, _∙_}
-use mathlib.Core.Bool.{Bool, true, false}
+-- What is known where bytes are written: every text was read, both roots are project, every position is inside, none stands twice on its side. Assumes nothing.
+use mathlib.Core.Path.{_≡_, refl, sym, ap, _∙_}
+use mathlib.Core.Bool.{Bool, true, false, cond, _&&_}
 use mathlib.Core.List.{List}
 use mathlib.Core.Option.{Option, none, some}
 use Prim.Native.Nat.{ℕ}
@@ -9,9 +9,11 @@ use Rattle.text.specs.Text.{Bytes}
 use Rattle.algebra.specs.Tree.{Pattern, bgp, path, join, union, minus, leftjoin, filter, graph, extend, values, orderby, project, distinct, reduced, slice, group, service}
 use Rattle.algebra.specs.Reader.{Outcome as Reading, reads, refuses}
 use Rattle.answers.specs.Outcome.{Outcome, written, then, orRefused, refusedUnless}
-use Rattle.merging.specs.Sides.{Pair, Constant}
-use Rattle.merging.specs.Request.{Projection, tree, asProject, made, readJoins, readConstants, request, allInside}
-use Rattle.merging.specs.Merge.{mergeProjectPatterns, lists, mergeTrees}
+use Rattle.scoping.specs.Label.{prefixL, prefixR}
+use Rattle.scoping.specs.Premises.{differentPositions, sideName, nameSide}
+use Rattle.merging.specs.Sides.{Pair, Constant, Side, lefts, rights, merged}
+use Rattle.merging.specs.Request.{Projection, tree, asProject, made, readJoins, readConstants, Request, request, leftSide, rightSide, allInside}
+use Rattle.merging.specs.Merge.{mergeProjectPatterns, namedSides, mergeSides, lists, mergeTrees}
 use Rattle.merging.specs.Asked.{Lists}
 
 pub then-written : {A : Type 0} (o : Reading A) (k : A → Outcome) (b : Bytes) → then o k ≡ written b → (a : A) × (o ≡ reads a) × (k a ≡ written b)
@@ -53,6 +55,26 @@ project-of (slice s l p) x e = nothing (λ x. slice s l p ≡ tree x) x e
 project-of (group ks p rs) x e = nothing (λ x. group ks p rs ≡ tree x) x e
 project-of (service n s p) x e = nothing (λ x. service n s p ≡ tree x) x e
 
+-- no position twice on its side
+unfoldable pub noneTwice : List Pair → Bool
+unfolding differentPositions
+noneTwice js = differentPositions (lefts js) && differentPositions (rights js)
+
+-- so the naming steps of both sides are one test
+pub sides-named : (m : Request) (k : Side → Side → Outcome) → namedSides m k ≡ refusedUnless 10 (noneTwice (m .joins)) (k (leftSide m) (rightSide m))
+unfolding nameSide noneTwice
+sides-named m k = go (differentPositions (lefts (m .joins))) (differentPositions (rights (m .joins))) (sideName prefixL (m .left .columns) (m .left .inner) (lefts (m .joins))) (sideName prefixR (m .right .columns) (m .right .inner) (rights (m .joins))) _
+  where
+    go : (a b : Bool) (f g : Bytes → Bytes) (h : (Bytes → Bytes) → (Bytes → Bytes) → Outcome)
+        → orRefused 10 (cond a (some f) none) (λ f. orRefused 10 (cond b (some g) none) (h f)) ≡ refusedUnless 10 (a && b) (h f g)
+    go true true f g h = refl
+    go true false f g h = refl
+    go false b f g h = refl
+
+pub sides-merged : (m : Request) (k : Pattern → Outcome) → mergeSides m k ≡ refusedUnless 10 (noneTwice (m .joins)) (k (mergeProjectPatterns m))
+unfolding mergeSides mergeProjectPatterns
+sides-merged m k = sides-named m (λ l r. k (merged l r (m .joins)))
+
 -- a merge of two trees that is written
 pub record Merged (p q : Pattern) (js : List Pair) (ks ls : List Constant) (k : Pattern → Outcome) (b : Bytes) : Type 0 where
   pub left : Projection
@@ -60,6 +82,7 @@ pub record Merged (p q : Pattern) (js : List Pair) (ks ls : List Constant) (k : 
   pub left-is : p ≡ tree left
   pub right-is : q ≡ tree right
   pub all-inside : allInside (request left right js ks ls) ≡ true
+  pub none-twice : noneTwice js ≡ true
   pub gives : k (mergeProjectPatterns (request left right js ks ls)) ≡ written b
 
 pub merge-written : (p q : Pattern) (js : List Pair) (ks ls : List Constant) (k : Pattern → Outcome) (b : Bytes) → mergeTrees p q js ks ls k ≡ written b → Merged p q js ks ls k b
@@ -68,7 +91,8 @@ merge-written p q js ks ls k b e =
     let x = some-written 4 (asProject p) _ b e in
     let y = some-written 4 (asProject q) _ b (x .2) in
     let z = test-written 3 (allInside (request (x .0) (y .0) js ks ls)) _ b (y .2) in
-    record { left = x .0; right = y .0; left-is = project-of p (x .0) (x .1); right-is = project-of q (y .0) (y .1); all-inside = z .0; gives = z .1 }
+    let w = test-written 10 (noneTwice js) (k (mergeProjectPatterns (request (x .0) (y .0) js ks ls))) b (sym (sides-merged (request (x .0) (y .0) js ks ls) k) ∙ z .1) in
+    record { left = x .0; right = y .0; left-is = project-of p (x .0) (x .1); right-is = project-of q (y .0) (y .1); all-inside = z .0; none-twice = w .0; gives = w .1 }
 
 -- three lists that are read
 pub record Read (pairs leftConstants rightConstants : Bytes) (k : List Pair → List Constant → List Constant → Outcome) (b : Bytes) : Type 0 where

@@ -1,4 +1,5 @@
 -- No merge refuses with 0. Assumes nothing.
+use mathlib.Core.Path.{sym, subst}
 use mathlib.Core.List.{List}
 use native.Mathlib.Omega.{arith}
 use Rattle.text.specs.Text.{Bytes}
@@ -11,6 +12,7 @@ use Rattle.answers.proofs.Numbered.{Numbered, written-numbered, then-numbered, 
 use Rattle.merging.specs.Sides.{Pair, Constant}
 use Rattle.merging.specs.Request.{asProject, readJoins, readConstants, Request, request, allInside}
 use Rattle.merging.specs.Merge.{mergeProjectPatterns, lists, mergeTrees, mergePatternsOutcome, mergeable, over, mergeQueriesOutcome}
+use Rattle.merging.proofs.Given.{noneTwice, sides-merged}
 
 lists-numbered : (pairs leftConstants rightConstants : Bytes) (k : List Pair → List Constant → List Constant → Outcome)
     → ((js : List Pair) (ks ls : List Constant) → Numbered (k js ks ls))
@@ -22,7 +24,8 @@ trees-numbered : (p q : Pattern) (js : List Pair) (ks ls : List Constant) (k : P
 unfolding mergeTrees
 trees-numbered p q js ks ls k f =
     some-numbered 4 (asProject p) _ (λ z. omega arith) λ l. some-numbered 4 (asProject q) _ (λ z. omega arith) λ r.
-    test-numbered 3 (allInside (request l r js ks ls)) _ (λ z. omega arith) (f (mergeProjectPatterns (request l r js ks ls)))
+    test-numbered 3 (allInside (request l r js ks ls)) _ (λ z. omega arith)
+    (subst Numbered (sym (sides-merged (request l r js ks ls) k)) (test-numbered 10 (noneTwice js) _ (λ z. omega arith) (f (mergeProjectPatterns (request l r js ks ls)))))
 
 module _ (left right pairs leftConstants rightConstants : Bytes) where
   pub merge-patterns-numbered : Numbered (mergePatternsOutcome left right pairs leftConstants rightConstants)

@@ -21,7 +21,7 @@ use Rattle.answers.specs.Outcome.{written}
 use Rattle.scoping.specs.Label.{prefixV}
 use Rattle.scoping.specs.Numbering.{byPlace}
 use Rattle.scoping.specs.Sets.{all}
-use Rattle.scoping.specs.Premises.{inside}
+use Rattle.scoping.specs.Premises.{inside, differentPositions}
 use Rattle.scoping.proofs.FirstPlaces.{by-place-query}
 use Rattle.merging.specs.Sides.{Constant, freeColumns}
 use Rattle.merging.specs.Request.{Projection, tree, asProject, readConstants, positions}
@@ -65,9 +65,9 @@ unfolding clean
 letter-v = refl
 
 pushed-valid : (x : Projection) (ks : List Constant) → Valid (tree x) → length (byPlace (tree x)) ≤ 1024 → inside (x .columns) (positions ks) ≡ true → Good ks → Valid (pushConstantsInProjectPattern x ks)
-unfolding pushConstantsInProjectPattern Valid inside all
+unfolding pushConstantsInProjectPattern Valid inside differentPositions all
 pushed-valid x ks v n i g =
-    let k : Known prefixV x [] ks = record { letter = letter-v; valid = v; names = n; pairs = omega arith; joins-inside = refl; constants-inside = i; constants-good = g } in
+    let k : Known prefixV x [] ks = record { letter = letter-v; valid = v; names = n; pairs = omega arith; joins-inside = refl; joins-once = refl; constants-inside = i; constants-good = g } in
     (fit-of variable (freeColumns (onlySide x ks)) (free-fits prefixV x [] ks k), side-valid prefixV x [] ks k)
 
 pub push-reads : (query constants b : Bytes) → pushConstantsOutcome query constants ≡ written b → (q : Query) × (readQuery query ≡ reads q) × Asked q b

@@ -38,8 +38,14 @@ cases =
     "project\t?l0\t?j0\t?r1\njoin\nbgp\t1\nt\t?l0\t<by>\t?j0\nbgp\t1\nt\t?j0\t<in>\t?r1\n"
     -- 2: Label partners are linked too
     ∷ gives (mergePatterns "project\t?s\t?sLabel\nbgp\t0\n" "project\t?t\t?tLabel\nbgp\t0\n" "0\t0\n" "" "") "project\t?j0\t?j0Label\t?j0Label\njoin\nbgp\t0\nbgp\t0\n"
-    -- 3: a left position twice equates the first pair only
-    ∷ gives (mergePatterns "project\t?a\nbgp\t0\n" "project\t?b\t?c\nbgp\t0\n" "0\t0\n0\t1\n" "" "") "project\t?j0\t?j1\njoin\nbgp\t0\nbgp\t0\n"
+    -- 3: a left position twice, and a right one
+    ∷ refuses (mergePatterns "project\t?a\nbgp\t0\n" "project\t?b\t?c\nbgp\t0\n" "0\t0\n0\t1\n" "" "") 10
+    ∷ refuses (mergePatterns "project\t?a\t?b\nbgp\t0\n" "project\t?c\nbgp\t0\n" "0\t0\n1\t0\n" "" "") 10
+    -- after 3, also where 3 is the other side's
+    ∷ refuses (mergePatterns "project\t?a\nbgp\t0\n" "project\t?b\t?c\nbgp\t0\n" "0\t0\n0\t2\n" "" "") 3
+    ∷ refuses (mergePatterns "project\t?a\nbgp\t0\n" "project\t?b\t?c\nbgp\t0\n" "0\t0\n0\t1\n" "" "2\t<k>\n") 3
+    -- the same column at two positions is no position twice
+    ∷ gives (mergePatterns "project\t?a\t?a\nbgp\t0\n" "project\t?b\t?c\nbgp\t0\n" "0\t0\n1\t1\n" "" "") "project\t?j0\t?j0\t?j1\njoin\nbgp\t0\nbgp\t0\n"
     -- 4: a position outside, in the join list and among the constants
     ∷ refuses (mergePatterns "project\t?a\t?b\nbgp\t0\n" "project\t?c\nbgp\t0\n" "2\t0\n" "" "") 3
     ∷ refuses (mergePatterns "project\t?a\nbgp\t0\n" "project\t?b\t?c\nbgp\t0\n" "" "" "2\t<k>\n") 3

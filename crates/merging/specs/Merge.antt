@@ -9,13 +9,27 @@ use Rattle.algebra.specs.Texts.{readTree, readQuery}
 use Rattle.algebra.specs.Layout.{layout}
 use Rattle.algebra.specs.Bounded.{layoutQuery}
 use Rattle.answers.specs.Outcome.{Outcome, written, then, orRefused, refusedUnless}
-use Rattle.merging.specs.Sides.{Pair, Constant, merged}
+use Rattle.scoping.specs.Label.{prefixL, prefixR}
+use Rattle.scoping.specs.Premises.{nameSide}
+use Rattle.merging.specs.Sides.{Pair, Constant, Side, lefts, rights, sideWith, merged}
 use Rattle.merging.specs.Request.{asProject, readJoins, readConstants, Request, request, leftSide, rightSide, allInside}
 
--- merge_project_patterns, for two projects
+-- merge_project_patterns, for two projects whose naming isn't refused
 unfoldable pub mergeProjectPatterns : Request → Pattern
 unfolding merged
 mergeProjectPatterns m = merged (leftSide m) (rightSide m) (m .joins)
+
+-- 10 if the naming step refuses a side, else what comes of the two sides under their new names
+abbrev pub namedSides : Request → (Side → Side → Outcome) → Outcome
+namedSides m k =
+    orRefused 10 (nameSide prefixL (m .left .columns) (m .left .inner) (lefts (m .joins))) λ f.
+    orRefused 10 (nameSide prefixR (m .right .columns) (m .right .inner) (rights (m .joins))) λ g.
+    k (sideWith (m .left .columns) (m .left .inner) (m .left-constants) f) (sideWith (m .right .columns) (m .right .inner) (m .right-constants) g)
+
+-- what comes of the tree that the two sides are merged into
+unfoldable pub mergeSides : Request → (Pattern → Outcome) → Outcome
+unfolding nameSide merged
+mergeSides m k = namedSides m λ l r. k (merged l r (m .joins))
 
 -- the three lists, checked in this order
 abbrev pub lists : Bytes → Bytes → Bytes → (List Pair → List Constant → List Constant → Outcome) → Outcome
@@ -25,15 +39,15 @@ lists pairs leftConstants rightConstants k =
     then (readConstants rightConstants) λ ls.
     k js ks ls
 
--- 4 unless both roots are project, 3 if a position is outside its projection, else what the merged tree gives
+-- 4 unless both roots are project, 3 if a position is outside its projection, 10 if one is twice on its side, else what the merged tree gives
 unfoldable pub mergeTrees : Pattern → Pattern → List Pair → List Constant → List Constant → (Pattern → Outcome) → Outcome
-unfolding asProject allInside mergeProjectPatterns
+unfolding asProject allInside mergeSides
 mergeTrees left right js ks ls k =
     orRefused 4 (asProject left) λ l.
     orRefused 4 (asProject right) λ r.
-    refusedUnless 3 (allInside (request l r js ks ls)) (k (mergeProjectPatterns (request l r js ks ls)))
+    refusedUnless 3 (allInside (request l r js ks ls)) (mergeSides (request l r js ks ls) k)
 
--- docs/SPECIFICATION.md, "Operation by operation", merge patterns: the five texts, 4, 3, the merged tree
+-- docs/SPECIFICATION.md, "Operation by operation", merge patterns: the five texts, 4, 3, 10, the merged tree
 unfoldable pub mergePatternsOutcome : Bytes → Bytes → Bytes → Bytes → Bytes → Outcome
 unfolding readTree readJoins readConstants mergeTrees layout
 mergePatternsOutcome left right pairs leftConstants rightConstants =
@@ -58,7 +72,7 @@ mergeable a b = isSelectOrAsk (a .kind) && (same (a .kind) (b .kind) && (same (a
 abbrev pub over : Query → Pattern → Query
 over q t = record { kind = q .kind; dataset = q .dataset; base = q .base; tree = t }
 
--- docs/SPECIFICATION.md, "Operation by operation", merge queries: the five texts, 5, 4, 3, the head and the merged tree
+-- docs/SPECIFICATION.md, "Operation by operation", merge queries: the five texts, 5, 4, 3, 10, the head and the merged tree
 unfoldable pub mergeQueriesOutcome : Bytes → Bytes → Bytes → Bytes → Bytes → Outcome
 unfolding readQuery readJoins readConstants mergeable mergeTrees layoutQuery
 mergeQueriesOutcome left right pairs leftConstants rightConstants =

@@ -35,9 +35,13 @@ pub record Side : Type 0 where
   pub name : Bytes → Bytes
   pub constants : List Constant
 
+-- a side with these new names
+abbrev pub sideWith : List Bytes → Pattern → List Constant → (Bytes → Bytes) → Side
+sideWith cs p ks f = record { columns = cs; inner = p; name = f; constants = ks }
+
 -- a side with the names that standardize_variables gives it, for its prefix and the columns at its positions
 abbrev pub standardized : ℕ → List Bytes → Pattern → List ℕ → List Constant → Side
-standardized prefix cs p is ks = record { columns = cs; inner = p; name = sideName prefix cs p is; constants = ks }
+standardized prefix cs p is ks = sideWith cs p ks (sideName prefix cs p is)
 
 -- the column at a position; no name past the last
 abbrev pub columnAt : List Bytes → ℕ → Bytes

@@ -1,6 +1,6 @@
 -- What merge patterns and merge queries need: three times both trees or queries, and the constants. Assumes nothing.
 use Prim.Native.Nat.{ℕ, _+_, _*_, _≤_}
-use mathlib.Core.Path.{_≡_, ap, subst, _∙_}
+use mathlib.Core.Path.{_≡_, sym, ap, subst, _∙_}
 use mathlib.Core.Bool.{Bool, true, not, _&&_}
 use mathlib.Core.List.{List, [], map}
 use native.Mathlib.Omega.{arith}
@@ -25,7 +25,7 @@ use Rattle.merging.specs.Sides.{Pair, Constant, lefts, rights, renamedPattern, 
 use Rattle.merging.specs.Request.{Projection, tree, asProject, readJoins, readConstants, Request, request, leftSide, rightSide, positions, allInside}
 use Rattle.merging.specs.Merge.{mergeProjectPatterns, lists, mergeTrees, mergePatternsOutcome, mergeable, over, mergeQueriesOutcome}
 use Rattle.merging.specs.Asked.{Lists}
-use Rattle.merging.proofs.Given.{project-of}
+use Rattle.merging.proofs.Given.{project-of, noneTwice, sides-merged}
 use Rattle.merging.proofs.Lists.{map-length, joins-few}
 use Rattle.merging.proofs.Others.{tree-valid, tree-names}
 use Rattle.merging.proofs.TreeRead.{TreeRead, tree-read}
@@ -70,7 +70,8 @@ module _ (room : ℕ) where
   unfolding mergeTrees
   merge-trees-enough p q js ks ls k f =
       some-enough room 4 (asProject p) _ (λ z. omega arith) λ l e. some-enough room 4 (asProject q) _ (λ z. omega arith) λ r h.
-      test-enough room 3 (allInside (request l r js ks ls)) _ (λ z. omega arith) λ i. f l r (project-of p l e) (project-of q r h) i
+      test-enough room 3 (allInside (request l r js ks ls)) _ (λ z. omega arith) λ i.
+      subst (Enough room) (sym (sides-merged (request l r js ks ls) k)) (test-enough room 10 (noneTwice js) _ (λ z. omega arith) λ o. f l r (project-of p l e) (project-of q r h) i)
 
 pub merge-patterns-enough : (left right pairs leftConstants rightConstants : Bytes) → Enough (mergeRoom (length left) (length right) (length leftConstants) (length rightConstants)) (mergePatternsOutcome left right pairs leftConstants rightConstants)
 unfolding mergePatternsOutcome mergeRoom Enough

@@ -53,7 +53,7 @@ measured (o ∷ os) [] = []
 measured (o ∷ os) (c ∷ cs) = took (lengthOf o) (roomOf (c .call)) ∷ measured os cs
 
 -- what each call of merging's table writes, and its room: "that merge" first, the two negates last
-pub merges-measured : measured (map (λ (c : Case). outcomeOf (c .call)) cases) cases ≡ took 67 258 ∷ took 47 150 ∷ took 33 111 ∷ took 0 111 ∷ took 0 117 ∷ took 0 129 ∷ took 0 69 ∷ took 0 222 ∷ took 68 117 ∷ took 44 141 ∷ took 37 105 ∷ took 0 51 ∷ took 86 228 ∷ took 107 144 ∷ took 76 132 ∷ took 37 117 ∷ took 43 135 ∷ took 0 99 ∷ took 67 67 ∷ took 36 60 ∷ []
+pub merges-measured : measured (map (λ (c : Case). outcomeOf (c .call)) cases) cases ≡ took 67 258 ∷ took 47 150 ∷ took 0 111 ∷ took 0 111 ∷ took 0 111 ∷ took 0 117 ∷ took 37 120 ∷ took 0 111 ∷ took 0 117 ∷ took 0 129 ∷ took 0 69 ∷ took 0 222 ∷ took 68 117 ∷ took 44 141 ∷ took 37 105 ∷ took 0 51 ∷ took 86 228 ∷ took 107 144 ∷ took 76 132 ∷ took 37 117 ∷ took 43 135 ∷ took 0 99 ∷ took 67 67 ∷ took 36 60 ∷ []
 unfolding mergeRoom pushRoom negateRoom
 merges-measured = ap (λ (os : List Outcome). measured os cases) worked
 

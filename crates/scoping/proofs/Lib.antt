@@ -21,4 +21,5 @@ pub mod Renamed
 pub mod Services
 pub mod Worked
 pub mod Alike
+pub mod Refused
 pub mod Skipped

@@ -1,6 +1,7 @@
--- The names of a merge's two sides: the columns at positions, and what standardize_variables makes of a name. Assumes nothing.
-use mathlib.Core.Bool.{Bool, true, not, _&&_}
+-- The names of a merge's two sides: the columns at positions, what standardize_variables makes of a name, and when it refuses. Assumes nothing.
+use mathlib.Core.Bool.{Bool, true, cond, not, _&&_}
 use mathlib.Core.List.{List, [], _∷_}
+use mathlib.Core.Option.{Option, none, some}
 use Prim.Native.Nat.{ℕ}
 use lib.ListN.{length, getD}
 use lib.Dec.{eqb, ltb}
@@ -30,3 +31,8 @@ differentPositions (i ∷ is) = not (any (eqb i) is) && differentPositions is
 unfoldable pub sideName : ℕ → List Bytes → Pattern → List ℕ → Bytes → Bytes
 unfolding renamed standardizeVariables numbered columnsAt
 sideName prefix cs p is w = renamed (standardizeVariables prefix (numbered (project cs p)) (columnsAt cs is)) w
+
+-- the naming step of a side: refused (10) where its join list has a position twice, else the new name of each name
+unfoldable pub nameSide : ℕ → List Bytes → Pattern → List ℕ → Option (Bytes → Bytes)
+unfolding differentPositions sideName
+nameSide prefix cs p is = cond (differentPositions is) (some (sideName prefix cs p is)) none
