@@ -2,4 +2,5 @@ pub mod Trees
 pub mod Entries
 pub mod Values
 pub mod Root
+pub mod Repeated
 pub mod Sides

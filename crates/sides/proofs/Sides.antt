@@ -9,6 +9,7 @@ use native.Mathlib.Omega.{arith}
 use lib.ListN.{length, getD, take, length-take}
 use lib.Seq.{getD-take}
 use lib.Dec.{ltb}
+use lib.Count.{ones}
 use borrow.Author.Tests.{ltb-true}
 use Rattle.text.specs.Text.{Bytes, Line, textOf, part, linesFrom, First}
 use Rattle.text.specs.Word.{bytes}
@@ -24,8 +25,9 @@ use Rattle.emit.specs.bridge.Emit.{em, puts}
 use Rattle.scoping.specs.Sets.{all}
 use Rattle.scoping.specs.Numbering.{numbered}
 use Rattle.scoping.specs.bridge.Pushes.{allPushes, newName}
-use Rattle.scoping.specs.Premises.{columnsAt, inside, sideName}
+use Rattle.scoping.specs.Premises.{columnsAt, inside, differentPositions, sideName}
 use Rattle.scoping.proofs.Agree.{renamed-by-pushes}
+use Rattle.scoping.proofs.Basics.{not-true}
 use Rattle.scoping.proofs.NewVariables.{numbered-few}
 use Rattle.lines.specs.bridge.Spotted.{spotsOf}
 use Rattle.reader.specs.bridge.Lines.{LineEnd}
@@ -48,6 +50,7 @@ use Rattle.sides.specs.bridge.Side.{TreeIn, Placed, Renames, maskAt, Out
 use Rattle.sides.proofs.Trees.{tree-inside, columns-few, line-written}
 use Rattle.sides.proofs.Entries.{entryAt, names-at}
 use Rattle.columns.proofs.Line.{line-columns, line-positive}
+use Rattle.sides.proofs.Repeated.{Ones, mask-counts}
 
 -- ---- the project's line
 
@@ -212,6 +215,10 @@ module _ (text : Bytes) (second : Bool) (pairs constants : Bytes) (c inner : ℕ
     },
   )
 
+not-false : (b : Bool) → (b ≡ false → ⊥) → b ≡ true
+not-false true h = refl
+not-false false h = absurd (h refl)
+
 -- what was found is what naming asks for, and named it is a side
 module _ (text : Bytes) (from : ℕ) (starts sizes : List ℕ) (n : ℕ) (spots : List (List ℕ)) (second : Bool) (constants : Bytes) (x : Projection) (js ks : List Pair) (joins at lines : List ℕ) (o : Outline)
     (tree-in : TreeIn text from starts sizes n spots (tree x)) (narrow : length (x .columns) ≤ bounds .columns) (low : inside (x .columns) (positionsIn second js) ≡ true) (is : OutlineIs text second constants x js ks joins at lines o) where
@@ -220,6 +227,18 @@ module _ (text : Bytes) (from : ℕ) (starts sizes : List ℕ) (n : ℕ) (spots 
 
   pub outline-inside : inside (x .columns) (take (o .joins) joins) ≡ true
   outline-inside = ap (inside (x .columns)) (is .positions) ∙ low
+
+  -- its join positions are as many as its mask has ones exactly if none stands twice
+  joined-ones : length joins ≡ bounds .entries → Ones (ones (o .joined)) (o .joins) (differentPositions (positionsIn second js))
+  joined-ones long =
+      let t : length (positionsIn second js) ≡ o .joins = sym (ap length (is .positions)) ∙ (let f = is .few in simp length-take (omega arith)) in
+      subst (λ (k : ℕ). Ones (ones (o .joined)) k (differentPositions (positionsIn second js))) t (rw (is .joined) (mask-counts (x .columns) (positionsIn second js) low))
+
+  pub repeated : length joins ≡ bounds .entries → ones (o .joined) < o .joins → differentPositions (positionsIn second js) ≡ false
+  repeated long h = not-true (differentPositions (positionsIn second js)) (λ e. let z = joined-ones long .all e in absurd (omega arith))
+
+  pub once : length joins ≡ bounds .entries → o .joins ≤ ones (o .joined) → differentPositions (positionsIn second js) ≡ true
+  once long h = not-false (differentPositions (positionsIn second js)) (λ e. let z = joined-ones long .less e in absurd (omega arith))
 
   pub named : (prefix : ℕ) (pool targets spans line : List ℕ) (end : ℕ)
       → Renames (listing text starts sizes n) n pool targets spans (sideName prefix (x .columns) (x .inner) (take (o .joins) joins)) × (columnsIn line end ≡ map (sideName prefix (x .columns) (x .inner) (take (o .joins) joins)) (x .columns))

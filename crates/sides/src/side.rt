@@ -36,7 +36,7 @@ ghost use Rattle.merging.proofs.Names.{Letter};
 ghost use Rattle.scoping.specs.Premises.{inside, sideName};
 ghost use Rattle.columns.specs.bridge.Columns.{columnsIn};
 ghost use Rattle.columns.specs.bridge.Listed.{Listed, positionsIn};
-ghost use Rattle.sides.specs.bridge.Side.{TreeIn, Renames, Placed, Asked, OutlineIs, FindingIs, SideIs};
+ghost use Rattle.sides.specs.bridge.Side.{TreeIn, Renames, Placed, Asked, OutlineIs, FindingIs, NamingIs};
 
 // The entries of the columns at the first m positions: the columns are the first of a project's variables.
 fn join_entries(spots: &[Spot], at: &PerEntry, m: usize, joins: &mut PerEntry)
@@ -187,7 +187,14 @@ pub struct Side {
     pub end: usize,
 }
 
-// Naming: the new names of a side that was found, and its line of renamed columns.
+// A position stands twice in the side's part of the join list, or the side has its names.
+pub enum Naming {
+    Repeated,
+    Named(Side),
+}
+
+// Naming: the new names of a side that was found, and its line of renamed columns. Where a position stands twice, the mask of the
+// join positions has fewer ones than there are positions, and nothing is named.
 pub fn name_found(
     text: &[u8],
     standing: Standing,
@@ -201,11 +208,14 @@ pub fn name_found(
     pool: &mut [u8],
     news: &mut [Entry; 1024],
     line: &mut [u8],
-) -> Side
+) -> Naming
     requires { ⌜ Letter prefix × (16384 ≤ length (now pool)) × (length (now news) ≡ 1024) × ((i : ℕ) → getD (sizesOf (now news)) i 0 ≡ 0) × (length (now line) ≡ 8336) × (length (now joins) ≡ bounds .entries) × ((second : Bool) × (constants : Bytes) × (x : Projection) × (js : List Pair) × (ks : List Pair) × (at : List ℕ) × (lines : List ℕ) × TreeIn (now text) (standing .from) (startsOf (now table)) (sizesOf (now table)) (standing .n) (now spots) (tree x) × (length (x .columns) ≤ bounds .columns) × (inside (x .columns) (positionsIn second js) ≡ true) × OutlineIs (now text) second constants x js ks (now joins) at lines outline) × Worded (now words) × Shaped (now words) (now nodes) (length (now nodes)) (length (now spots)) ⌝ }
-    ensures { λ r. ⌜ ((second : Bool) (constants : Bytes) (x : Projection) (js ks : List Pair) (at lines : List ℕ) → TreeIn (now (text .entry)) (standing .from) (startsOf (now (table .entry))) (sizesOf (now (table .entry))) (standing .n) (now (spots .entry)) (tree x) → length (x .columns) ≤ bounds .columns → inside (x .columns) (positionsIn second js) ≡ true → OutlineIs (now (text .entry)) second constants x js ks (now (joins .entry)) at lines outline → SideIs (now (text .entry)) (startsOf (now (table .entry))) (sizesOf (now (table .entry))) (standing .n) prefix second constants x js ks (now (pool .exit)) (startsOf (now (news .exit))) (sizesOf (now (news .exit))) (now (line .exit)) at lines r) ⌝ }
-    ensures renamed { λ _. ⌜ Renamed (sizesOf (now (news .exit))) (now (spots .entry)) 0 (now (spots .exit)) (length (now (spots .entry))) ⌝ }
+    ensures { λ r. ⌜ ((second : Bool) (constants : Bytes) (x : Projection) (js ks : List Pair) (at lines : List ℕ) → TreeIn (now (text .entry)) (standing .from) (startsOf (now (table .entry))) (sizesOf (now (table .entry))) (standing .n) (now (spots .entry)) (tree x) → length (x .columns) ≤ bounds .columns → inside (x .columns) (positionsIn second js) ≡ true → OutlineIs (now (text .entry)) second constants x js ks (now (joins .entry)) at lines outline → NamingIs (now (text .entry)) (startsOf (now (table .entry))) (sizesOf (now (table .entry))) (standing .n) prefix second constants x js ks (now (pool .exit)) (startsOf (now (news .exit))) (sizesOf (now (news .exit))) (now (line .exit)) at lines (now (spots .entry)) (now (spots .exit)) r) ⌝ }
 {
+    let ones = u64::count_ones(outline.joined) as usize;
+    if ones < outline.joins {
+        return Naming::Repeated;
+    }
     let end = name_columns(
         text,
         standing,
@@ -220,12 +230,12 @@ pub fn name_found(
         news,
         line,
     );
-    Side {
+    Naming::Named(Side {
         inner: outline.inner,
         columns: outline.columns,
         constant: outline.constant,
         joined: outline.joined,
         constants: outline.constants,
         end,
-    }
+    })
 }

@@ -15,15 +15,18 @@ use Rattle.algebra.specs.Layout.{put}
 use Rattle.algebra.specs.Tally.{bounds}
 use Rattle.names.specs.bridge.Names.{listing}
 use Rattle.scoping.specs.Numbering.{byPlace}
-use Rattle.scoping.specs.Premises.{sideName, inside}
+use Rattle.scoping.specs.Premises.{sideName, inside, differentPositions}
 use Rattle.lines.specs.bridge.Spotted.{Noted}
 use Rattle.scoping.specs.bridge.Becomes.{replacement}
+use Rattle.descending.specs.bridge.Renamed.{Renamed}
 use Rattle.merging.specs.Request.{Projection, tree}
 use Rattle.merging.specs.Names.{from as countFrom, isAt}
 use Rattle.sides.specs.declared.side.Side.{Side}
 use Rattle.sides.specs.declared.side.Outline.{Outline}
 use Rattle.sides.specs.declared.side.Finding.{Finding}
 use Rattle.sides.specs.declared.side.Finding.the-variants.{Outside, Found}
+use Rattle.sides.specs.declared.side.Naming.{Naming}
+use Rattle.sides.specs.declared.side.Naming.the-variants.{Repeated, Named}
 use Rattle.columns.specs.bridge.Columns.{columnsIn, maskOf}
 use Rattle.columns.specs.bridge.Listed.{Listed, positionsIn, Kept}
 
@@ -99,6 +102,12 @@ pub record SideIs (text : Bytes) (starts sizes : List ℕ) (n prefix : ℕ) (sec
   pub high : s .inner ≤ length text
   pub inner : linesFrom text (s .inner) ≡ put (x .inner) []
   pub kept : Kept constants ks false at lines (s .constants)
+
+-- a position stands twice among the side's in the join list; or none does, the side has its names, and its variables are renamed
+unfoldable pub NamingIs : Bytes → List ℕ → List ℕ → ℕ → ℕ → Bool → Bytes → Projection → List Pair → List Pair → List ℕ → List ℕ → List ℕ → List ℕ → List ℕ → List ℕ → List (List ℕ) → List (List ℕ) → Naming → Type 0
+NamingIs text starts sizes n prefix second constants x js ks pool targets spans line at lines noted spots Repeated = differentPositions (positionsIn second js) ≡ false
+NamingIs text starts sizes n prefix second constants x js ks pool targets spans line at lines noted spots (Named s) =
+    (differentPositions (positionsIn second js) ≡ true) × Renamed spans noted 0 spots (length noted) × SideIs text starts sizes n prefix second constants x js ks pool targets spans line at lines s
 
 -- ---- the lines that are written
 
