@@ -57,6 +57,15 @@ def outermost(tree):
     return first[1:] if first[0] == b"project" else None
 
 
+def once(pairs):
+    """The pairs neither of whose positions stands in one before them, on its side."""
+    kept = []
+    for pair in pairs:
+        if all(here != there for before in kept for here, there in zip(pair, before)):
+            kept.append(pair)
+    return kept
+
+
 class Below(trees.Maker):
     """Trees whose outermost projection stands a number of levels below the root."""
 
@@ -133,10 +142,12 @@ class Inputs:
         return self.rng.randrange(width)
 
     def joins(self, left, right):
+        """Pairs of positions; now and then one stands twice on its side."""
         most = self.rng.choice([0, 1, 1, 1, 2, 2, 3, 5, trees.ENTRIES])
         if 0 in (left, right) and self.chance(0.9):
             most = 0
-        return b"".join(b"%d\t%d\n" % (self.position(left), self.position(right)) for _ in range(most))
+        pairs = [(self.position(left), self.position(right)) for _ in range(most)]
+        return b"".join(b"%d\t%d\n" % pair for pair in (pairs if self.chance(0.05) else once(pairs)))
 
     def constants(self, width):
         most = self.rng.choice([0, 0, 0, 1, 1, 2, 3, trees.ENTRIES])

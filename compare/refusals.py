@@ -1,5 +1,5 @@
 """The numbers by which docs/SPECIFICATION.md refuses the inputs of `merge` to `filters`: the input itself, its texts in their order (by the
-second reader of tests/), then 5, 4, 3, 7. Whether the answer is too long (6) is for its length to say. And what the Rust does there.
+second reader of tests/), then 5, 4, 3, 10, 7. Whether the answer is too long (6) is for its length to say. And what the Rust does there.
 """
 
 import inputs
@@ -9,6 +9,7 @@ import values
 
 ROOM = 65536  # bytes of an input, and of an answer
 MERGEABLE = (b"select", b"ask")
+REPEATED = 10  # which the Rust knows nothing of
 
 
 def malformed(program, case):
@@ -34,18 +35,23 @@ def positions(text, side=0):
     return [int(fields[side]) for fields in trees.records(text)]
 
 
+def repeated(joins):
+    """Whether a position stands twice on its side."""
+    return any(len(set(side)) < len(side) for side in (positions(joins), positions(joins, 1)))
+
+
 def of_trees(left, right, joins, left_constants, right_constants):
-    """4, 3 or 0 for a merge of trees."""
+    """4, 3, 10 or 0 for a merge of trees."""
     left, right = inputs.columns(left), inputs.columns(right)
     if left is None or right is None:
         return 4
     of_left = positions(joins) + positions(left_constants)
     of_right = positions(joins, 1) + positions(right_constants)
-    return 3 if outside(left, of_left) or outside(right, of_right) else 0
+    return 3 if outside(left, of_left) or outside(right, of_right) else REPEATED * repeated(joins)
 
 
 def of_queries(left, right, *lists):
-    """5, 4, 3 or 0 for a merge of queries."""
+    """5, 4, 3, 10 or 0 for a merge of queries."""
     (left_head, left_tree), (right_head, right_tree) = head_and_tree(left), head_and_tree(right)
     if left_head != right_head or left_head[0] not in MERGEABLE:
         return 5

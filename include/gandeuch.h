@@ -3,7 +3,7 @@
  *
  * A text is a pointer and a number of bytes; no byte is special, and no zero byte ends it. A call returns a number: 0, and the answer
  * stands in the first `*size` bytes of `out`, the bytes behind it unchanged; or the number of a refusal, and `*size` is 0 and `out` is
- * unchanged. Texts are checked in the order of the parameters (1, 2); then come 5, 4, 3, 7, 6 in this order, as far as a call has them.
+ * unchanged. Texts are checked in the order of the parameters (1, 2); then come 5, 4, 3, 10, 7, 6 in this order, as far as a call has them.
  *
  * Every text is allowed. What a caller owes is what C asks of any such call, as nothing in C can test it:
  *
@@ -33,7 +33,8 @@ enum {
     GANDEUCH_NOT_PROJECT = 4,   /* a root isn't project */
     GANDEUCH_NOT_MERGEABLE = 5, /* the heads of two queries differ, or their kind can't be merged */
     GANDEUCH_TOO_SHORT = 6,     /* the answer is longer than `out_size` */
-    GANDEUCH_NOT_USABLE = 7     /* a value can't be used */
+    GANDEUCH_NOT_USABLE = 7,    /* a value can't be used */
+    GANDEUCH_REPEATED = 10      /* a join list has a position twice on one side */
 };
 
 /* The stack that a call needs, with room to spare: bench/stack measures it. */

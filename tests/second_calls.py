@@ -162,6 +162,11 @@ def inside(positions, names):
         raise Refused(3)
 
 
+def once(positions):
+    if len(set(positions)) < len(positions):
+        raise Refused(10)
+
+
 def values(names, rows):
     return Node([b"values", b"%d" % len(names), b"%d" % len(rows)],
                 [Node([b"cols", *names])] + [Node([b"row", *row]) for row in rows])
@@ -183,6 +188,8 @@ def merged(left, right, joins, left_constants, right_constants):
     lefts, rights = [first for first, _ in joins], [int(second) for _, second in joins]
     inside(lefts + [position for position, _ in left_constants], columns(left))
     inside(rights + [position for position, _ in right_constants], columns(right))
+    once(lefts)
+    once(rights)
     join_variables = [columns(left)[position] for position in lefts]
     left_names = standardized(b"l", left, join_variables)
     right_names = standardized(b"r", right, [columns(right)[position] for position in rights])

@@ -45,8 +45,7 @@ CASES = [
     merge("case-1", MERGED, EVENT, BAY, "1 0"),
     merge("case-2", "project ?j0 ?j0Label ?j0Label/join/bgp 1/t ?j0 <l> ?j0Label/bgp 1/t ?j0 <m> ?j0Label",
           "project ?s ?sLabel/bgp 1/t ?s <l> ?sLabel", "project ?t ?tLabel/bgp 1/t ?t <m> ?tLabel", "0 0"),
-    merge("case-3", "project ?j0 ?j1/join/bgp 1/t ?j0 <p> <o>/bgp 1/t ?j0 <q> ?j1",
-          "project ?a/bgp 1/t ?a <p> <o>", "project ?b ?c/bgp 1/t ?b <q> ?c", "0 0/0 1"),
+    merge("case-3", 10, "project ?a/bgp 1/t ?a <p> <o>", "project ?b ?c/bgp 1/t ?b <q> ?c", "0 0/0 1"),
     merge("case-4", 3, EVENT, BAY, "2 0"),
     merge("case-5", 4, "distinct/" + EVENT, BAY, "1 0"),
     merge_queries("case-6", 5, SELECT + EVENT, "query ask - -/" + BAY, "1 0"),
@@ -111,7 +110,26 @@ FIVE = [
     ]
 ]
 
-# The order of the numbers: texts one by one, then 5, 4, 3.
+# Positions of a join list that stand twice on one side: 10 after all 3, also those of the other side, and before 6. A column's name
+# at two positions is none.
+ONE, TWO, TWINS = "project ?a/bgp 1/t ?a <p> <o>", "project ?b ?c/bgp 1/t ?b <q> ?c", "project ?a ?a/bgp 1/t ?a <p> <o>"
+REPEATED = [
+    merge("ten-left", 10, ONE, TWO, "0 0/0 1"), merge("ten-right", 10, TWO, ONE, "0 0/1 0"), merge("ten-both", 10, ONE, ONE, "0 0/0 0"),
+    merge("ten-far-apart", 10, THREE, THREE, "0 2/1 1/2 0/0 1"), merge("ten-last", 10, THREE, TEN, "0 10/1 9/2 10"),
+    merge("ten-with-constants", 10, TWO, THREE, "0 0/0 1", "1 <k>", "2 <l>"), merge("ten-on-twins", 10, TWINS, TWO, "1 0/1 1"),
+    merge("three-left-before-ten", 3, TWO, ONE, "0 0/2 0"), merge("three-right-before-left-ten", 3, ONE, TWO, "0 0/0 2"),
+    merge("three-left-before-right-ten", 3, TWO, TWO, "0 0/1 0/2 1"), merge("three-left-constant-before-ten", 3, ONE, TWO, "0 0/0 1", "1 <k>"),
+    merge("three-right-constant-before-ten", 3, ONE, TWO, "0 0/0 1", "", "2 <k>"), merge("four-before-ten", 4, ONE, "bgp 0", "0 0/0 0"),
+    merge("one-before-ten", 1, ONE, TWO, "0 0/0 1", "", BAD_CONSTANT),
+    merge("twins", "project ?j0 ?j0 ?j1/join/bgp 1/t ?j0 <p> <o>/bgp 1/t ?j0 <q> ?j1", TWINS, TWO, "0 0/1 1"),
+    merge("twins-right", "project ?j0 ?j1/join/bgp 1/t ?j0 <q> ?j1/bgp 1/t ?j0 <p> <o>", TWO, TWINS, "0 0/1 1"),
+    merge("turned", "project ?j0 ?j1/join/bgp 1/t ?j0 <q> ?j1/bgp 1/t ?j1 <q> ?j0", TWO, TWO, "0 1/1 0"),
+    merge_queries("ten-left", 10, SELECT + ONE, SELECT + TWO, "0 0/0 1"), merge_queries("ten-right", 10, SELECT + TWO, SELECT + ONE, "0 0/1 0"),
+    merge_queries("three-before-ten", 3, SELECT + ONE, SELECT + TWO, "0 0/0 2"), merge_queries("five-before-ten", 5, SELECT + ONE, "query ask - -/" + ONE, "0 0/0 0"),
+    merge_queries("twins", SELECT + "project ?j0 ?j0 ?j1/join/bgp 1/t ?j0 <p> <o>/bgp 1/t ?j0 <q> ?j1", SELECT + TWINS, SELECT + TWO, "0 0/1 1"),
+]
+
+# The order of the numbers: texts one by one, then 5, 4, 3; 10 is above.
 ORDER = [
     merge("left-first", 2, OVER, MALFORMED, BAD_JOIN), merge("right-second", 2, NO_PROJECT, OVER, BAD_JOIN),
     merge("joins-third", 2, NO_PROJECT, BAY, MANY_JOINS, BAD_CONSTANT), merge("left-constants-fourth", 2, NO_PROJECT, BAY, "9 9", MANY_CONSTANTS, BAD_CONSTANT),
@@ -176,4 +194,4 @@ def limits():
     return [("merge", "longest-input-and-answer", given, written), ("merge", "answer-too-long", over, refused(6))]
 
 
-WRITTEN = CASES + CONSTANTS + ORDERS + KINDS + FIVE + ORDER + BARS + limits()
+WRITTEN = CASES + CONSTANTS + ORDERS + KINDS + FIVE + REPEATED + ORDER + BARS + limits()

@@ -4,7 +4,7 @@ use std::error::Error;
 use std::fmt::{Display, Formatter, Result};
 
 /// Why a call has no answer. Texts are checked in the order of the parameters ([`Malformed`](Refusal::Malformed),
-/// [`OverBound`](Refusal::OverBound)); then 5, 4, 3, 7 in this order, as far as a call has them.
+/// [`OverBound`](Refusal::OverBound)); then 5, 4, 3, 10, 7 in this order, as far as a call has them.
 #[derive(Debug, Clone, Copy, PartialEq, Eq, Hash)]
 #[non_exhaustive]
 pub enum Refusal {
@@ -22,6 +22,8 @@ pub enum Refusal {
     TooShort,
     /// A value can't be used: a tuple or a map.
     NotUsable,
+    /// A join list has a position twice on one side.
+    Repeated,
     /// A number that this version of the crate has no name for.
     Other(u8),
 }
@@ -36,6 +38,7 @@ impl Refusal {
         Self::NotMergeable,
         Self::TooShort,
         Self::NotUsable,
+        Self::Repeated,
     ];
 
     /// The number that the library returns for it.
@@ -48,6 +51,7 @@ impl Refusal {
             Self::NotMergeable => 5,
             Self::TooShort => 6,
             Self::NotUsable => 7,
+            Self::Repeated => 10,
             Self::Other(number) => number,
         }
     }
@@ -72,6 +76,7 @@ impl Display for Refusal {
             Self::NotMergeable => "the heads of two queries differ, or can't be merged",
             Self::TooShort => "the answer is longer than the room for it",
             Self::NotUsable => "a value can't be used",
+            Self::Repeated => "a join list has a position twice on one side",
             Self::Other(number) => return write!(f, "refused by the number {number}"),
         })
     }
