@@ -113,6 +113,9 @@ module _ (k : ℕ) (v : List (List ℕ)) (high : k ≤ length v) (l : List (List
   pub still-high : k ≤ length (l ++ drop k v)
   still-high = subst (λ (n : ℕ). k ≤ n) (sym (length-front v l k kept)) high
 
+  pub front-long : length (l ++ drop k v) ≡ length v
+  front-long = length-front v l k kept
+
   pub rest-stays : rest k (l ++ drop k v) ≡ rest k v
   rest-stays = part-to-end (l ++ drop k v) k ∙ drop-at l (drop k v) k (kept ∙ length-take-le k v high) ∙ sym (part-to-end v k)
 

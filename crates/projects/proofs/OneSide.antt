@@ -1,8 +1,8 @@
 -- One side: what find_side and name_found promise of it, and what the calls behind them ask of it. Assumes nothing.
 use Prim.Native.Nat.{ℕ, _-_, _≤_}
-use mathlib.Core.Path.{_≡_, refl, subst}
+use mathlib.Core.Path.{_≡_, refl, sym, ap₂, subst, _∙_}
 use mathlib.Core.List.{List, []}
-use mathlib.Core.Bool.{Bool, true, false, _&&_}
+use mathlib.Core.Bool.{Bool, true, false, _&&_, true≢false}
 use native.Mathlib.Omega.{arith}
 use lib.ListN.{length}
 use lib.Count.{ones}
@@ -10,17 +10,22 @@ use Rattle.text.specs.Text.{Bytes, linesFrom}
 use Rattle.algebra.specs.Query.{Pair}
 use Rattle.algebra.specs.Layout.{put}
 use Rattle.algebra.specs.Tally.{bounds}
-use Rattle.scoping.specs.Premises.{inside}
+use Rattle.names.specs.bridge.Names.{startsOf, sizesOf}
+use Rattle.scoping.specs.Premises.{inside, differentPositions}
 use Rattle.merging.specs.Request.{Projection, tree}
 use Rattle.descending.specs.bridge.Renamed.{Renamed}
 use Rattle.columns.specs.bridge.Columns.{columnsIn, picked}
 use Rattle.columns.specs.bridge.Listed.{Listed, positionsIn}
-use Rattle.sides.specs.bridge.Side.{TreeIn, Placed, Asked, OutlineIs, FindingIs, SideIs}
+use Rattle.sides.specs.bridge.Side.{TreeIn, Placed, Asked, OutlineIs, FindingIs, NamingIs, SideIs}
 use Rattle.sides.specs.declared.side.Outline.{Outline}
 use Rattle.sides.specs.declared.side.Side.{Side}
 use Rattle.sides.specs.declared.side.Finding.{Finding}
 use Rattle.sides.specs.declared.side.Finding.the-variants.{Outside, Found}
-use Rattle.projects.specs.bridge.Joining.{Stands, Terms, KnownTerms, Outlined, Sided}
+use Rattle.sides.specs.declared.side.Naming.{Naming}
+use Rattle.sides.specs.declared.side.Naming.the-variants.{Repeated, Named}
+use Rattle.projects.specs.declared.one.FoundSide.{FoundSide}
+use Rattle.projects.specs.declared.one.NamedSide.{NamedSide}
+use Rattle.projects.specs.bridge.Joining.{Stands, Terms, KnownTerms, Outlined, Sided, IsFound, IsNamed, namedSide, IsNaming, goneMask}
 use Rattle.projects.proofs.SideLines.{side-ones, side-room, side-width}
 use Rattle.projects.proofs.Whole.{columns-few}
 
@@ -66,21 +71,51 @@ module _ (text : Bytes) (from : ℕ) (starts sizes : List ℕ) (n : ℕ) (spots 
       × (inside (x .columns) (positionsIn second js) ≡ true) × OutlineIs text second constants x js ks joins at lines o
   name-needs = (second, constants, x, js, ks, at, lines, d .stands .tree-in, d .stands .narrow x refl, d .joins-inside, d .is)
 
-  -- what it gives, the variables renamed
-  pub sided : (prefix : ℕ) (pool targets spans line : List ℕ) (s : Side) (marked : List (List ℕ)) → Renamed spans spots 0 marked (length spots)
-      → ((second : Bool) (constants : Bytes) (x : Projection) (js ks : List Pair) (at lines : List ℕ) → TreeIn text from starts sizes n spots (tree x) → length (x .columns) ≤ bounds .columns → inside (x .columns) (positionsIn second js) ≡ true
-      → OutlineIs text second constants x js ks joins at lines o → SideIs text starts sizes n prefix second constants x js ks pool targets spans line at lines s)
-      → Sided text from starts sizes n marked prefix second constants pool targets spans line at lines s x js ks
-  sided prefix pool targets spans line s marked renamed said = record {
+-- ---- a side that gets its names
+
+-- what name_found promises
+abbrev pub Naming-is : Bytes → ℕ → List (List ℕ) → ℕ → List (List ℕ) → ℕ → List ℕ → Outline → Bytes → List (List ℕ) → List ℕ → List (List ℕ) → Naming → Type 0
+Naming-is text from table n spots prefix joins o pool news line marked r =
+    (second : Bool) (constants : Bytes) (x : Projection) (js ks : List Pair) (at lines : List ℕ) → TreeIn text from (startsOf table) (sizesOf table) n spots (tree x) → length (x .columns) ≤ bounds .columns → inside (x .columns) (positionsIn second js) ≡ true
+    → OutlineIs text second constants x js ks joins at lines o → NamingIs text (startsOf table) (sizesOf table) n prefix second constants x js ks pool (startsOf news) (sizesOf news) line at lines spots marked r
+
+module _ (text : Bytes) (table spots : List (List ℕ)) (second : Bool) (constants : Bytes) (f : FoundSide) (x : Projection) (js ks : List Pair) (prefix : ℕ) (pool : Bytes) (news : List (List ℕ)) (line : List ℕ) where
+  pub naming : (marked : List (List ℕ)) (r : Naming) → IsFound text table spots second constants f x js ks
+      → Naming-is text (f .standing .from) table (f .standing .n) spots prefix (f .places .joins) (f .outline) pool news line marked r
+      → IsNaming text table marked prefix second constants pool news line f r x js ks
+  unfolding NamingIs IsNaming
+  naming marked Repeated d said = said second constants x js ks (f .places .at) (f .places .starts) (d .stands .tree-in) (d .stands .narrow x refl) (d .joins-inside) (d .is)
+  naming marked (Named side) d said = let z = said second constants x js ks (f .places .at) (f .places .starts) (d .stands .tree-in) (d .stands .narrow x refl) (d .joins-inside) (d .is) in record {
     noted = spots;
-    renamed = renamed;
+    renamed = z .1;
     stands = d .stands;
     terms = d .terms;
     joins-inside = d .joins-inside;
+    joins-once = z .0;
     terms-inside = d .terms-inside;
     long = d .long;
-    is = said second constants x js ks at lines (d .stands .tree-in) (d .stands .narrow x refl) (d .joins-inside) (d .is);
+    is = z .2;
   }
+
+  module _ (r : Naming) (n : IsNaming text table spots prefix second constants pool news line f r x js ks) where
+    -- its join positions repeat one
+    pub refused : r ≡ Repeated → differentPositions (positionsIn second js) ≡ false
+    unfolding IsNaming
+    refused e = subst (λ (q : Naming). IsNaming text table spots prefix second constants pool news line f q x js ks) e n
+
+    -- it has its names
+    pub named-as : (side : Side) → r ≡ Named side → (w : NamedSide) → w ≡ namedSide f side → IsNamed text table spots prefix second constants pool news line w x js ks
+    unfolding IsNaming
+    named-as side e w q = subst (λ (u : NamedSide). IsNamed text table spots prefix second constants pool news line u x js ks) (sym q) (subst (λ (q : Naming). IsNaming text table spots prefix second constants pool news line f q x js ks) e n)
+
+-- which right columns go, told of two sides with what goes with them
+pub gone-as : (lline rline : List ℕ) (f g : FoundSide) (l r : Side) (gone : ℕ) (a b : NamedSide) → gone ≡ goneMask lline l rline r → a ≡ namedSide f l → b ≡ namedSide g r → gone ≡ goneMask lline (a .side) rline (b .side)
+gone-as lline rline f g l r gone a b h p q = h ∙ ap₂ (λ (u v : NamedSide). goneMask lline (u .side) rline (v .side)) (sym p) (sym q)
+
+-- no join list repeats no position
+pub never-repeated : {A : Type 0} → differentPositions (positionsIn false []) ≡ false → A
+unfolding differentPositions
+never-repeated e = absurd (true≢false e)
 
 -- ---- a side that is ready
 

@@ -80,7 +80,7 @@ module _ (left : Bytes) (lf : ℕ) (la ll : List ℕ) (ln : ℕ) (lv : List (Lis
 
   module _ (head : Bytes) where
     asked-for : joinedBehind head x y js ks ls ≡ written (head ++ layout (mergedTree x y js ks ls))
-    asked-for = joined-is head x y js ks ls (ld .joins-inside) (rd .joins-inside) (ld .terms-inside) (rd .terms-inside)
+    asked-for = joined-is head x y js ks ls (ld .joins-inside) (rd .joins-inside) (ld .terms-inside) (rd .terms-inside) (ld .joins-once) (rd .joins-once)
 
     -- measured on one buffer, written on another
     module _ (none none′ out : Bytes) (size : ℕ) (m : em size none′ ≡ puts (head ++ layout (mergedTree x y js ks ls)) (em 0 none)) where

@@ -4,6 +4,7 @@ use crate::one::FoundSide;
 use crate::one::NamedSide;
 use crate::one::name_one;
 use crate::one::put_one;
+use crate::one::with_names;
 use algebra::ENTRIES;
 use answers::Answer;
 use columns::columns::joined_mask;
@@ -14,6 +15,7 @@ use lines::fields::Node;
 use lines::fields::Spot;
 use names::Entry;
 use sides::side::Finding;
+use sides::side::Naming;
 use sides::side::Places;
 use sides::side::Side;
 use sides::side::Standing;
@@ -198,7 +200,7 @@ fn merge_ready(
     Answer::Written(put)
 }
 
-// Two sides that were found: each gets its names, then both are merged.
+// Two sides that were found: each gets its names, 10 if a position stands twice on its side, then both are merged.
 fn merge_found(
     words: &[WordRow; 56],
     head: &[u8],
@@ -220,7 +222,7 @@ fn merge_found(
     let mut lines = [[0u8; 8336]; 2];
     let k = found.spots;
     let m = found.nodes;
-    let l = name_one(
+    let Naming::Named(l) = name_one(
         words,
         left,
         &tables[0],
@@ -231,8 +233,10 @@ fn merge_found(
         &mut pools[0],
         &mut news[0],
         &mut lines[0],
-    );
-    let r = name_one(
+    ) else {
+        return Answer::Repeated;
+    };
+    let Naming::Named(r) = name_one(
         words,
         right,
         &tables[1],
@@ -243,15 +247,17 @@ fn merge_found(
         &mut pools[1],
         &mut news[1],
         &mut lines[1],
-    );
-    let gone = gone_of(&lines, l.side, r.side);
+    ) else {
+        return Answer::Repeated;
+    };
+    let gone = gone_of(&lines, l, r);
     merge_ready(
         head,
         left,
         right,
         NamedPair {
-            left: l,
-            right: r,
+            left: with_names(found.left, l),
+            right: with_names(found.right, r),
             spots: k,
             gone,
         },
@@ -267,7 +273,7 @@ fn merge_found(
 }
 
 // merge_project_patterns for two projects, behind a head: both sides are found, 3 if a position is outside, then
-// named and merged.
+// named, 10 if one stands twice on its side, and merged.
 pub fn merge_projects(
     words: &[WordRow; 56],
     head: &[u8],

@@ -2,6 +2,7 @@
 use lines::fields::Node;
 use lines::fields::Spot;
 use names::Entry;
+use sides::side::Naming;
 use sides::side::Outline;
 use sides::side::Places;
 use sides::side::Side;
@@ -26,7 +27,7 @@ ghost use Rattle.words.specs.bridge.Words.{Worded};
 ghost use Rattle.descending.specs.bridge.Renamed.{Renamed, Shaped};
 ghost use Rattle.columns.specs.bridge.Columns.{columnsIn, picked};
 ghost use Rattle.sides.specs.bridge.Side.{Placed};
-ghost use Rattle.projects.specs.bridge.Joining.{IsFound, IsNamed, SideWritten};
+ghost use Rattle.projects.specs.bridge.Joining.{IsFound, namedSide, IsNaming, SideWritten};
 
 // A side that was found.
 pub struct FoundSide {
@@ -42,7 +43,20 @@ pub struct NamedSide {
     pub places: Places,
 }
 
-// A side that was found gets its names.
+// What goes with a side, once it has its names.
+pub fn with_names(found: FoundSide, side: Side) -> NamedSide
+    ensures { λ r. ⌜ r ≡ namedSide found side ⌝ }
+{
+    let standing = found.standing;
+    let places = found.places;
+    NamedSide {
+        standing,
+        side,
+        places,
+    }
+}
+
+// A side that was found gets its names, unless a position stands twice among its join positions.
 pub fn name_one(
     words: &[WordRow; 56],
     text: &[u8],
@@ -54,16 +68,15 @@ pub fn name_one(
     pool: &mut [u8],
     news: &mut [Entry; 1024],
     line: &mut [u8],
-) -> NamedSide
+) -> Naming
     requires { ⌜ Letter prefix × (16384 ≤ length (now pool)) × (length (now news) ≡ 1024) × ((i : ℕ) → getD (sizesOf (now news)) i 0 ≡ 0) × (length (now line) ≡ 8336) × ((second : Bool) × (constants : Bytes) × (x : Projection) × (js : List Pair) × (ks : List Pair) × IsFound (now text) (now table) (now spots) second constants found x js ks) × Worded (now words) × Shaped (now words) (now nodes) (length (now nodes)) (length (now spots)) ⌝ }
-    ensures { λ r. ⌜ ((second : Bool) (constants : Bytes) (x : Projection) (js ks : List Pair) → IsFound (now (text .entry)) (now (table .entry)) (now (spots .entry)) second constants found x js ks → IsNamed (now (text .entry)) (now (table .entry)) (now (spots .exit)) prefix second constants (now (pool .exit)) (now (news .exit)) (now (line .exit)) r x js ks) ⌝ }
+    ensures { λ r. ⌜ ((second : Bool) (constants : Bytes) (x : Projection) (js ks : List Pair) → IsFound (now (text .entry)) (now (table .entry)) (now (spots .entry)) second constants found x js ks → IsNaming (now (text .entry)) (now (table .entry)) (now (spots .exit)) prefix second constants (now (pool .exit)) (now (news .exit)) (now (line .exit)) found r x js ks) ⌝ }
 {
-    let standing = found.standing;
     let places = found.places;
     let joins = places.joins;
-    let side = name_found(
+    name_found(
         text,
-        standing,
+        found.standing,
         found.outline,
         table,
         words,
@@ -74,12 +87,7 @@ pub fn name_one(
         pool,
         news,
         line,
-    );
-    NamedSide {
-        standing,
-        side,
-        places,
-    }
+    )
 }
 
 // The lines of a side that has its names.

@@ -3,6 +3,7 @@ use crate::one::FoundSide;
 use crate::one::NamedSide;
 use crate::one::name_one;
 use crate::one::put_one;
+use crate::one::with_names;
 use algebra::ENTRIES;
 use answers::Answer;
 use columns::columns::put_columns;
@@ -13,6 +14,7 @@ use lines::fields::Node;
 use lines::fields::Spot;
 use names::Entry;
 use sides::side::Finding;
+use sides::side::Naming;
 use sides::side::Places;
 use sides::side::Side;
 use sides::side::Standing;
@@ -90,7 +92,8 @@ fn put_pushed(
     )
 }
 
-// A side that was found: it gets its names, then 6 unless there is room for the tree with its constants.
+// A side that was found: it gets its names, as no join list repeats a position, then 6 unless there is room for the tree
+// with its constants.
 fn push_found(
     words: &[WordRow; 56],
     head: &[u8],
@@ -108,7 +111,7 @@ fn push_found(
     let mut pool = [0u8; 16384];
     let mut news = [[0u16; 2]; 1024];
     let mut line = [0u8; 8336];
-    let named = name_one(
+    let Naming::Named(side) = name_one(
         words,
         query,
         table,
@@ -119,7 +122,10 @@ fn push_found(
         &mut pool,
         &mut news,
         &mut line,
-    );
+    ) else {
+        return Answer::Repeated;
+    };
+    let named = with_names(found, side);
     let mut none = [0u8; 0];
     let size = put_pushed(
         head,

@@ -27,11 +27,14 @@ use Rattle.merging.specs.Sides.{Constant, Pair as Joined}
 use Rattle.merging.specs.Request.{Projection, tree, readJoins, readConstants, joinPositions, byPosition, constantsIn, positions, request, allInside}
 use Rattle.merging.specs.Merge.{lists, mergeProjectPatterns, mergeTrees}
 use Rattle.merging.specs.Push.{pushConstantsInProjectPattern}
+use Rattle.merging.proofs.Given.{noneTwice}
 use Rattle.sides.specs.declared.side.Standing.{Standing}
 use Rattle.projects.specs.declared.one.FoundSide.{FoundSide}
 use Rattle.projects.specs.declared.one.NamedSide.{NamedSide}
 use Rattle.sides.specs.declared.side.Outline.{Outline}
 use Rattle.sides.specs.declared.side.Side.{Side}
+use Rattle.sides.specs.declared.side.Naming.{Naming}
+use Rattle.sides.specs.declared.side.Naming.the-variants.{Repeated, Named}
 use Rattle.columns.specs.bridge.Columns.{columnsIn, maskOf, picked, goneBits}
 use Rattle.descending.specs.bridge.Renamed.{Renamed, Shaped}
 use Rattle.columns.specs.bridge.Listed.{Listed, positionsIn, Kept, termsFrom}
@@ -92,13 +95,14 @@ pub record Outlined (s : Bytes) (from : ℕ) (a l : List ℕ) (n : ℕ) (v : Lis
   pub is : OutlineIs s second constants x js ks joins at lines o
 
 -- a side that is ready to be written: its projection stood in its text by the variables that were noted, which are renamed now; its constants were read,
--- its positions are inside, and what was found of it is so
+-- its positions are inside, none twice in the join list, and what was found of it is so
 pub record Sided (s : Bytes) (from : ℕ) (a l : List ℕ) (n : ℕ) (v : List (List ℕ)) (prefix : ℕ) (second : Bool) (constants : Bytes) (pool targets spans line at lines : List ℕ) (side : Side) (x : Projection) (js ks : List Pair) : Type 0 where
   pub noted : List (List ℕ)
   pub stands : Stands s from a l n noted (tree x)
   pub renamed : Renamed spans noted 0 v (length noted)
   pub terms : Terms constants ks
   pub joins-inside : inside (x .columns) (positionsIn second js) ≡ true
+  pub joins-once : differentPositions (positionsIn second js) ≡ true
   pub terms-inside : inside (x .columns) (positionsIn false ks) ≡ true
   pub long : length at ≡ bounds .entries
   pub is : SideIs s a l n prefix second constants x js ks pool targets spans line at lines side
@@ -111,6 +115,15 @@ IsFound s table v second constants f x js ks =
 abbrev pub IsNamed : Bytes → List (List ℕ) → List (List ℕ) → ℕ → Bool → Bytes → Bytes → List (List ℕ) → List ℕ → NamedSide → Projection → List Pair → List Pair → Type 0
 IsNamed s table v prefix second constants pool news line f x js ks =
     Sided s (f .standing .from) (startsOf table) (sizesOf table) (f .standing .n) v prefix second constants pool (startsOf news) (sizesOf news) line (f .places .at) (f .places .starts) (f .side) x js ks
+
+-- a side that was found, with its names
+abbrev pub namedSide : FoundSide → Side → NamedSide
+namedSide f side = record { standing = f .standing; side = side; places = f .places }
+
+-- a position stands twice among its join positions, or it has its names
+unfoldable pub IsNaming : Bytes → List (List ℕ) → List (List ℕ) → ℕ → Bool → Bytes → Bytes → List (List ℕ) → List ℕ → FoundSide → Naming → Projection → List Pair → List Pair → Type 0
+IsNaming s table v prefix second constants pool news line f Repeated x js ks = differentPositions (positionsIn second js) ≡ false
+IsNaming s table v prefix second constants pool news line f (Named side) x js ks = IsNamed s table v prefix second constants pool news line (namedSide f side) x js ks
 
 -- the lines of a side are written, from one state of the output to another
 abbrev pub SideWritten : Bytes → List ℕ → List ℕ → ℕ → List (List ℕ) → List ℕ → List ℕ → List ℕ → Side → List ℕ → Bytes → List ℕ → List ℕ → Em → Em → Type 0
@@ -161,7 +174,7 @@ goneMask lline l rline r = maskOf (goneBits (r .constant) (picked 1 (l .joined) 
 abbrev pub mergedTree : Projection → Projection → List Pair → List Pair → List Pair → Pattern
 mergedTree x y js ks ls = mergeProjectPatterns (request x y (joinPositions js) (byPosition (constantsIn ks)) (byPosition (constantsIn ls)))
 
--- 4, 3, else what stands before the left tree and the merged tree
+-- 4, 3, 10, else what stands before the left tree and the merged tree
 abbrev pub mergedBehind : Bytes → Pattern → Pattern → List Pair → List Pair → List Pair → Outcome
 mergedBehind head p q js ks ls = mergeTrees p q (joinPositions js) (byPosition (constantsIn ks)) (byPosition (constantsIn ls)) (λ t. written (head ++ layout t))
 
@@ -169,7 +182,8 @@ mergedBehind head p q js ks ls = mergeTrees p q (joinPositions js) (byPosition (
 abbrev pub joinedBehind : Bytes → Projection → Projection → List Pair → List Pair → List Pair → Outcome
 joinedBehind head x y js ks ls =
     refusedUnless 3 (allInside (request x y (joinPositions js) (byPosition (constantsIn ks)) (byPosition (constantsIn ls))))
-    (written (head ++ layout (mergedTree x y js ks ls)))
+    (refusedUnless 10 (noneTwice (joinPositions js))
+    (written (head ++ layout (mergedTree x y js ks ls))))
 
 -- ---- the lists of a merge, checked
 
