@@ -44,7 +44,7 @@ fn every_number_but_0_is_a_refusal() {
             panic!("{number} is an answer");
         };
         assert_eq!(refusal.number(), number);
-        assert_eq!(refusal == Refusal::Other(number), number > 7);
+        assert_eq!(refusal == Refusal::Other(number), number > 7 && number != 10);
         assert!(!refusal.to_string().is_empty());
     }
     assert_eq!(answered(1, |_, _| 0), Ok(vec![]));

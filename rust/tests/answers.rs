@@ -51,6 +51,8 @@ fn refused() {
     assert_eq!(outside, Err(Refusal::Outside));
     let outside = gandeuch::push_constants(&query("ask"), b"2\t<k>\n");
     assert_eq!(outside, Err(Refusal::Outside));
+    let repeated = gandeuch::merge_patterns(TREE, TREE, b"0\t0\n0\t1\n", b"", b"");
+    assert_eq!(repeated, Err(Refusal::Repeated));
     let root = gandeuch::merge_patterns(TREE, b"bgp\t0\n", b"", b"", b"");
     assert_eq!(root, Err(Refusal::NotProject));
     let heads = gandeuch::merge_queries(&query("ask"), &query("select"), b"", b"", b"");

@@ -176,6 +176,9 @@ static void merges_of_patterns(void) {
     expect("merge-no-project", merge_patterns, TEXTS_OF(DISTINCT, RIGHT, "9\t9\n"), 0, 4, "");
     expect("merge-outside", merge_patterns, TEXTS_OF(LEFT, RIGHT, "2\t0\n"), 0, 3, "");
     expect("merge-constant-outside", merge_patterns, TEXTS_OF(LEFT, RIGHT, JOIN, "", "2\t<k>\n"), 0, 3, "");
+    expect("merge-left-repeated", merge_patterns, TEXTS_OF(LEFT, RIGHT, "1\t0\n1\t1\n"), 0, 10, "");
+    expect("merge-right-repeated", merge_patterns, TEXTS_OF(LEFT, RIGHT, "0\t1\n1\t1\n"), 0, 10, "");
+    expect("merge-outside-before-repeated", merge_patterns, TEXTS_OF(LEFT, RIGHT, "1\t0\n1\t2\n"), 0, 3, "");
 }
 
 static void merges_of_queries(void) {
@@ -187,6 +190,7 @@ static void merges_of_queries(void) {
     expect("merge-queries-construct", merge_queries, TEXTS_OF(CONSTRUCT LEFT, CONSTRUCT RIGHT, JOIN), 0, 5, "");
     expect("merge-queries-no-project", merge_queries, TEXTS_OF(SELECT LEFT, SELECT DISTINCT, "9\t9\n"), 0, 4, "");
     expect("merge-queries-outside", merge_queries, TEXTS_OF(SELECT LEFT, SELECT RIGHT, "0\t2\n"), 0, 3, "");
+    expect("merge-queries-repeated", merge_queries, TEXTS_OF(SELECT LEFT, SELECT RIGHT, "0\t0\n0\t1\n"), 0, 10, "");
 }
 
 static void pushes(void) {
