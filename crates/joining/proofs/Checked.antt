@@ -21,7 +21,8 @@ use Rattle.merging.specs.Request.{made}
 use Rattle.merging.specs.Merge.{mergeable}
 use Rattle.names.specs.bridge.Names.{startsOf, sizesOf}
 use Rattle.sides.specs.declared.side.Standing.{Standing}
-use Rattle.projects.specs.bridge.Joining.{Stands, HasRoom, HasNodes}
+use Rattle.sides.specs.bridge.Side.{Stands}
+use Rattle.projects.specs.bridge.Joining.{HasRoom, HasNodes}
 use Rattle.projects.proofs.Known.{tree-stands, query-stands, tree-count, query-count, good-tree, good-query, tree-nodes, query-nodes, tree-shaped, query-shaped}
 use Rattle.projects.proofs.Halves.{shaped-in}
 use Rattle.joining.specs.bridge.Form.{headless, readForm, headOf, mayMerge, NotedAs, Known, StartsAt, KnownAt}

@@ -44,7 +44,8 @@ use Rattle.merging.proofs.Lists.{positions-different}
 use Rattle.heads.specs.bridge.TreeAt.{headLine, TreeAt}
 use Rattle.heads.proofs.Queries.{query-valid, query-depth, query-names, query-text}
 use Rattle.columns.specs.bridge.Listed.{Listed}
-use Rattle.projects.specs.bridge.Joining.{Stands, KnownTree, KnownText, HasRoom, HasNodes, KnownTerms}
+use Rattle.sides.specs.bridge.Side.{Stands}
+use Rattle.projects.specs.bridge.Joining.{KnownTree, KnownText, HasRoom, HasNodes, KnownTerms}
 use Rattle.projects.proofs.Picks.{positions-are}
 
 -- ---- trees

@@ -10,22 +10,21 @@ use Rattle.text.specs.Text.{Bytes, linesFrom}
 use Rattle.algebra.specs.Query.{Pair}
 use Rattle.algebra.specs.Layout.{put}
 use Rattle.algebra.specs.Tally.{bounds}
-use Rattle.names.specs.bridge.Names.{startsOf, sizesOf}
 use Rattle.scoping.specs.Premises.{inside, differentPositions}
 use Rattle.merging.specs.Request.{Projection, tree}
 use Rattle.descending.specs.bridge.Renamed.{Renamed}
 use Rattle.columns.specs.bridge.Columns.{columnsIn, picked}
 use Rattle.columns.specs.bridge.Listed.{Listed, positionsIn}
-use Rattle.sides.specs.bridge.Side.{TreeIn, Placed, Asked, OutlineIs, FindingIs, NamingIs, SideIs}
+use Rattle.sides.specs.bridge.Side.{Placed, Asked, OutlineIs, FindingIs, Stands, Terms, Outlined, Sided, IsNamed, namedSide, IsNaming}
 use Rattle.sides.specs.declared.side.Outline.{Outline}
 use Rattle.sides.specs.declared.side.Side.{Side}
 use Rattle.sides.specs.declared.side.Finding.{Finding}
 use Rattle.sides.specs.declared.side.Finding.the-variants.{Outside, Found}
 use Rattle.sides.specs.declared.side.Naming.{Naming}
 use Rattle.sides.specs.declared.side.Naming.the-variants.{Repeated, Named}
-use Rattle.projects.specs.declared.one.FoundSide.{FoundSide}
-use Rattle.projects.specs.declared.one.NamedSide.{NamedSide}
-use Rattle.projects.specs.bridge.Joining.{Stands, Terms, KnownTerms, Outlined, Sided, IsFound, IsNamed, namedSide, IsNaming, goneMask}
+use Rattle.sides.specs.declared.side.FoundSide.{FoundSide}
+use Rattle.sides.specs.declared.side.NamedSide.{NamedSide}
+use Rattle.projects.specs.bridge.Joining.{KnownTerms, goneMask}
 use Rattle.projects.proofs.SideLines.{side-ones, side-room, side-width}
 use Rattle.projects.proofs.Whole.{columns-few}
 
@@ -62,51 +61,19 @@ module _ (text : Bytes) (from : ℕ) (second : Bool) (pairs constants : Bytes) (
     pub outlined : length joins ≡ bounds .entries → length at ≡ bounds .entries → Outlined text from starts sizes n spots second constants joins at lines o x js ks
     outlined joins-long long = record { stands = stands; terms = terms; joins-inside = found .0; terms-inside = found .1; joins-long = joins-long; long = long; is = found .2 }
 
--- ---- a side that was found
-
-module _ (text : Bytes) (from : ℕ) (starts sizes : List ℕ) (n : ℕ) (spots : List (List ℕ)) (second : Bool) (constants : Bytes) (joins at lines : List ℕ) (o : Outline) (x : Projection) (js ks : List Pair)
-    (d : Outlined text from starts sizes n spots second constants joins at lines o x js ks) where
-  -- what name_found asks for
-  pub name-needs : (second : Bool) × (constants : Bytes) × (x : Projection) × (js : List Pair) × (ks : List Pair) × (at : List ℕ) × (lines : List ℕ) × TreeIn text from starts sizes n spots (tree x) × (length (x .columns) ≤ bounds .columns)
-      × (inside (x .columns) (positionsIn second js) ≡ true) × OutlineIs text second constants x js ks joins at lines o
-  name-needs = (second, constants, x, js, ks, at, lines, d .stands .tree-in, d .stands .narrow x refl, d .joins-inside, d .is)
-
 -- ---- a side that gets its names
 
--- what name_found promises
-abbrev pub Naming-is : Bytes → ℕ → List (List ℕ) → ℕ → List (List ℕ) → ℕ → List ℕ → Outline → Bytes → List (List ℕ) → List ℕ → List (List ℕ) → Naming → Type 0
-Naming-is text from table n spots prefix joins o pool news line marked r =
-    (second : Bool) (constants : Bytes) (x : Projection) (js ks : List Pair) (at lines : List ℕ) → TreeIn text from (startsOf table) (sizesOf table) n spots (tree x) → length (x .columns) ≤ bounds .columns → inside (x .columns) (positionsIn second js) ≡ true
-    → OutlineIs text second constants x js ks joins at lines o → NamingIs text (startsOf table) (sizesOf table) n prefix second constants x js ks pool (startsOf news) (sizesOf news) line at lines spots marked r
+module _ (text : Bytes) (table spots : List (List ℕ)) (second : Bool) (constants : Bytes) (f : FoundSide) (x : Projection) (js ks : List Pair) (prefix : ℕ) (pool : Bytes) (news : List (List ℕ)) (line : List ℕ)
+    (r : Naming) (n : IsNaming text table spots prefix second constants pool news line f r x js ks) where
+  -- its join positions repeat one
+  pub refused : r ≡ Repeated → differentPositions (positionsIn second js) ≡ false
+  unfolding IsNaming
+  refused e = subst (λ (q : Naming). IsNaming text table spots prefix second constants pool news line f q x js ks) e n
 
-module _ (text : Bytes) (table spots : List (List ℕ)) (second : Bool) (constants : Bytes) (f : FoundSide) (x : Projection) (js ks : List Pair) (prefix : ℕ) (pool : Bytes) (news : List (List ℕ)) (line : List ℕ) where
-  pub naming : (marked : List (List ℕ)) (r : Naming) → IsFound text table spots second constants f x js ks
-      → Naming-is text (f .standing .from) table (f .standing .n) spots prefix (f .places .joins) (f .outline) pool news line marked r
-      → IsNaming text table marked prefix second constants pool news line f r x js ks
-  unfolding NamingIs IsNaming
-  naming marked Repeated d said = said second constants x js ks (f .places .at) (f .places .starts) (d .stands .tree-in) (d .stands .narrow x refl) (d .joins-inside) (d .is)
-  naming marked (Named side) d said = let z = said second constants x js ks (f .places .at) (f .places .starts) (d .stands .tree-in) (d .stands .narrow x refl) (d .joins-inside) (d .is) in record {
-    noted = spots;
-    renamed = z .1;
-    stands = d .stands;
-    terms = d .terms;
-    joins-inside = d .joins-inside;
-    joins-once = z .0;
-    terms-inside = d .terms-inside;
-    long = d .long;
-    is = z .2;
-  }
-
-  module _ (r : Naming) (n : IsNaming text table spots prefix second constants pool news line f r x js ks) where
-    -- its join positions repeat one
-    pub refused : r ≡ Repeated → differentPositions (positionsIn second js) ≡ false
-    unfolding IsNaming
-    refused e = subst (λ (q : Naming). IsNaming text table spots prefix second constants pool news line f q x js ks) e n
-
-    -- it has its names
-    pub named-as : (side : Side) → r ≡ Named side → (w : NamedSide) → w ≡ namedSide f side → IsNamed text table spots prefix second constants pool news line w x js ks
-    unfolding IsNaming
-    named-as side e w q = subst (λ (u : NamedSide). IsNamed text table spots prefix second constants pool news line u x js ks) (sym q) (subst (λ (q : Naming). IsNaming text table spots prefix second constants pool news line f q x js ks) e n)
+  -- it has its names
+  pub named-as : (side : Side) → r ≡ Named side → (w : NamedSide) → w ≡ namedSide f side → IsNamed text table spots prefix second constants pool news line w x js ks
+  unfolding IsNaming
+  named-as side e w q = subst (λ (u : NamedSide). IsNamed text table spots prefix second constants pool news line u x js ks) (sym q) (subst (λ (q : Naming). IsNaming text table spots prefix second constants pool news line f q x js ks) e n)
 
 -- which right columns go, told of two sides with what goes with them
 pub gone-as : (lline rline : List ℕ) (f g : FoundSide) (l r : Side) (gone : ℕ) (a b : NamedSide) → gone ≡ goneMask lline l rline r → a ≡ namedSide f l → b ≡ namedSide g r → gone ≡ goneMask lline (a .side) rline (b .side)

@@ -17,7 +17,8 @@ use Rattle.scoping.specs.Label.{prefixL, prefixR, prefixV}
 use Rattle.merging.specs.Request.{Projection}
 use Rattle.columns.specs.bridge.Columns.{columnsIn, picked}
 use Rattle.sides.specs.declared.side.Side.{Side}
-use Rattle.projects.specs.bridge.Joining.{Sided, SideWritten, pushedTree, pushedBehind, goneMask, mergedTree, joinedBehind}
+use Rattle.sides.specs.bridge.Side.{Sided, SideWritten}
+use Rattle.projects.specs.bridge.Joining.{pushedTree, pushedBehind, goneMask, mergedTree, joinedBehind}
 use Rattle.projects.proofs.SideLines.{side-is}
 use Rattle.projects.proofs.Merged.{gone-room, gone-width, merged-lines}
 use Rattle.projects.proofs.Whole.{pass-one, pass-two, pushed-lines, pushed-is}

@@ -1,4 +1,3 @@
 // Two projections merged, and one with its constants pushed, for texts that were checked: measured, and written if the answer fits.
 pub mod merge;
-pub mod one;
 pub mod push;

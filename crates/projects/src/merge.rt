@@ -1,10 +1,5 @@
 // merge_project_patterns for two projects. Tables of both texts are arrays of two, the left text's first; spots and nodes of
 // both stand in one array each, the right text's behind the left text's.
-use crate::one::FoundSide;
-use crate::one::NamedSide;
-use crate::one::name_one;
-use crate::one::put_one;
-use crate::one::with_names;
 use algebra::ENTRIES;
 use answers::Answer;
 use columns::columns::joined_mask;
@@ -15,11 +10,16 @@ use lines::fields::Node;
 use lines::fields::Spot;
 use names::Entry;
 use sides::side::Finding;
+use sides::side::FoundSide;
+use sides::side::NamedSide;
 use sides::side::Naming;
 use sides::side::Places;
 use sides::side::Side;
 use sides::side::Standing;
 use sides::side::find_side;
+use sides::side::name_found;
+use sides::side::with_names;
+use sides::writing::put_side;
 use words::table::WordRow;
 ghost use mathlib.Core.Path.{_≡_};
 ghost use Prim.Native.Nat.{_-_, _≤_};
@@ -37,7 +37,8 @@ ghost use Rattle.answers.specs.Outcome.{Answered};
 ghost use Rattle.scoping.specs.Label.{prefixL, prefixR};
 ghost use Rattle.merging.specs.Request.{Projection, tree};
 ghost use Rattle.columns.specs.bridge.Columns.{columnsIn, picked};
-ghost use Rattle.projects.specs.bridge.Joining.{StandsAt, IsFound, IsNamed, goneMask, mergedTree, Lists, joinedBehind, ListsRead, rest, BothShaped};
+ghost use Rattle.sides.specs.bridge.Side.{IsFound, IsNamed};
+ghost use Rattle.projects.specs.bridge.Joining.{StandsAt, goneMask, mergedTree, Lists, joinedBehind, ListsRead, rest, BothShaped};
 ghost use Rattle.words.specs.bridge.Words.{Worded};
 
 const PROJECT: [u8; 7] = *b"project";
@@ -121,7 +122,7 @@ fn put_merged(
 {
     let k = sides.spots;
     let a = put_head(head, lines, sides, out);
-    let b = put_one(
+    let b = put_side(
         left,
         &tables[0],
         &spots[..k],
@@ -133,7 +134,7 @@ fn put_merged(
         out,
         a,
     );
-    put_one(
+    put_side(
         right,
         &tables[1],
         &spots[k..],
@@ -222,7 +223,7 @@ fn merge_found(
     let mut lines = [[0u8; 8336]; 2];
     let k = found.spots;
     let m = found.nodes;
-    let Naming::Named(l) = name_one(
+    let Naming::Named(l) = name_found(
         words,
         left,
         &tables[0],
@@ -236,7 +237,7 @@ fn merge_found(
     ) else {
         return Answer::Repeated;
     };
-    let Naming::Named(r) = name_one(
+    let Naming::Named(r) = name_found(
         words,
         right,
         &tables[1],

@@ -1,9 +1,4 @@
 // push_constants_in_project_pattern.
-use crate::one::FoundSide;
-use crate::one::NamedSide;
-use crate::one::name_one;
-use crate::one::put_one;
-use crate::one::with_names;
 use algebra::ENTRIES;
 use answers::Answer;
 use columns::columns::put_columns;
@@ -14,11 +9,16 @@ use lines::fields::Node;
 use lines::fields::Spot;
 use names::Entry;
 use sides::side::Finding;
+use sides::side::FoundSide;
+use sides::side::NamedSide;
 use sides::side::Naming;
 use sides::side::Places;
 use sides::side::Side;
 use sides::side::Standing;
 use sides::side::find_side;
+use sides::side::name_found;
+use sides::side::with_names;
+use sides::writing::put_side;
 use words::table::WordRow;
 ghost use mathlib.Core.Path.{_≡_};
 ghost use Prim.Native.Nat.{_-_, _≤_};
@@ -35,7 +35,8 @@ ghost use Rattle.answers.specs.Outcome.{Answered};
 ghost use Rattle.scoping.specs.Label.{prefixV};
 ghost use Rattle.merging.specs.Request.{Projection, tree};
 ghost use Rattle.columns.specs.bridge.Columns.{columnsIn, picked};
-ghost use Rattle.projects.specs.bridge.Joining.{Stands, IsFound, IsNamed, pushedTree, Terms, KnownTerms, pushedBehind};
+ghost use Rattle.sides.specs.bridge.Side.{Stands, IsFound, IsNamed, Terms};
+ghost use Rattle.projects.specs.bridge.Joining.{pushedTree, KnownTerms, pushedBehind};
 ghost use Rattle.names.specs.bridge.Names.{startsOf, sizesOf};
 ghost use Rattle.words.specs.bridge.Words.{Worded};
 ghost use Rattle.descending.specs.bridge.Renamed.{Shaped};
@@ -78,7 +79,7 @@ fn put_pushed(
     ensures { λ r. ⌜ ((x : Projection) (ks : List Pair) → IsNamed (now (query .entry)) (now (table .entry)) (now (spots .entry)) prefixV false (now (constants .entry)) (now (pool .entry)) (now (news .entry)) (now (line .entry)) named x [] ks → em r (now (out .exit)) ≡ puts (now (head .entry) ++ layout (pushedTree x ks)) (em 0 (now (out .entry)))) ⌝ }
 {
     let a = put_head(head, line, named.side, out);
-    put_one(
+    put_side(
         query,
         table,
         spots,
@@ -111,7 +112,7 @@ fn push_found(
     let mut pool = [0u8; 16384];
     let mut news = [[0u16; 2]; 1024];
     let mut line = [0u8; 8336];
-    let Naming::Named(side) = name_one(
+    let Naming::Named(side) = name_found(
         words,
         query,
         table,

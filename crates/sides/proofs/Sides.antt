@@ -32,6 +32,7 @@ use Rattle.scoping.proofs.NewVariables.{numbered-few}
 use Rattle.lines.specs.bridge.Spotted.{spotsOf}
 use Rattle.reader.specs.bridge.Lines.{LineEnd}
 use Rattle.walking.specs.bridge.Code.{renames}
+use Rattle.descending.specs.bridge.Renamed.{Renamed}
 use Rattle.walking.specs.bridge.Rewritten.{rewritten}
 use Rattle.reader.proofs.Laws.{nothing-here}
 use Rattle.walking.proofs.Laws.{line-split}
@@ -46,7 +47,7 @@ use Rattle.columns.specs.declared.list.Positions.{Positions}
 use Rattle.columns.specs.declared.list.Positions.the-variants.{Outside, Are}
 use Rattle.columns.specs.bridge.Columns.{columnsIn}
 use Rattle.columns.specs.bridge.Listed.{Listed, positionsIn, Kept, Found}
-use Rattle.sides.specs.bridge.Side.{TreeIn, Placed, Renames, maskAt, OutlineIs, SideIs}
+use Rattle.sides.specs.bridge.Side.{TreeIn, Placed, Renames, maskAt, OutlineIs, Outlined, Sided}
 use Rattle.sides.proofs.Trees.{tree-inside, columns-few, line-written}
 use Rattle.sides.proofs.Entries.{entryAt, names-at}
 use Rattle.columns.proofs.Line.{line-columns, line-positive}
@@ -221,37 +222,47 @@ not-false false h = absurd (h refl)
 
 -- what was found is what naming asks for, and named it is a side
 module _ (text : Bytes) (from : ℕ) (starts sizes : List ℕ) (n : ℕ) (spots : List (List ℕ)) (second : Bool) (constants : Bytes) (x : Projection) (js ks : List Pair) (joins at lines : List ℕ) (o : Outline)
-    (tree-in : TreeIn text from starts sizes n spots (tree x)) (narrow : length (x .columns) ≤ bounds .columns) (low : inside (x .columns) (positionsIn second js) ≡ true) (is : OutlineIs text second constants x js ks joins at lines o) where
+    (d : Outlined text from starts sizes n spots second constants joins at lines o x js ks) where
   pub outline-placed : Placed text from starts sizes n spots (o .inner) (o .columns) x
-  outline-placed = record { stands = tree-in; narrow = narrow; width = is .width; high = is .high; behind = is .inner }
+  outline-placed = record { stands = d .stands .tree-in; narrow = d .stands .narrow x refl; width = d .is .width; high = d .is .high; behind = d .is .inner }
 
   pub outline-inside : inside (x .columns) (take (o .joins) joins) ≡ true
-  outline-inside = ap (inside (x .columns)) (is .positions) ∙ low
+  outline-inside = ap (inside (x .columns)) (d .is .positions) ∙ d .joins-inside
 
   -- its join positions are as many as its mask has ones exactly if none stands twice
-  joined-ones : length joins ≡ bounds .entries → Ones (ones (o .joined)) (o .joins) (differentPositions (positionsIn second js))
-  joined-ones long =
-      let t : length (positionsIn second js) ≡ o .joins = sym (ap length (is .positions)) ∙ (let f = is .few in simp length-take (omega arith)) in
-      subst (λ (k : ℕ). Ones (ones (o .joined)) k (differentPositions (positionsIn second js))) t (rw (is .joined) (mask-counts (x .columns) (positionsIn second js) low))
+  joined-ones : Ones (ones (o .joined)) (o .joins) (differentPositions (positionsIn second js))
+  joined-ones =
+      let t : length (positionsIn second js) ≡ o .joins = sym (ap length (d .is .positions)) ∙ (let f = d .is .few in let g = d .joins-long in simp length-take (omega arith)) in
+      subst (λ (k : ℕ). Ones (ones (o .joined)) k (differentPositions (positionsIn second js))) t (rw (d .is .joined) (mask-counts (x .columns) (positionsIn second js) (d .joins-inside)))
 
-  pub repeated : length joins ≡ bounds .entries → ones (o .joined) < o .joins → differentPositions (positionsIn second js) ≡ false
-  repeated long h = not-true (differentPositions (positionsIn second js)) (λ e. let z = joined-ones long .all e in absurd (omega arith))
+  pub repeated : ones (o .joined) < o .joins → differentPositions (positionsIn second js) ≡ false
+  repeated h = not-true (differentPositions (positionsIn second js)) (λ e. let z = joined-ones .all e in absurd (omega arith))
 
-  pub once : length joins ≡ bounds .entries → o .joins ≤ ones (o .joined) → differentPositions (positionsIn second js) ≡ true
-  once long h = not-false (differentPositions (positionsIn second js)) (λ e. let z = joined-ones long .less e in absurd (omega arith))
+  once : o .joins ≤ ones (o .joined) → differentPositions (positionsIn second js) ≡ true
+  once h = not-false (differentPositions (positionsIn second js)) (λ e. let z = joined-ones .less e in absurd (omega arith))
 
-  pub named : (prefix : ℕ) (pool targets spans line : List ℕ) (end : ℕ)
+  pub named : (prefix : ℕ) (pool targets spans line : List ℕ) (end : ℕ) (marked : List (List ℕ)) → o .joins ≤ ones (o .joined) → Renamed spans spots 0 marked (length spots)
       → Renames (listing text starts sizes n) n pool targets spans (sideName prefix (x .columns) (x .inner) (take (o .joins) joins)) × (columnsIn line end ≡ map (sideName prefix (x .columns) (x .inner) (take (o .joins) joins)) (x .columns))
       → end ≤ length line
-      → SideIs text starts sizes n prefix second constants x js ks pool targets spans line at lines (record { inner = o .inner; columns = o .columns; constant = o .constant; joined = o .joined; constants = o .constants; end = end })
-  named prefix pool targets spans line end nc le = record {
-    renames = subst (λ (ps : List ℕ). Renames (listing text starts sizes n) n pool targets spans (sideName prefix (x .columns) (x .inner) ps)) (is .positions) (nc .0);
-    columns = nc .1 ∙ ap (λ (ps : List ℕ). map (sideName prefix (x .columns) (x .inner) ps) (x .columns)) (is .positions);
-    end = le;
-    width = is .width;
-    constant = is .constant;
-    joined = is .joined;
-    high = is .high;
-    inner = is .inner;
-    kept = is .kept;
+      → Sided text from starts sizes n marked prefix second constants pool targets spans line at lines (record { inner = o .inner; columns = o .columns; constant = o .constant; joined = o .joined; constants = o .constants; end = end }) x js ks
+  named prefix pool targets spans line end marked many renamed nc le = record {
+    noted = spots;
+    stands = d .stands;
+    renamed = renamed;
+    terms = d .terms;
+    joins-inside = d .joins-inside;
+    joins-once = once many;
+    terms-inside = d .terms-inside;
+    long = d .long;
+    is = record {
+      renames = subst (λ (ps : List ℕ). Renames (listing text starts sizes n) n pool targets spans (sideName prefix (x .columns) (x .inner) ps)) (d .is .positions) (nc .0);
+      columns = nc .1 ∙ ap (λ (ps : List ℕ). map (sideName prefix (x .columns) (x .inner) ps) (x .columns)) (d .is .positions);
+      end = le;
+      width = d .is .width;
+      constant = d .is .constant;
+      joined = d .is .joined;
+      high = d .is .high;
+      inner = d .is .inner;
+      kept = d .is .kept;
+    };
   }

@@ -35,8 +35,8 @@ ghost use Rattle.merging.specs.Request.{Projection, tree};
 ghost use Rattle.merging.proofs.Names.{Letter};
 ghost use Rattle.scoping.specs.Premises.{inside, sideName};
 ghost use Rattle.columns.specs.bridge.Columns.{columnsIn};
-ghost use Rattle.columns.specs.bridge.Listed.{Listed, positionsIn};
-ghost use Rattle.sides.specs.bridge.Side.{TreeIn, Renames, Placed, Asked, OutlineIs, FindingIs, NamingIs};
+ghost use Rattle.columns.specs.bridge.Listed.{Listed};
+ghost use Rattle.sides.specs.bridge.Side.{TreeIn, Renames, Placed, Asked, FindingIs, IsFound, namedSide, IsNaming};
 
 // The entries of the columns at the first m positions: the columns are the first of a project's variables.
 fn join_entries(spots: &[Spot], at: &PerEntry, m: usize, joins: &mut PerEntry)
@@ -93,6 +93,13 @@ pub struct Outline {
     pub joins: usize,
     pub constant: u64,
     pub constants: usize,
+}
+
+// A side that was found.
+pub struct FoundSide {
+    pub standing: Standing,
+    pub outline: Outline,
+    pub places: Places,
 }
 
 // A position is outside the projection, or all are inside.
@@ -187,6 +194,26 @@ pub struct Side {
     pub end: usize,
 }
 
+// A side that has its names.
+pub struct NamedSide {
+    pub standing: Standing,
+    pub side: Side,
+    pub places: Places,
+}
+
+// What goes with a side, once it has its names.
+pub fn with_names(found: FoundSide, side: Side) -> NamedSide
+    ensures { λ r. ⌜ r ≡ namedSide found side ⌝ }
+{
+    let standing = found.standing;
+    let places = found.places;
+    NamedSide {
+        standing,
+        side,
+        places,
+    }
+}
+
 // A position stands twice in the side's part of the join list, or the side has its names.
 pub enum Naming {
     Repeated,
@@ -196,22 +223,24 @@ pub enum Naming {
 // Naming: the new names of a side that was found, and its line of renamed columns. Where a position stands twice, the mask of the
 // join positions has fewer ones than there are positions, and nothing is named.
 pub fn name_found(
-    text: &[u8],
-    standing: Standing,
-    outline: Outline,
-    table: &[Entry; 1024],
     words: &[WordRow; 56],
+    text: &[u8],
+    table: &[Entry; 1024],
     nodes: &[Node],
     spots: &mut [Spot],
     prefix: u8,
-    joins: &PerEntry,
+    found: FoundSide,
     pool: &mut [u8],
     news: &mut [Entry; 1024],
     line: &mut [u8],
 ) -> Naming
-    requires { ⌜ Letter prefix × (16384 ≤ length (now pool)) × (length (now news) ≡ 1024) × ((i : ℕ) → getD (sizesOf (now news)) i 0 ≡ 0) × (length (now line) ≡ 8336) × (length (now joins) ≡ bounds .entries) × ((second : Bool) × (constants : Bytes) × (x : Projection) × (js : List Pair) × (ks : List Pair) × (at : List ℕ) × (lines : List ℕ) × TreeIn (now text) (standing .from) (startsOf (now table)) (sizesOf (now table)) (standing .n) (now spots) (tree x) × (length (x .columns) ≤ bounds .columns) × (inside (x .columns) (positionsIn second js) ≡ true) × OutlineIs (now text) second constants x js ks (now joins) at lines outline) × Worded (now words) × Shaped (now words) (now nodes) (length (now nodes)) (length (now spots)) ⌝ }
-    ensures { λ r. ⌜ ((second : Bool) (constants : Bytes) (x : Projection) (js ks : List Pair) (at lines : List ℕ) → TreeIn (now (text .entry)) (standing .from) (startsOf (now (table .entry))) (sizesOf (now (table .entry))) (standing .n) (now (spots .entry)) (tree x) → length (x .columns) ≤ bounds .columns → inside (x .columns) (positionsIn second js) ≡ true → OutlineIs (now (text .entry)) second constants x js ks (now (joins .entry)) at lines outline → NamingIs (now (text .entry)) (startsOf (now (table .entry))) (sizesOf (now (table .entry))) (standing .n) prefix second constants x js ks (now (pool .exit)) (startsOf (now (news .exit))) (sizesOf (now (news .exit))) (now (line .exit)) at lines (now (spots .entry)) (now (spots .exit)) r) ⌝ }
+    requires { ⌜ Letter prefix × (16384 ≤ length (now pool)) × (length (now news) ≡ 1024) × ((i : ℕ) → getD (sizesOf (now news)) i 0 ≡ 0) × (length (now line) ≡ 8336) × ((second : Bool) × (constants : Bytes) × (x : Projection) × (js : List Pair) × (ks : List Pair) × IsFound (now text) (now table) (now spots) second constants found x js ks) × Worded (now words) × Shaped (now words) (now nodes) (length (now nodes)) (length (now spots)) ⌝ }
+    ensures { λ r. ⌜ ((second : Bool) (constants : Bytes) (x : Projection) (js ks : List Pair) → IsFound (now (text .entry)) (now (table .entry)) (now (spots .entry)) second constants found x js ks → IsNaming (now (text .entry)) (now (table .entry)) (now (spots .exit)) prefix second constants (now (pool .exit)) (now (news .exit)) (now (line .exit)) found r x js ks) ⌝ }
 {
+    let standing = found.standing;
+    let outline = found.outline;
+    let places = found.places;
+    let joins = places.joins;
     let ones = u64::count_ones(outline.joined) as usize;
     if ones < outline.joins {
         return Naming::Repeated;
@@ -225,7 +254,7 @@ pub fn name_found(
         nodes,
         spots,
         prefix,
-        joins,
+        &joins,
         pool,
         news,
         line,

@@ -1,6 +1,5 @@
 // The lines of a side, written: its inner pattern under new names, with its constants bound.
-use crate::side::Places;
-use crate::side::Side;
+use crate::side::NamedSide;
 use algebra::PerEntry;
 use columns::columns::put_columns;
 use columns::list::put_terms;
@@ -16,18 +15,16 @@ ghost use mathlib.Core.List.{List};
 ghost use mathlib.Core.Bool.{false};
 ghost use lib.ListN.{length};
 ghost use lib.Count.{ones};
-ghost use Rattle.text.specs.Text.{Bytes, Line, textOf};
+ghost use Rattle.text.specs.Text.{Line, textOf};
 ghost use Rattle.algebra.specs.Query.{Pair};
-ghost use Rattle.names.specs.bridge.Names.{startsOf, sizesOf, namesIn};
+ghost use Rattle.names.specs.bridge.Names.{startsOf, sizesOf};
 ghost use Rattle.emit.specs.bridge.Emit.{em, puts};
-ghost use Rattle.scoping.specs.Rename.{renameInGraphPattern};
-ghost use Rattle.algebra.specs.Layout.{put};
 ghost use Rattle.algebra.specs.Tally.{bounds};
 ghost use Rattle.merging.specs.Request.{Projection};
 ghost use Rattle.descending.specs.bridge.Renamed.{Renamed};
 ghost use Rattle.columns.specs.bridge.Columns.{columnsIn, picked};
 ghost use Rattle.columns.specs.bridge.Listed.{Kept, termsFrom};
-ghost use Rattle.sides.specs.bridge.Side.{Renames, Placed, joinLine, valuesLines};
+ghost use Rattle.sides.specs.bridge.Side.{Placed, SideWritten, joinLine, valuesLines};
 
 const JOIN: [u8; 5] = *b"join\n";
 
@@ -79,20 +76,21 @@ fn put_values(
 pub fn put_side(
     text: &[u8],
     table: &[Entry; 1024],
-    n: usize,
     spots: &[Spot],
     pool: &[u8],
     news: &[Entry; 1024],
-    side: Side,
     line: &[u8],
     constants: &[u8],
-    places: Places,
+    named: NamedSide,
     out: &mut [u8],
     at: usize,
 ) -> usize
-    requires { ⌜ ((from : ℕ) × (x : Projection) × (v : List (List ℕ)) × Placed (now text) from (startsOf (now table)) (sizesOf (now table)) n v (side .inner) (side .columns) x × Renamed (sizesOf (now news)) v 0 (now spots) (length v)) × (side .constants ≤ bounds .entries) × (length (places .at) ≡ bounds .entries) × (side .end ≤ length (now line)) × (ones (side .constant) ≡ length (picked 1 (side .constant) (columnsIn (now line) (side .end)))) ⌝ }
-    ensures { λ r. ⌜ ((from : ℕ) (x : Projection) (v : List (List ℕ)) (new : Bytes → Bytes) (ks : List Pair) → Placed (now (text .entry)) from (startsOf (now (table .entry))) (sizesOf (now (table .entry))) n v (side .inner) (side .columns) x → Renamed (sizesOf (now (news .entry))) v 0 (now (spots .entry)) (length v) → Renames (namesIn (now (text .entry)) (now (table .entry)) n) n (now (pool .entry)) (startsOf (now (news .entry))) (sizesOf (now (news .entry))) new → Kept (now (constants .entry)) ks false (places .at) (places .starts) (side .constants) → (t : List Line) → puts (textOf t) (em r (now (out .exit))) ≡ puts (textOf (joinLine (side .constants) (put (renameInGraphPattern new (x .inner)) (valuesLines (side .constants) (ones (side .constant)) (picked 1 (side .constant) (columnsIn (now (line .entry)) (side .end))) (termsFrom ks 0 (bounds .columns)) t)))) (em at (now (out .entry)))) ⌝ }
+    requires { ⌜ ((from : ℕ) × (x : Projection) × (v : List (List ℕ)) × Placed (now text) from (startsOf (now table)) (sizesOf (now table)) (named .standing .n) v (named .side .inner) (named .side .columns) x × Renamed (sizesOf (now news)) v 0 (now spots) (length v)) × (named .side .constants ≤ bounds .entries) × (length (named .places .at) ≡ bounds .entries) × (named .side .end ≤ length (now line)) × (ones (named .side .constant) ≡ length (picked 1 (named .side .constant) (columnsIn (now line) (named .side .end)))) ⌝ }
+    ensures { λ r. ⌜ SideWritten (now (text .entry)) (startsOf (now (table .entry))) (sizesOf (now (table .entry))) (named .standing .n) (now (spots .entry)) (now (pool .entry)) (startsOf (now (news .entry))) (sizesOf (now (news .entry))) (named .side) (now (line .entry)) (now (constants .entry)) (named .places .at) (named .places .starts) (em at (now (out .entry))) (em r (now (out .exit))) ⌝ }
 {
+    let side = named.side;
+    let n = named.standing.n;
+    let places = named.places;
     let a = put_join(side.constants, out, at);
     let b = put_renamed(
         text,

@@ -2,14 +2,11 @@
 use Prim.Native.Nat.{ℕ, _*_, _-_, _/_, _≤_}
 use mathlib.Core.Path.{_≡_}
 use mathlib.Core.List.{List, [], _++_}
-use mathlib.Core.Bool.{Bool, true, false}
 use lib.ListN.{length, getD, take, drop}
-use lib.Count.{ones}
-use Rattle.text.specs.Text.{Bytes, Line, textOf}
+use Rattle.text.specs.Text.{Bytes}
 use Rattle.algebra.specs.Tree.{Pattern}
 use Rattle.algebra.specs.Query.{Query, Pair}
-use Rattle.algebra.specs.Layout.{put, layout}
-use Rattle.emit.specs.bridge.Emit.{Em, puts}
+use Rattle.algebra.specs.Layout.{layout}
 use Rattle.algebra.specs.Reader.{reads}
 use Rattle.algebra.specs.Texts.{readTree, readQuery}
 use Rattle.algebra.specs.declared.Answer.{Answer as Check}
@@ -20,8 +17,7 @@ use Rattle.names.specs.bridge.Names.{listing, startsOf, sizesOf}
 use Rattle.lines.specs.bridge.Noded.{Roomy}
 use Rattle.lines.specs.bridge.Spotted.{Noted}
 use Rattle.scoping.specs.Numbering.{byPlace}
-use Rattle.scoping.specs.Rename.{renameInGraphPattern}
-use Rattle.scoping.specs.Premises.{inside, differentPositions}
+use Rattle.scoping.specs.Premises.{inside}
 use Rattle.heads.specs.bridge.TreeAt.{TreeAt}
 use Rattle.merging.specs.Sides.{Constant, Pair as Joined}
 use Rattle.merging.specs.Request.{Projection, tree, readJoins, readConstants, joinPositions, byPosition, constantsIn, positions, request, allInside}
@@ -29,23 +25,13 @@ use Rattle.merging.specs.Merge.{lists, mergeProjectPatterns, mergeTrees}
 use Rattle.merging.specs.Push.{pushConstantsInProjectPattern}
 use Rattle.merging.proofs.Given.{noneTwice}
 use Rattle.sides.specs.declared.side.Standing.{Standing}
-use Rattle.projects.specs.declared.one.FoundSide.{FoundSide}
-use Rattle.projects.specs.declared.one.NamedSide.{NamedSide}
-use Rattle.sides.specs.declared.side.Outline.{Outline}
 use Rattle.sides.specs.declared.side.Side.{Side}
-use Rattle.sides.specs.declared.side.Naming.{Naming}
-use Rattle.sides.specs.declared.side.Naming.the-variants.{Repeated, Named}
 use Rattle.columns.specs.bridge.Columns.{columnsIn, maskOf, picked, goneBits}
-use Rattle.descending.specs.bridge.Renamed.{Renamed, Shaped}
-use Rattle.columns.specs.bridge.Listed.{Listed, positionsIn, Kept, termsFrom}
-use Rattle.sides.specs.bridge.Side.{TreeIn, Placed, Renames, OutlineIs, SideIs, joinLine, valuesLines}
+use Rattle.descending.specs.bridge.Renamed.{Shaped}
+use Rattle.columns.specs.bridge.Listed.{Listed}
+use Rattle.sides.specs.bridge.Side.{Stands, Terms}
 
--- a tree stands in a text from a place on, and a project at its root has no more columns than it may
-pub record Stands (s : Bytes) (at : ℕ) (a l : List ℕ) (n : ℕ) (v : List (List ℕ)) (p : Pattern) : Type 0 where
-  pub tree-in : TreeIn s at a l n v p
-  pub narrow : (x : Projection) → p ≡ tree x → length (x .columns) ≤ bounds .columns
-
--- the same where the tables of two texts stand in one array, for text i
+-- a tree stands in text i of two, whose tables stand in one array
 abbrev pub StandsAt : ℕ → Bytes → Standing → List (List (List ℕ)) → List (List ℕ) → Pattern → Type 0
 StandsAt i s t tables v p = Stands s (t .from) (startsOf (getD tables i [])) (sizesOf (getD tables i [])) (t .n) v p
 
@@ -71,11 +57,6 @@ HasRoom s v = length s ≤ 16384 → length s ≤ 3 * length v
 abbrev pub HasNodes : Bytes → List (List ℕ) → Type 0
 HasNodes s b = length s ≤ 16384 → Roomy s b
 
--- a text is a constant list of these lines
-pub record Terms (s : Bytes) (ks : List Pair) : Type 0 where
-  pub listed : Listed s ks
-  pub different : differentPositions (positionsIn false ks) ≡ true
-
 -- a text that is a constant list's, and what it says
 pub record KnownTerms (s : Bytes) : Type 0 where
   pub list : List Pair
@@ -83,55 +64,6 @@ pub record KnownTerms (s : Bytes) : Type 0 where
   pub read : readConstants s ≡ reads (byPosition (constantsIn list))
 
 -- ---- one side
-
--- a side that was found: its projection stands in its text, its constants were read, and its positions are inside
-pub record Outlined (s : Bytes) (from : ℕ) (a l : List ℕ) (n : ℕ) (v : List (List ℕ)) (second : Bool) (constants : Bytes) (joins at lines : List ℕ) (o : Outline) (x : Projection) (js ks : List Pair) : Type 0 where
-  pub stands : Stands s from a l n v (tree x)
-  pub terms : Terms constants ks
-  pub joins-inside : inside (x .columns) (positionsIn second js) ≡ true
-  pub terms-inside : inside (x .columns) (positionsIn false ks) ≡ true
-  pub joins-long : length joins ≡ bounds .entries
-  pub long : length at ≡ bounds .entries
-  pub is : OutlineIs s second constants x js ks joins at lines o
-
--- a side that is ready to be written: its projection stood in its text by the variables that were noted, which are renamed now; its constants were read,
--- its positions are inside, none twice in the join list, and what was found of it is so
-pub record Sided (s : Bytes) (from : ℕ) (a l : List ℕ) (n : ℕ) (v : List (List ℕ)) (prefix : ℕ) (second : Bool) (constants : Bytes) (pool targets spans line at lines : List ℕ) (side : Side) (x : Projection) (js ks : List Pair) : Type 0 where
-  pub noted : List (List ℕ)
-  pub stands : Stands s from a l n noted (tree x)
-  pub renamed : Renamed spans noted 0 v (length noted)
-  pub terms : Terms constants ks
-  pub joins-inside : inside (x .columns) (positionsIn second js) ≡ true
-  pub joins-once : differentPositions (positionsIn second js) ≡ true
-  pub terms-inside : inside (x .columns) (positionsIn false ks) ≡ true
-  pub long : length at ≡ bounds .entries
-  pub is : SideIs s a l n prefix second constants x js ks pool targets spans line at lines side
-
--- the same of a side with what goes with it
-abbrev pub IsFound : Bytes → List (List ℕ) → List (List ℕ) → Bool → Bytes → FoundSide → Projection → List Pair → List Pair → Type 0
-IsFound s table v second constants f x js ks =
-    Outlined s (f .standing .from) (startsOf table) (sizesOf table) (f .standing .n) v second constants (f .places .joins) (f .places .at) (f .places .starts) (f .outline) x js ks
-
-abbrev pub IsNamed : Bytes → List (List ℕ) → List (List ℕ) → ℕ → Bool → Bytes → Bytes → List (List ℕ) → List ℕ → NamedSide → Projection → List Pair → List Pair → Type 0
-IsNamed s table v prefix second constants pool news line f x js ks =
-    Sided s (f .standing .from) (startsOf table) (sizesOf table) (f .standing .n) v prefix second constants pool (startsOf news) (sizesOf news) line (f .places .at) (f .places .starts) (f .side) x js ks
-
--- a side that was found, with its names
-abbrev pub namedSide : FoundSide → Side → NamedSide
-namedSide f side = record { standing = f .standing; side = side; places = f .places }
-
--- a position stands twice among its join positions, or it has its names
-unfoldable pub IsNaming : Bytes → List (List ℕ) → List (List ℕ) → ℕ → Bool → Bytes → Bytes → List (List ℕ) → List ℕ → FoundSide → Naming → Projection → List Pair → List Pair → Type 0
-IsNaming s table v prefix second constants pool news line f Repeated x js ks = differentPositions (positionsIn second js) ≡ false
-IsNaming s table v prefix second constants pool news line f (Named side) x js ks = IsNamed s table v prefix second constants pool news line (namedSide f side) x js ks
-
--- the lines of a side are written, from one state of the output to another
-abbrev pub SideWritten : Bytes → List ℕ → List ℕ → ℕ → List (List ℕ) → List ℕ → List ℕ → List ℕ → Side → List ℕ → Bytes → List ℕ → List ℕ → Em → Em → Type 0
-SideWritten text starts sizes n spots pool targets spans s line constants at lines e e′ =
-    (from : ℕ) (x : Projection) (v : List (List ℕ)) (new : Bytes → Bytes) (ks : List Pair) → Placed text from starts sizes n v (s .inner) (s .columns) x → Renamed spans v 0 spots (length v)
-    → Renames (listing text starts sizes n) n pool targets spans new
-    → Kept constants ks false at lines (s .constants)
-    → (t : List Line) → puts (textOf t) e′ ≡ puts (textOf (joinLine (s .constants) (put (renameInGraphPattern new (x .inner)) (valuesLines (s .constants) (ones (s .constant)) (picked 1 (s .constant) (columnsIn line (s .end))) (termsFrom ks 0 (bounds .columns)) t)))) e
 
 -- the tree with its constants
 abbrev pub pushedTree : Projection → List Pair → Pattern

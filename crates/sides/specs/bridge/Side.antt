@@ -4,7 +4,8 @@ use mathlib.Core.Path.{_≡_}
 use mathlib.Core.List.{List, [], _∷_, map}
 use mathlib.Core.Bool.{Bool, true, false, _&&_}
 use lib.ListN.{length, getD, take}
-use Rattle.text.specs.Text.{Bytes, Line, linesFrom}
+use lib.Count.{ones}
+use Rattle.text.specs.Text.{Bytes, Line, textOf, linesFrom}
 use Rattle.text.specs.Word.{bytes}
 use Rattle.text.specs.Field.{decimal}
 use Rattle.algebra.specs.Tree.{Pattern}
@@ -13,9 +14,11 @@ use Rattle.algebra.specs.Valid.{Valid, mem}
 use Rattle.algebra.specs.Depth.{depth}
 use Rattle.algebra.specs.Layout.{put}
 use Rattle.algebra.specs.Tally.{bounds}
-use Rattle.names.specs.bridge.Names.{listing}
+use Rattle.names.specs.bridge.Names.{listing, startsOf, sizesOf}
+use Rattle.emit.specs.bridge.Emit.{Em, puts}
 use Rattle.scoping.specs.Numbering.{byPlace}
 use Rattle.scoping.specs.Premises.{sideName, inside, differentPositions}
+use Rattle.scoping.specs.Rename.{renameInGraphPattern}
 use Rattle.lines.specs.bridge.Spotted.{Noted}
 use Rattle.scoping.specs.bridge.Becomes.{replacement}
 use Rattle.descending.specs.bridge.Renamed.{Renamed}
@@ -23,12 +26,14 @@ use Rattle.merging.specs.Request.{Projection, tree}
 use Rattle.merging.specs.Names.{from as countFrom, isAt}
 use Rattle.sides.specs.declared.side.Side.{Side}
 use Rattle.sides.specs.declared.side.Outline.{Outline}
+use Rattle.sides.specs.declared.side.FoundSide.{FoundSide}
+use Rattle.sides.specs.declared.side.NamedSide.{NamedSide}
 use Rattle.sides.specs.declared.side.Finding.{Finding}
 use Rattle.sides.specs.declared.side.Finding.the-variants.{Outside, Found}
 use Rattle.sides.specs.declared.side.Naming.{Naming}
 use Rattle.sides.specs.declared.side.Naming.the-variants.{Repeated, Named}
-use Rattle.columns.specs.bridge.Columns.{columnsIn, maskOf}
-use Rattle.columns.specs.bridge.Listed.{Listed, positionsIn, Kept}
+use Rattle.columns.specs.bridge.Columns.{columnsIn, maskOf, picked}
+use Rattle.columns.specs.bridge.Listed.{Listed, positionsIn, Kept, termsFrom}
 
 -- a tree stands in a text from a place on, within the bounds; the table lists its names, and the array its variables
 pub record TreeIn (s : Bytes) (at : ℕ) (a l : List ℕ) (n : ℕ) (v : List (List ℕ)) (p : Pattern) : Type 0 where
@@ -103,11 +108,58 @@ pub record SideIs (text : Bytes) (starts sizes : List ℕ) (n prefix : ℕ) (sec
   pub inner : linesFrom text (s .inner) ≡ put (x .inner) []
   pub kept : Kept constants ks false at lines (s .constants)
 
--- a position stands twice among the side's in the join list; or none does, the side has its names, and its variables are renamed
-unfoldable pub NamingIs : Bytes → List ℕ → List ℕ → ℕ → ℕ → Bool → Bytes → Projection → List Pair → List Pair → List ℕ → List ℕ → List ℕ → List ℕ → List ℕ → List ℕ → List (List ℕ) → List (List ℕ) → Naming → Type 0
-NamingIs text starts sizes n prefix second constants x js ks pool targets spans line at lines noted spots Repeated = differentPositions (positionsIn second js) ≡ false
-NamingIs text starts sizes n prefix second constants x js ks pool targets spans line at lines noted spots (Named s) =
-    (differentPositions (positionsIn second js) ≡ true) × Renamed spans noted 0 spots (length noted) × SideIs text starts sizes n prefix second constants x js ks pool targets spans line at lines s
+-- ---- a side with what goes with it
+
+-- a tree stands in a text from a place on, and a project at its root has no more columns than it may
+pub record Stands (s : Bytes) (at : ℕ) (a l : List ℕ) (n : ℕ) (v : List (List ℕ)) (p : Pattern) : Type 0 where
+  pub tree-in : TreeIn s at a l n v p
+  pub narrow : (x : Projection) → p ≡ tree x → length (x .columns) ≤ bounds .columns
+
+-- a text is a constant list of these lines
+pub record Terms (s : Bytes) (ks : List Pair) : Type 0 where
+  pub listed : Listed s ks
+  pub different : differentPositions (positionsIn false ks) ≡ true
+
+-- a side that was found: its projection stands in its text, its constants were read, and its positions are inside
+pub record Outlined (s : Bytes) (from : ℕ) (a l : List ℕ) (n : ℕ) (v : List (List ℕ)) (second : Bool) (constants : Bytes) (joins at lines : List ℕ) (o : Outline) (x : Projection) (js ks : List Pair) : Type 0 where
+  pub stands : Stands s from a l n v (tree x)
+  pub terms : Terms constants ks
+  pub joins-inside : inside (x .columns) (positionsIn second js) ≡ true
+  pub terms-inside : inside (x .columns) (positionsIn false ks) ≡ true
+  pub joins-long : length joins ≡ bounds .entries
+  pub long : length at ≡ bounds .entries
+  pub is : OutlineIs s second constants x js ks joins at lines o
+
+-- a side that is ready to be written: its projection stood in its text by the variables that were noted, which are renamed now; its constants were read,
+-- its positions are inside, none twice in the join list, and what was found of it is so
+pub record Sided (s : Bytes) (from : ℕ) (a l : List ℕ) (n : ℕ) (v : List (List ℕ)) (prefix : ℕ) (second : Bool) (constants : Bytes) (pool targets spans line at lines : List ℕ) (side : Side) (x : Projection) (js ks : List Pair) : Type 0 where
+  pub noted : List (List ℕ)
+  pub stands : Stands s from a l n noted (tree x)
+  pub renamed : Renamed spans noted 0 v (length noted)
+  pub terms : Terms constants ks
+  pub joins-inside : inside (x .columns) (positionsIn second js) ≡ true
+  pub joins-once : differentPositions (positionsIn second js) ≡ true
+  pub terms-inside : inside (x .columns) (positionsIn false ks) ≡ true
+  pub long : length at ≡ bounds .entries
+  pub is : SideIs s a l n prefix second constants x js ks pool targets spans line at lines side
+
+-- the same of a side with what goes with it
+abbrev pub IsFound : Bytes → List (List ℕ) → List (List ℕ) → Bool → Bytes → FoundSide → Projection → List Pair → List Pair → Type 0
+IsFound s table v second constants f x js ks =
+    Outlined s (f .standing .from) (startsOf table) (sizesOf table) (f .standing .n) v second constants (f .places .joins) (f .places .at) (f .places .starts) (f .outline) x js ks
+
+abbrev pub IsNamed : Bytes → List (List ℕ) → List (List ℕ) → ℕ → Bool → Bytes → Bytes → List (List ℕ) → List ℕ → NamedSide → Projection → List Pair → List Pair → Type 0
+IsNamed s table v prefix second constants pool news line f x js ks =
+    Sided s (f .standing .from) (startsOf table) (sizesOf table) (f .standing .n) v prefix second constants pool (startsOf news) (sizesOf news) line (f .places .at) (f .places .starts) (f .side) x js ks
+
+-- a side that was found, with its names
+abbrev pub namedSide : FoundSide → Side → NamedSide
+namedSide f side = record { standing = f .standing; side = side; places = f .places }
+
+-- a position stands twice among its join positions, or it has its names
+unfoldable pub IsNaming : Bytes → List (List ℕ) → List (List ℕ) → ℕ → Bool → Bytes → Bytes → List (List ℕ) → List ℕ → FoundSide → Naming → Projection → List Pair → List Pair → Type 0
+IsNaming s table v prefix second constants pool news line f Repeated x js ks = differentPositions (positionsIn second js) ≡ false
+IsNaming s table v prefix second constants pool news line f (Named side) x js ks = IsNamed s table v prefix second constants pool news line (namedSide f side) x js ks
 
 -- ---- the lines that are written
 
@@ -120,3 +172,11 @@ joinLine (suc m) t = (bytes "join" ∷ []) ∷ t
 abbrev pub valuesLines : ℕ → ℕ → List Bytes → List Bytes → List Line → List Line
 valuesLines zero n cs ts t = t
 valuesLines (suc m) n cs ts t = (bytes "values" ∷ decimal n ∷ decimal 1 ∷ []) ∷ (bytes "cols" ∷ cs) ∷ (bytes "row" ∷ ts) ∷ t
+
+-- the lines of a side are written, from one state of the output to another
+abbrev pub SideWritten : Bytes → List ℕ → List ℕ → ℕ → List (List ℕ) → List ℕ → List ℕ → List ℕ → Side → List ℕ → Bytes → List ℕ → List ℕ → Em → Em → Type 0
+SideWritten text starts sizes n spots pool targets spans s line constants at lines e e′ =
+    (from : ℕ) (x : Projection) (v : List (List ℕ)) (new : Bytes → Bytes) (ks : List Pair) → Placed text from starts sizes n v (s .inner) (s .columns) x → Renamed spans v 0 spots (length v)
+    → Renames (listing text starts sizes n) n pool targets spans new
+    → Kept constants ks false at lines (s .constants)
+    → (t : List Line) → puts (textOf t) e′ ≡ puts (textOf (joinLine (s .constants) (put (renameInGraphPattern new (x .inner)) (valuesLines (s .constants) (ones (s .constant)) (picked 1 (s .constant) (columnsIn line (s .end))) (termsFrom ks 0 (bounds .columns)) t)))) e

@@ -31,4 +31,4 @@ put-merged-spec =
     (λ c. search needs)
     (λ c κs. let c27 = c .before .before .before .before .before .before .before .before .before .before .before .before .before .before .before .before .before .before .before .before .before .before .before .before .before .before .before .before .before in OS.side-needs _ _ _ _ _ _ _ _ _ _ _ _ _ _ _ _ _ _ _ (c27 .pre .0 .6))
     (λ c. search needs)
-    (λ c. let c2 = c .before .before in let c12 = c2 .before .before .before .before .before .before .before .before .before .before .before in let c22 = c12 .before .before .before .before .before .before .before .before .before .before .before in let c30 = c22 .before .before .before .before .before .before .before .before in λ x y js ks ls ld rd. P.merge-pass _ _ _ _ _ _ _ _ _ _ _ _ _ _ _ _ _ _ _ _ _ _ _ _ _ _ _ _ x y js ks ls ld rd _ (c30 .pre .1) (c30 .args .head .now) (em 0 (c30 .args .out .now)) (em (c22 .put-head .result) (c22 .put-head .last .1 .1 .1 .0)) (em (c12 .put-one .result) (c12 .put-one .last .1 .1 .1 .1 .1 .1 .1 .1 .0)) (em (c2 .put-one2 .result) (c2 .put-one2 .last .1 .1 .1 .1 .1 .1 .1 .1 .0)) (c22 .put-head .ensures) (c12 .put-one .ensures) (c2 .put-one2 .ensures)))
+    (λ c. let c2 = c .before .before in let c12 = c2 .before .before .before .before .before .before .before .before .before .before .before in let c22 = c12 .before .before .before .before .before .before .before .before .before .before .before in let c30 = c22 .before .before .before .before .before .before .before .before in λ x y js ks ls ld rd. P.merge-pass _ _ _ _ _ _ _ _ _ _ _ _ _ _ _ _ _ _ _ _ _ _ _ _ _ _ _ _ x y js ks ls ld rd _ (c30 .pre .1) (c30 .args .head .now) (em 0 (c30 .args .out .now)) (em (c22 .put-head .result) (c22 .put-head .last .1 .1 .1 .0)) (em (c12 .put-side .result) (c12 .put-side .last .1 .1 .1 .1 .1 .1 .1 .1 .0)) (em (c2 .put-side2 .result) (c2 .put-side2 .last .1 .1 .1 .1 .1 .1 .1 .1 .0)) (c22 .put-head .ensures) (c12 .put-side .ensures) (c2 .put-side2 .ensures)))
