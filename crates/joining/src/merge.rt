@@ -22,7 +22,7 @@ ghost use mathlib.Core.Path.{_≡_};
 ghost use Prim.Native.Nat.{_≤_};
 ghost use lib.ListN.{length, take};
 ghost use Rattle.answers.specs.Outcome.{Answered};
-ghost use Rattle.projects.specs.bridge.Joining.{half, rest, BothShaped, HasRoom, HasNodes, ListsRead, TermsChecked, ListsChecked};
+ghost use Rattle.projects.specs.bridge.Joining.{HalfRoom, HalfNodes, rest, BothShaped, HasRoom, HasNodes, ListsRead, TermsChecked, ListsChecked};
 ghost use Rattle.words.specs.bridge.Words.{Worded};
 ghost use Rattle.descending.specs.bridge.Renamed.{Shaped};
 ghost use Rattle.joining.specs.bridge.Form.{mergeOutcome, KnownAt};
@@ -221,7 +221,7 @@ fn merge_left(
     right_constants: &[u8],
     out: &mut [u8],
 ) -> Answer
-    requires { ⌜ HasRoom (now left) (half (now spots)) × HasRoom (now right) (half (now spots)) × HasNodes (now left) (half (now nodes)) × HasNodes (now right) (half (now nodes)) ⌝ }
+    requires { ⌜ HalfRoom (now left) (now spots) × HalfRoom (now right) (now spots) × HalfNodes (now left) (now nodes) × HalfNodes (now right) (now nodes) ⌝ }
     ensures { λ r. ⌜ Answered (mergeOutcome query (now (left .entry)) (now (right .entry)) (now (pairs .entry)) (now («left_constants» .entry)) (now («right_constants» .entry))) (now (out .entry)) (now (out .exit)) r ⌝ }
 {
     let words = all_words();

@@ -1,16 +1,16 @@
 -- An array that two texts share, the first k entries the left one's, the others the right one's: what becomes of each part when one is lent and comes back. Assumes nothing.
-use Prim.Native.Nat.{ℕ, _+_, _-_, _*_, _/_, _≤_}
+use Prim.Native.Nat.{ℕ, _+_, _-_, _/_, _≤_}
 use mathlib.Core.Path.{_≡_, ap, ap₂, sym, subst, _∙_}
 use mathlib.Core.List.{List, _++_, append-nil}
 use native.Mathlib.Omega.{arith}
 use borrow.Rule.Slice.PartAt.{part-to-end}
 use borrow.Rule.Slice.PartMut.{putMid, post-is, take-put, same-len-mid}
-use lib.ListN.{length, take, drop, replicate, length-append, length-drop, length-replicate}
+use lib.ListN.{length, take, drop, length-append, length-drop}
 use lib.Seq.{take-at, drop-at, drop-length, take-add, length-take-le, length-front}
 use Rattle.text.specs.Text.{Bytes}
 use Rattle.descending.specs.bridge.Renamed.{Shaped}
-use Rattle.projects.specs.bridge.Joining.{HasRoom, HasNodes, half, rest, BothShaped}
-use Rattle.projects.proofs.Known.{has-room, has-nodes, room-more, nodes-more}
+use Rattle.projects.specs.bridge.Joining.{HasRoom, HasNodes, half, HalfRoom, HalfNodes, rest, BothShaped}
+use Rattle.projects.proofs.Known.{room-more, nodes-more}
 
 pub shaped-in : (words a b c d : List (List ℕ)) → a ≡ b → c ≡ d → Shaped words a (length a) (length c) → Shaped words b (length b) (length d)
 shaped-in words a b c d e f s =
@@ -21,6 +21,15 @@ shaped-in words a b c d e f s =
 pub half-low : (v : List (List ℕ)) → length v / 2 ≤ length v
 half-low v = omega arith
 
+half-long : (v : List (List ℕ)) → length (half v) ≡ length v / 2
+half-long v = length-take-le (length v / 2) v (half-low v)
+
+pub half-room : (s : Bytes) (v : List (List ℕ)) → HalfRoom s v → HasRoom s (half v)
+half-room s v h short = let r = h short in let e = half-long v in omega (arith, r, e)
+
+pub half-nodes : (s : Bytes) (v : List (List ℕ)) → HalfNodes s v → HasNodes s (half v)
+half-nodes s v h short m g l = let r = h short m g l in let e = half-long v in omega (arith, r, e)
+
 module _ (v l : List (List ℕ)) (kept : length l ≡ length (half v)) (k : ℕ) (few : k ≤ length l) where
   abbrev noted : List (List ℕ)
   noted = l ++ drop (length v / 2) v
@@ -28,29 +37,16 @@ module _ (v l : List (List ℕ)) (kept : length l ≡ length (half v)) (k : ℕ)
   -- what is left has room for as much
   half-left : length (half v) ≤ length (rest k noted)
   half-left =
-      let a = length-take-le (length v / 2) v (half-low v) in
+      let a = half-long v in
       let b = ap length (part-to-end noted k) ∙ length-drop k noted in
       let d = length-front v l (length v / 2) kept in
       omega (arith, a, b, d, kept, few)
 
-  pub room-left : (s : Bytes) → HasRoom s (half v) → HasRoom s (rest k noted)
-  room-left s h = room-more s (half v) (rest k noted) half-left h
+  pub room-left : (s : Bytes) → HalfRoom s v → HasRoom s (rest k noted)
+  room-left s h = room-more s (half v) (rest k noted) half-left (half-room s v h)
 
-  pub nodes-left : (s : Bytes) → HasNodes s (half v) → HasNodes s (rest k noted)
-  nodes-left s h = nodes-more s (half v) (rest k noted) half-left h
-
-module _ (s : Bytes) (n : ℕ) (x : List ℕ) where
-  abbrev twice : List (List ℕ)
-  twice = replicate (n + n) x
-
-  half-long : length (replicate n x) ≤ length (half twice)
-  half-long = let a = length-replicate n x in let b = length-replicate (n + n) x in let d = length-take-le (length twice / 2) twice (half-low twice) in omega (arith, a, b, d)
-
-  pub half-room : (length s ≤ 16384 → length s ≤ 3 * n) → HasRoom s (half twice)
-  half-room h = room-more s (replicate n x) (half twice) half-long (has-room s n x h)
-
-  pub half-nodes : (length s ≤ 16384 → (m : ℕ) → 3 * m ≤ length s → m ≤ 2048 → m ≤ n) → HasNodes s (half twice)
-  half-nodes h = nodes-more s (replicate n x) (half twice) half-long (has-nodes s n x h)
+  pub nodes-left : (s : Bytes) → HalfNodes s v → HasNodes s (rest k noted)
+  nodes-left s h = nodes-more s (half v) (rest k noted) half-left (half-nodes s v h)
 
 -- ---- what stands behind the first k comes back
 

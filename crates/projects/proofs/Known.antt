@@ -4,7 +4,7 @@ use mathlib.Core.Path.{_≡_, refl, sym, ap, ap₂, subst, _∙_}
 use mathlib.Core.List.{List, [], _∷_, _++_}
 use native.Mathlib.Nat.{le-refl}
 use native.Mathlib.Omega.{arith}
-use lib.ListN.{length, getD, take, drop, replicate, length-take, length-drop, length-append, length-replicate}
+use lib.ListN.{length, getD, take, drop, length-take, length-drop, length-append}
 use lib.Seq.{getD-take, take-all, drop-at}
 use Rattle.text.specs.Text.{Bytes, ended, part, split, linesIn, linesOf, linesFrom}
 use Rattle.text.proofs.Texts.{lines-back}
@@ -132,13 +132,6 @@ shaped-taken words b a m k h x =
       whole = ap (skip (bounds .depth) patterns) (ap (nodesOf words (take m b)) e ∙ nodes-taken words b m m (le-refl m)) ∙ x .whole;
       none = λ z. d ∙ x .none (sym e ∙ z);
     }
-
--- so many entries are room
-pub has-room : (s : Bytes) (n : ℕ) (x : List ℕ) → (length s ≤ 16384 → length s ≤ 3 * n) → HasRoom s (replicate n x)
-has-room s n x h = rw (length-replicate n x) h
-
-pub has-nodes : (s : Bytes) (n : ℕ) (x : List ℕ) → (length s ≤ 16384 → (m : ℕ) → 3 * m ≤ length s → m ≤ 2048 → m ≤ n) → HasNodes s (replicate n x)
-has-nodes s n x h = rw (length-replicate n x) h
 
 -- an array that is no shorter has no less room
 pub room-more : (s : Bytes) (b c : List (List ℕ)) → length b ≤ length c → HasRoom s b → HasRoom s c

@@ -81,6 +81,13 @@ pushedBehind head x ks =
 abbrev pub half : List (List ℕ) → List (List ℕ)
 half v = take (length v / 2) v
 
+-- it has room for a text's variables, and for its lines
+abbrev pub HalfRoom : Bytes → List (List ℕ) → Type 0
+HalfRoom s v = length s ≤ 16384 → length s ≤ 3 * (length v / 2)
+
+abbrev pub HalfNodes : Bytes → List (List ℕ) → Type 0
+HalfNodes s b = length s ≤ 16384 → (m : ℕ) → 3 * m ≤ length s → m ≤ 2048 → m ≤ length b / 2
+
 -- what stands behind the first k entries
 abbrev pub rest : ℕ → List (List ℕ) → List (List ℕ)
 rest k v = take (length v - k) (drop k v)

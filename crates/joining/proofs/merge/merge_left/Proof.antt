@@ -27,12 +27,12 @@ merge-left-spec =
     (λ c κs. search needs)
     (λ c κs. let c5 = c .before .before .before .before .before in let c7 = c5 .before .before in let c11 = c7 .before .before .before .before in let c17 = c11 .before .before .before .before .before .before in let c24 = c17 .before .before .before .before .before .before .before in let p = c24 .pre in let v = c24 .args .spots .now in let u = c24 .args .nodes .now in
     let a = c11 .note-form .last .1 .1 .1 .1 .1 .0 in let b = c11 .note-form .last .1 .1 .1 .1 .1 .1 .0 in let more = drop (length v / 2) v in let others = drop (length u / 2) u in
-    let space = KN.nodes-kept (c24 .args .left .now) (half u) b (c11 .note-form .kept .1 .1 .1 .1 .1 .1 .0) (p .2) in let high = F.front-high _ _ _ _ (half v) _ _ _ _ _ _ _ (c7 .n .given .1) (p .0) space _ (c11 .note-form .ensures) more others in (
-      record { known = F.front-known _ _ _ _ (half v) _ _ _ _ _ _ _ (c7 .n .given .1) (p .0) space _ (c11 .note-form .ensures) more others; starts = c5 .start-of .ensures },
-      H.room-left v a (c11 .note-form .kept .1 .1 .1 .1 .1 .0) _ (F.as-count _ _ _ _ (half v) _ _ _ _ _ _ _ (c7 .n .given .1) (p .0) _ (c11 .note-form .ensures)) (c24 .args .right .now) (p .1),
+    let room = H.half-room (c24 .args .left .now) v (p .0) in let space = KN.nodes-kept (c24 .args .left .now) (half u) b (c11 .note-form .kept .1 .1 .1 .1 .1 .1 .0) (H.half-nodes (c24 .args .left .now) u (p .2)) in let high = F.front-high _ _ _ _ (half v) _ _ _ _ _ _ _ (c7 .n .given .1) room space _ (c11 .note-form .ensures) more others in (
+      record { known = F.front-known _ _ _ _ (half v) _ _ _ _ _ _ _ (c7 .n .given .1) room space _ (c11 .note-form .ensures) more others; starts = c5 .start-of .ensures },
+      H.room-left v a (c11 .note-form .kept .1 .1 .1 .1 .1 .0) _ (F.as-count _ _ _ _ (half v) _ _ _ _ _ _ _ (c7 .n .given .1) room _ (c11 .note-form .ensures)) (c24 .args .right .now) (p .1),
       c17 .all-words .ensures,
-      F.front-shaped _ _ _ _ (half v) _ _ _ _ _ _ _ (c7 .n .given .1) (p .0) space _ (c11 .note-form .ensures) more others,
-      H.nodes-left u b (c11 .note-form .kept .1 .1 .1 .1 .1 .1 .0) _ (F.as-nodes _ _ _ _ (half v) _ _ _ _ _ _ _ (c7 .n .given .1) (p .0) space _ (c11 .note-form .ensures)) (c24 .args .right .now) (p .3),
+      F.front-shaped _ _ _ _ (half v) _ _ _ _ _ _ _ (c7 .n .given .1) room space _ (c11 .note-form .ensures) more others,
+      H.nodes-left u b (c11 .note-form .kept .1 .1 .1 .1 .1 .1 .0) _ (F.as-nodes _ _ _ _ (half v) _ _ _ _ _ _ _ (c7 .n .given .1) room space _ (c11 .note-form .ensures)) (c24 .args .right .now) (p .3),
       refl,
       high .0,
       high .1,
