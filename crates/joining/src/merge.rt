@@ -209,7 +209,8 @@ fn merge_right(
     }
 }
 
-// The same for any two texts, with room for their variables, of which each has half; the table of words is laid out.
+// The same for any two texts, with room for their variables: half of it is the left text's, and the right text has what that leaves. The
+// table of words is laid out.
 fn merge_left(
     query: bool,
     left: &[u8],

@@ -93,7 +93,7 @@ fn put_pushed(
     )
 }
 
-// A side that was found: it gets its names, as no join list repeats a position, then 6 unless there is room for the tree
+// A side that was found: it gets its names, as there is no join list, then 6 unless there is room for the tree
 // with its constants.
 fn push_found(
     words: &[WordRow; 56],
