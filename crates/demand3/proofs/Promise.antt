@@ -25,7 +25,7 @@ use Rattle.demand3.specs.Names.{mergedNames}
 use Rattle.demand3.specs.Expected.{expectedCount}
 use Rattle.merging.specs.Asked.{Lists}
 use Rattle.demand3.specs.Demand3.{Premises, Counted}
-use Rattle.merging.proofs.Given.{noneTwice}
+use Rattle.merging.specs.bridge.Twice.{noneTwice}
 use Rattle.merging.proofs.Lists.{map-length, joins-few, constants-good}
 use Rattle.merging.proofs.Written.{Known, merged-valid}
 use Rattle.merging.proofs.Names.{Letter}

@@ -15,6 +15,7 @@ use Rattle.merging.specs.Sides.{Pair, Constant, Side, lefts, rights, mer
 use Rattle.merging.specs.Request.{Projection, tree, asProject, made, readJoins, readConstants, Request, request, leftSide, rightSide, allInside}
 use Rattle.merging.specs.Merge.{mergeProjectPatterns, namedSides, mergeSides, lists, mergeTrees}
 use Rattle.merging.specs.Asked.{Lists}
+use Rattle.merging.specs.bridge.Twice.{noneTwice}
 
 pub then-written : {A : Type 0} (o : Reading A) (k : A → Outcome) (b : Bytes) → then o k ≡ written b → (a : A) × (o ≡ reads a) × (k a ≡ written b)
 then-written (reads a) k b e = (a, refl, e)
@@ -54,11 +55,6 @@ project-of (reduced p) x e = nothing (λ x. reduced p ≡ tree x) x e
 project-of (slice s l p) x e = nothing (λ x. slice s l p ≡ tree x) x e
 project-of (group ks p rs) x e = nothing (λ x. group ks p rs ≡ tree x) x e
 project-of (service n s p) x e = nothing (λ x. service n s p ≡ tree x) x e
-
--- no position twice on its side
-unfoldable pub noneTwice : List Pair → Bool
-unfolding differentPositions
-noneTwice js = differentPositions (lefts js) && differentPositions (rights js)
 
 -- so the naming steps of both sides are one test
 pub sides-named : (m : Request) (k : Side → Side → Outcome) → namedSides m k ≡ refusedUnless 10 (noneTwice (m .joins)) (k (leftSide m) (rightSide m))

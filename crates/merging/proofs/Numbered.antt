@@ -12,7 +12,8 @@ use Rattle.answers.proofs.Numbered.{Numbered, written-numbered, then-numbered, 
 use Rattle.merging.specs.Sides.{Pair, Constant}
 use Rattle.merging.specs.Request.{asProject, readJoins, readConstants, Request, request, allInside}
 use Rattle.merging.specs.Merge.{mergeProjectPatterns, lists, mergeTrees, mergePatternsOutcome, mergeable, over, mergeQueriesOutcome}
-use Rattle.merging.proofs.Given.{noneTwice, sides-merged}
+use Rattle.merging.specs.bridge.Twice.{noneTwice}
+use Rattle.merging.proofs.Given.{sides-merged}
 
 lists-numbered : (pairs leftConstants rightConstants : Bytes) (k : List Pair → List Constant → List Constant → Outcome)
     → ((js : List Pair) (ks ls : List Constant) → Numbered (k js ks ls))

@@ -6,7 +6,7 @@ use mathlib.Core.Bool.{true, false}
 use mathlib.Core.List.{List, [], _∷_, map}
 use mathlib.Core.Option.{none, some}
 use Rattle.text.specs.Word.{bytes}
-use Rattle.algebra.specs.Tree.{Pattern, bgp, project}
+use Rattle.algebra.specs.Tree.{Pattern, bgp, project, distinct}
 use Rattle.answers.specs.Outcome.{Outcome, refused, written}
 use Rattle.scoping.specs.Sets.{any, all}
 use Rattle.scoping.specs.Premises.{inside, differentPositions}
@@ -45,13 +45,14 @@ pair i j = record { left = i; right = j }
 abbrev merging : Pattern → Pattern → List Pair → List Constant → List Constant → Outcome
 merging p q js ks ls = mergeTrees p q js ks ls λ t. written []
 
--- on the left, on the right; 3 comes first, of either side and of the constants too; one name at two positions is none
+-- on the left, on the right; 3 comes first, of either side and of the constants too; one name at two positions is none; 4 comes before all
 numbers : merging (only "?a") (both "?b" "?c") (pair 0 0 ∷ pair 0 1 ∷ []) [] []
     ∷ merging (both "?a" "?b") (only "?c") (pair 0 0 ∷ pair 1 0 ∷ []) [] []
     ∷ merging (only "?a") (both "?b" "?c") (pair 0 0 ∷ pair 0 2 ∷ []) [] []
     ∷ merging (both "?a" "?b") (only "?c") (pair 2 0 ∷ pair 1 0 ∷ []) [] []
     ∷ merging (only "?a") (both "?b" "?c") (pair 0 0 ∷ pair 0 1 ∷ []) [] (at 2 "<k>" ∷ [])
     ∷ merging (both "?a" "?a") (both "?b" "?c") (pair 0 0 ∷ pair 1 1 ∷ []) [] []
-    ∷ [] ≡ refused 10 ∷ refused 10 ∷ refused 3 ∷ refused 3 ∷ refused 3 ∷ written [] ∷ []
+    ∷ merging (only "?a") (distinct (both "?b" "?c")) (pair 0 0 ∷ pair 0 1 ∷ []) [] []
+    ∷ [] ≡ refused 10 ∷ refused 10 ∷ refused 3 ∷ refused 3 ∷ refused 3 ∷ written [] ∷ refused 4 ∷ []
 unfolding mergeTrees allInside inside differentPositions any all
 numbers = refl

@@ -8,3 +8,4 @@ pub mod Asked
 pub mod Order
 pub mod Cases
 pub mod Examples
+pub mod bridge

@@ -15,7 +15,7 @@ use Rattle.text.proofs.Texts.{AllClean, fits-clean, all-clean}
 use Rattle.algebra.specs.Tree.{Triple, Pattern, bgp, path, join, union, minus, leftjoin, filter, graph, extend, values, orderby, project, distinct, reduced, slice, group, service, Expression, term, bound, exists, apply, call, Condition, always, provided, Expressions, eend, econs, Orders, oend, ocons, Aggregates, aend, agg, aggall}
 use Rattle.algebra.specs.Valid.{mem, Triples, Valid, ValidE, ValidC, ValidEs, ValidOs, ValidAs}
 use Rattle.algebra.specs.Tally.{Tally, notes, noted, headed, tallyTriples, tallyRows, tally, tallyE, tallyC, tallyEs, tallyOs, tallyAs}
-use Rattle.names.specs.bridge.Narrow.{StandsAt}
+use Rattle.names.specs.Narrow.{StandsAt}
 
 -- ---- the names that are counted are clean variables
 

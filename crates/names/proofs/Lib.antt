@@ -3,4 +3,5 @@ pub mod Laws
 pub mod Columns
 pub mod Clean
 pub mod Narrow
+pub mod Kept
 pub mod Cleared

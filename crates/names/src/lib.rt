@@ -11,7 +11,7 @@ ghost use lib.ListN.{length, set, replicate, drop};
 ghost use Rattle.text.specs.Text.{same, piece as pieceOf};
 ghost use Rattle.algebra.specs.Valid.{mem};
 ghost use Rattle.names.specs.bridge.Names.{hashOf, placeOf, startsOf, sizesOf, after as afterOf, Leads, Hinted, Free, Grows, Lists, kept, namesIn, HoldsIn, nameIn};
-ghost use Rattle.names.specs.bridge.Narrow.{narrowEntry};
+ghost use Rattle.names.specs.Narrow.{narrowEntry};
 
 // An entry of the table: a name's start and size.
 pub type Entry = [u16; 2];

@@ -28,7 +28,8 @@ use Rattle.merging.specs.Sides.{Constant}
 use Rattle.merging.specs.Request.{Projection, tree, asProject, made, readJoins, readConstants, joinPositions, byPosition, constantsIn, positions, request, allInside}
 use Rattle.merging.specs.Merge.{lists, mergeProjectPatterns, mergeTrees}
 use Rattle.merging.specs.Push.{pushConstantsInProjectPattern}
-use Rattle.merging.proofs.Given.{project-of, noneTwice, sides-merged}
+use Rattle.merging.specs.bridge.Twice.{noneTwice}
+use Rattle.merging.proofs.Given.{project-of, sides-merged}
 use Rattle.merging.proofs.Lines.{root-word}
 use Rattle.merging.proofs.Lists.{sorted-test}
 use Rattle.columns.specs.bridge.Listed.{positionsIn}

@@ -25,7 +25,8 @@ use Rattle.merging.specs.Sides.{Pair, Constant, lefts, rights, renamedPattern, 
 use Rattle.merging.specs.Request.{Projection, tree, asProject, readJoins, readConstants, Request, request, leftSide, rightSide, positions, allInside}
 use Rattle.merging.specs.Merge.{mergeProjectPatterns, lists, mergeTrees, mergePatternsOutcome, mergeable, over, mergeQueriesOutcome}
 use Rattle.merging.specs.Asked.{Lists}
-use Rattle.merging.proofs.Given.{project-of, noneTwice, sides-merged}
+use Rattle.merging.specs.bridge.Twice.{noneTwice}
+use Rattle.merging.proofs.Given.{project-of, sides-merged}
 use Rattle.merging.proofs.Lists.{map-length, joins-few}
 use Rattle.merging.proofs.Others.{tree-valid, tree-names}
 use Rattle.merging.proofs.TreeRead.{TreeRead, tree-read}

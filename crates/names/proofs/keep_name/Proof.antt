@@ -3,7 +3,7 @@ use borrow.Author.Needs.{needs}
 use Prim.Native.Nat.{_-_}
 use native.Mathlib.Omega.{arith}
 use Rattle.names.proofs.Laws as L
-use Rattle.names.proofs.Narrow.{entry-set}
+use Rattle.names.proofs.Kept.{entry-set}
 use Rattle.names.proofs.keep_name.Statement.{statement}
 use Rattle.names.proofs.keep_name.Tie as tie
 

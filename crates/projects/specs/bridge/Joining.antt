@@ -23,7 +23,7 @@ use Rattle.merging.specs.Sides.{Constant, Pair as Joined}
 use Rattle.merging.specs.Request.{Projection, tree, readJoins, readConstants, joinPositions, byPosition, constantsIn, positions, request, allInside}
 use Rattle.merging.specs.Merge.{lists, mergeProjectPatterns, mergeTrees}
 use Rattle.merging.specs.Push.{pushConstantsInProjectPattern}
-use Rattle.merging.proofs.Given.{noneTwice}
+use Rattle.merging.specs.bridge.Twice.{noneTwice}
 use Rattle.sides.specs.declared.side.Standing.{Standing}
 use Rattle.sides.specs.declared.side.Side.{Side}
 use Rattle.columns.specs.bridge.Columns.{columnsIn, maskOf, picked, goneBits}
