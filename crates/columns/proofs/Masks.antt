@@ -1,16 +1,15 @@
 -- Masks: built from the lowest bit on, and how many ones they have. Assumes nothing.
-use Prim.Native.Nat.{ℕ, zero, suc, _+_, _*_, _-_, _/_, _%_, _^_, _≤_, _<_}
+use Prim.Native.Nat.{ℕ, suc, _+_, _*_, _/_, _%_, _^_, _≤_, _<_}
 use mathlib.Core.Path.{_≡_, refl, sym, ap, ap₂, _∙_}
-use mathlib.Core.List.{List, [], _∷_, map}
-use mathlib.Core.Bool.{Bool, true, false, cond, _||_}
-use native.Mathlib.Nat.{pow-suc, mul-assoc, mul-comm, add-assoc, add-mul, add-zero, zero-mul}
+use mathlib.Core.List.{List, [], _∷_}
+use mathlib.Core.Bool.{Bool, true, false}
+use native.Mathlib.Nat.{pow-suc, mul-assoc, mul-comm, add-mul, max-zero, max-eq-right}
 use native.Mathlib.Numerals.{add-one}
 use native.Mathlib.Omega.{arith}
 use lib.ListN.{length}
-use lib.Pow.{pow-mono, pow-pos, shl-exact}
+use lib.Pow.{pow-mono, shl-exact}
 use lib.Count.{ones, ones-step}
-use lib.Dec.{eqb}
-use Rattle.text.specs.Text.{Bytes}
+use lib.Bits.{bitOr, or-step, or-zero-r}
 use Rattle.columns.specs.bridge.Columns.{bitOf, maskOf}
 
 -- ---- one bit more
@@ -82,3 +81,17 @@ mask-ones (b ∷ bs) = ones-step (maskOf (b ∷ bs)) ∙ ap₂ (λ (x y : ℕ). 
 pub count-few : (bs : List Bool) → countOf bs ≤ length bs
 count-few [] = omega arith
 count-few (b ∷ bs) = let a = count-few bs in let d = bit-small b in omega arith
+
+-- ---- a bit set by `or`
+
+pub or-first : (b : Bool) (bs : List Bool) → bitOr (maskOf (b ∷ bs)) 1 ≡ maskOf (true ∷ bs)
+unfolding maskOf
+or-first b bs = or-step (maskOf (b ∷ bs)) 1 ∙ rw (mask-high b bs, mask-low b bs, or-zero-r (maskOf bs), max-eq-right (bit-small b)) (omega arith)
+
+pub or-later : (b : Bool) (bs cs : List Bool) (k : ℕ) → bitOr (maskOf bs) (2 ^ k) ≡ maskOf cs → bitOr (maskOf (b ∷ bs)) (2 ^ suc k) ≡ maskOf (b ∷ cs)
+unfolding maskOf
+or-later b bs cs k h =
+    let p : 2 ^ suc k ≡ 2 ^ k * 2 = pow-suc 2 k in
+    let x : 2 ^ suc k / 2 ≡ 2 ^ k = omega arith in
+    let y : 2 ^ suc k % 2 ≡ 0 = omega arith in
+    or-step (maskOf (b ∷ bs)) (2 ^ suc k) ∙ rw (mask-high b bs, mask-low b bs, x, y, h, max-zero (bitOf b)) (omega arith)

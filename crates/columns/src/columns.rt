@@ -10,11 +10,12 @@ ghost use Prim.Native.Nat.{_+_, _*_, _-_, _%_, _^_, _≤_, _<_};
 ghost use mathlib.Core.List.{[], _∷_, map};
 ghost use mathlib.Core.Bool.{true, false, cond, _||_};
 ghost use lib.ListN.{length, take};
-ghost use lib.Dec.{eqb};
+ghost use lib.Dec.{eqb, ltb};
 ghost use lib.Count.{ones};
 ghost use Rattle.text.specs.Text.{same, part};
 ghost use Rattle.emit.specs.bridge.Emit.{em, puts};
 ghost use Rattle.walking.specs.bridge.Walk.{tabbed};
+ghost use Rattle.scoping.specs.Sets.{all};
 ghost use Rattle.algebra.specs.Valid.{mem};
 ghost use Rattle.algebra.specs.Tally.{bounds};
 ghost use Rattle.merging.specs.Names.{from as countFrom, isAt, placeIn};
@@ -108,16 +109,16 @@ pub fn place_of(at: &PerEntry, m: usize, p: usize) -> usize
     m
 }
 
-// The mask of the positions, of c columns.
+// The mask of the positions, all below c: each sets its bit.
 pub fn position_mask(at: &PerEntry, m: usize, c: usize) -> u64
-    requires { ⌜ (m ≤ bounds .entries) × (length (now at) ≡ bounds .entries) × (c ≤ bounds .columns) ⌝ }
+    requires { ⌜ (m ≤ bounds .entries) × (length (now at) ≡ bounds .entries) × (c ≤ bounds .columns) × (all (λ i. ltb i c) (take m (now at)) ≡ true) ⌝ }
     ensures { λ r. ⌜ r ≡ maskOf (map (λ i. isAt i (take m (now (at .entry)))) (countFrom 0 c)) ⌝ }
 {
     let mut mask = 0;
-    let mut i = 0;
-    while i < c {
-        mask = with_bit(mask, i, place_of(at, m, i) < m);
-        i += 1;
+    let mut k = m;
+    while 0 < k {
+        k -= 1;
+        mask |= 1 << wide(at[k]);
     }
     mask
 }

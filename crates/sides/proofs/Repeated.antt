@@ -1,13 +1,13 @@
 -- The mask of a list of positions has as many ones as the list has entries exactly if no position stands twice. Assumes nothing.
 use Prim.Native.Nat.{ℕ, zero, suc, _+_, _≤_, _<_}
-use mathlib.Core.Path.{_≡_, refl, ap, ap₂, _∙_}
+use mathlib.Core.Path.{_≡_, refl, sym, ap, _∙_}
 use mathlib.Core.List.{List, [], _∷_}
 use mathlib.Core.Bool.{Bool, true, false, not, _&&_, _||_, true≢false, false≢true}
 use native.Mathlib.Omega.{arith}
 use lib.ListN.{length}
-use lib.Dec.{eqb, ltb}
+use lib.Dec.{eqb}
 use lib.Count.{ones}
-use borrow.Author.Tests.{eqb-true, eqb-false, ne-eqb}
+use borrow.Author.Tests.{eqb-true, eqb-false}
 use Rattle.text.specs.Text.{Bytes}
 use Rattle.scoping.specs.Sets.{any}
 use Rattle.scoping.specs.Premises.{inside, differentPositions}
@@ -15,20 +15,14 @@ use Rattle.scoping.proofs.Positions.{inside-first, inside-rest}
 use Rattle.merging.specs.Names.{from, isAt}
 use Rattle.columns.specs.bridge.Columns.{bitOf}
 use Rattle.columns.proofs.Masks.{countOf, mask-ones}
-use Rattle.columns.proofs.Places.{bitsFrom}
+use Rattle.columns.proofs.Places.{bitsFrom, bits-behind, none-set}
 use Rattle.sides.specs.bridge.Side.{maskAt}
 
 -- how many of n places from i on are among the positions
 abbrev many : List ℕ → ℕ → ℕ → ℕ
 many ps i n = countOf (bitsFrom ps i n)
 
--- one position more counts nowhere behind its place
-none-behind : (p : ℕ) (ps : List ℕ) (i n : ℕ) → p < i → many (p ∷ ps) i n ≡ many ps i n
-unfolding from isAt any
-none-behind p ps i zero h = refl
-none-behind p ps i (suc n) h = ap₂ (λ (t : Bool) (m : ℕ). bitOf (t || isAt i ps) + m) (ne-eqb i p (λ e. omega arith)) (none-behind p ps (suc i) n (omega arith))
-
--- and counts at it unless it is there
+-- one position more counts at its place unless it is there
 one-more : (p : ℕ) (ps : List ℕ) (i n : ℕ) → i ≤ p → p < i + n → many (p ∷ ps) i n ≡ bitOf (not (isAt p ps)) + many ps i n
 unfolding from isAt any
 one-more p ps i zero h k = absurd (omega arith)
@@ -42,15 +36,14 @@ one-more p ps i (suc n) h k = go (eqb i p) refl (λ (l : suc i ≤ p). one-more 
         → bitOf (t || isAt i ps) + many (p ∷ ps) (suc i) n ≡ bitOf (not (isAt p ps)) + (bitOf (isAt i ps) + many ps (suc i) n)
     go true e f =
         let q : i ≡ p = eqb-true i p e in
-        set (isAt p ps) (many (p ∷ ps) (suc i) n) (many ps (suc i) n) (none-behind p ps (suc i) n (omega arith))
+        set (isAt p ps) (many (p ∷ ps) (suc i) n) (many ps (suc i) n) (ap countOf (bits-behind p ps (suc i) n (omega arith)))
         ∙ ap (λ (j : ℕ). bitOf (not (isAt p ps)) + (bitOf (isAt j ps) + many ps (suc i) n)) (let z : p ≡ i = omega arith in z)
     go false e f = let q = eqb-false i p e in let w = f (omega arith) in omega arith
 
 -- no position, no one
-none-at : (n i : ℕ) → many [] i n ≡ 0
-unfolding from isAt any
-none-at zero i = refl
-none-at (suc n) i = let z = none-at n (suc i) in omega arith
+none-at : (n : ℕ) → many [] 0 n ≡ 0
+unfolding ones
+none-at n = sym (mask-ones (bitsFrom [] 0 n)) ∙ ap ones (none-set n 0)
 
 -- never more ones than positions, and fewer exactly if one stands twice
 pub record Ones (m l : ℕ) (different : Bool) : Type 0 where
@@ -60,7 +53,7 @@ pub record Ones (m l : ℕ) (different : Bool) : Type 0 where
 
 counted : (cs : List Bytes) (ps : List ℕ) → inside cs ps ≡ true → Ones (many ps 0 (length cs)) (length ps) (differentPositions ps)
 unfolding differentPositions isAt
-counted cs [] h = record { few = let z = none-at (length cs) 0 in omega arith; all = λ e. none-at (length cs) 0; less = λ e. absurd (true≢false e) }
+counted cs [] h = record { few = let z = none-at (length cs) in omega arith; all = λ e. none-at (length cs); less = λ e. absurd (true≢false e) }
 counted cs (p ∷ ps) h = let f = inside-first cs p ps h in
     rw (one-more p ps 0 (length cs) (omega arith) (omega arith)) (step (isAt p ps) (counted cs ps (inside-rest cs p ps h)))
   where

@@ -1,5 +1,5 @@
 -- A side from its project's line on: its columns, their entries, and the names that standardize_variables gives them. Assumes nothing.
-use Prim.Native.Nat.{ℕ, zero, suc, _+_, _-_, _≤_, _<_}
+use Prim.Native.Nat.{ℕ, suc, _+_, _-_, _≤_, _<_}
 use mathlib.Core.Path.{_≡_, refl, sym, ap, ap₂, subst, _∙_}
 use mathlib.Core.List.{List, [], _∷_, map}
 use mathlib.Core.Bool.{Bool, true, false, _&&_, true≢false}
@@ -10,7 +10,6 @@ use lib.ListN.{length, getD, take, length-take}
 use lib.Seq.{getD-take}
 use lib.Dec.{ltb}
 use lib.Count.{ones}
-use borrow.Author.Tests.{ltb-true}
 use Rattle.text.specs.Text.{Bytes, Line, textOf, part, linesFrom, First}
 use Rattle.text.specs.Word.{bytes}
 use Rattle.text.specs.Field.{variable, fits, allFit}
@@ -51,6 +50,7 @@ use Rattle.sides.specs.bridge.Side.{TreeIn, Placed, Renames, maskAt, Out
 use Rattle.sides.proofs.Trees.{tree-inside, columns-few, line-written}
 use Rattle.sides.proofs.Entries.{entryAt, names-at}
 use Rattle.columns.proofs.Line.{line-columns, line-positive}
+use Rattle.columns.proofs.Places.{place-below}
 use Rattle.sides.proofs.Repeated.{Ones, mask-counts}
 
 -- ---- the project's line
@@ -90,13 +90,8 @@ module _ (s : Bytes) (at : ℕ) (a l : List ℕ) (n : ℕ) (v : List (List ℕ))
   taken = simp length-take (omega arith)
 
   position-low : (i : ℕ) → i < m → getD ps i 0 < length (x .columns)
-  unfolding inside all
-  position-low i j = subst (λ (k : ℕ). k < length (x .columns)) (getD-take m ps i 0 j) (go (take m ps) i (let e = taken in omega arith) in-columns)
-    where
-      go : (qs : List ℕ) (k : ℕ) → k < length qs → all (λ q. ltb q (length (x .columns))) qs ≡ true → getD qs k 0 < length (x .columns)
-      go [] k z c = absurd (omega arith)
-      go (q ∷ qs) zero z c = ltb-true q (length (x .columns)) (and-left (ltb q (length (x .columns))) (all (λ q. ltb q (length (x .columns))) qs) c)
-      go (q ∷ qs) (suc k) z c = go qs k (omega arith) (and-right (ltb q (length (x .columns))) (all (λ q. ltb q (length (x .columns))) qs) c)
+  unfolding inside
+  position-low i j = place-below ps m (length (x .columns)) i (omega arith) j in-columns (getD ps i 0) refl
 
   pub spot-low : (i : ℕ) → i < m → getD ps i 0 < length v
   spot-low i j = let b = position-low i j in let d = columns-few s at a l n v inner columns x t in let w = t .width in omega arith
@@ -177,11 +172,9 @@ pub found-all : (s : Bytes) (xs : List Pair) (second : Bool) (c : ℕ) (at lines
 unfolding Found
 found-all s xs second c at lines r m f q = subst (Found s xs second c at lines) q f
 
-pub kept-inside : (s : Bytes) (xs : List Pair) (second : Bool) (c : ℕ) (at lines : List ℕ) (m : ℕ) (cs : List Bytes) → (all (λ i. ltb i c) (positionsIn second xs) ≡ true) × Kept s xs second at lines m → c ≡ length cs → (inside cs (take m at) ≡ true) × (inside cs (positionsIn second xs) ≡ true)
+pub kept-inside : (is : List ℕ) (c : ℕ) (cs : List Bytes) → all (λ i. ltb i c) is ≡ true → c ≡ length cs → inside cs is ≡ true
 unfolding inside
-kept-inside s xs second c at lines m cs f e =
-    let i : all (λ i. ltb i (length cs)) (positionsIn second xs) ≡ true = ap (λ (m : ℕ). all (λ i. ltb i m) (positionsIn second xs)) (sym e) ∙ f .0 in
-    (ap (all (λ i. ltb i (length cs))) (f .1 .positions) ∙ i, i)
+kept-inside is c cs f e = ap (λ (m : ℕ). all (λ i. ltb i m) is) (sym e) ∙ f
 
 pub neither : (a b : Bool) → b ≡ false → (a && b) ≡ false
 neither true b h = h
@@ -191,8 +184,8 @@ pub first-false : (a b : Bool) → a ≡ false → (a && b) ≡ false
 first-false true b h = absurd (true≢false h)
 first-false false b h = refl
 
-pub kept-few : (s : Bytes) (xs : List Pair) (second : Bool) (at lines : List ℕ) (m : ℕ) (r : Bytes) → Kept s xs second at lines m → Listed r xs → m ≤ bounds .entries
-kept-few s xs second at lines m r k l = let e = k .many in let f = l .few in omega arith
+pub kept-asked : (s : Bytes) (xs : List Pair) (second : Bool) (c : ℕ) (at lines : List ℕ) (m : ℕ) (r : Bytes) → (all (λ i. ltb i c) (positionsIn second xs) ≡ true) × Kept s xs second at lines m → Listed r xs → (m ≤ bounds .entries) × (all (λ i. ltb i c) (take m at) ≡ true)
+kept-asked s xs second c at lines m r k l = (let e = k .1 .many in let f = l .few in omega arith, ap (all (λ i. ltb i c)) (k .1 .positions) ∙ k .0)
 
 -- all that find_side promises of positions that are inside
 module _ (text : Bytes) (second : Bool) (pairs constants : Bytes) (c inner : ℕ) (x : Projection) (js ks : List Pair)
@@ -202,15 +195,15 @@ module _ (text : Bytes) (second : Bool) (pairs constants : Bytes) (c inner : ℕ
       → (inside (x .columns) (positionsIn second js) ≡ true) × (inside (x .columns) (positionsIn false ks) ≡ true)
       × OutlineIs text second constants x js ks joins at lines (record { inner = inner; columns = c; joined = joined; joins = k; constant = constant; constants = m })
   all-found constant joined pc pj = (
-    kept-inside pairs js second c joins join-lines k (x .columns) kj (found .0) .1,
-    kept-inside constants ks false c at lines m (x .columns) kk (found .0) .1,
+    kept-inside (positionsIn second js) c (x .columns) (kj .0) (found .0),
+    kept-inside (positionsIn false ks) c (x .columns) (kk .0) (found .0),
     record {
       width = found .0;
       constant = pc ∙ ap₂ maskAt (kk .1 .positions) (found .0);
       joined = pj ∙ ap₂ maskAt (kj .1 .positions) (found .0);
       high = high;
       inner = found .1;
-      few = kept-few pairs js second joins join-lines k pairs (kj .1) listed;
+      few = kept-asked pairs js second c joins join-lines k pairs kj listed .0;
       positions = kj .1 .positions;
       kept = kk .1;
     },

@@ -1,23 +1,19 @@
 -- `columns::columns/position_mask` meets its contract. Assumes nothing.
 use borrow.Author.Needs.{needs}
-use Prim.Native.Nat.{ℕ, _+_, _-_, _*_, _^_, _≤_, _<_}
-use mathlib.Core.Path.{_≡_, refl, sym, ap, _∙_}
+use Prim.Native.Nat.{ℕ, _-_, _≤_, _<_}
+use mathlib.Core.Path.{_≡_, ap, _∙_}
 use native.Mathlib.Omega.{arith}
-use lib.ListN.{length, getD, take, drop, length-set}
-use lib.Dec.{ltb}
+use lib.ListN.{take, drop}
 use Rattle.columns.specs.bridge.Columns.{maskOf}
-use Rattle.columns.proofs.Masks as M
 use Rattle.columns.proofs.Places as P
 use Rattle.columns.proofs.columns.position_mask.Statement.{statement}
 use Rattle.columns.proofs.columns.position_mask.Tie as tie
 
 abbrev Inv-loop : tie.InvT-loop
-Inv-loop at m c mask₀ i₀ mask i =
-    (i ≤ c) × (mask < 2 ^ i) × (mask + maskOf (P.bitsFrom (take m at) i (c - i)) * 2 ^ i ≡ maskOf (P.bitsFrom (take m at) 0 c))
+Inv-loop at m c mask₀ k₀ mask k = (k ≤ m) × (mask ≡ maskOf (P.bitsFrom (drop k (take m at)) 0 c))
 
 abbrev μ-loop : tie.MeasureT-loop
-μ-loop at m c mask₀ i₀ mask i =
-    c - i
+μ-loop at m c mask₀ k₀ mask k = k
 
 pub position-mask-spec : {M : Type 1} → statement M
 position-mask-spec =
@@ -25,10 +21,12 @@ position-mask-spec =
     (tie.spec
     Inv-loop
     μ-loop
-    (λ c. (omega arith, omega arith, P.bits-start _ _))
+    (λ c. (omega arith, P.bits-start (c .args .at .now) (c .args .m) _ (omega arith)))
+    (λ c. search needs)
+    (λ c. search needs)
+    (λ c. search needs)
     (λ c κs. search needs)
-    (λ c κs. (let p = c .before .before .before .pre .2 in let t = c .before .loop-test .taken in omega arith, c .before .before .loop .inv .1))
+    (λ c. let d = c .before .before .before .before in let b : c .wide .result < d .args .c = P.place-below (d .args .at .now) (d .args .m) _ (c .before .before .before .loop .k - 1) (omega arith) (omega arith) (d .pre .3) _ (c .wide .ensures) in omega arith)
     (λ c. search needs)
-    (λ c. search needs)
-    (λ c. (omega arith, rw (c .with-bit .ensures) (M.bit-below (ltb (c .before .place-of .result) (c .before .before .before .before .args .m)) _ _ (c .before .before .before .loop .inv .1)), P.bits-next _ _ _ _ _ _ _ _ _ (omega arith) (c .before .before .loop-test .taken) (c .before .place-of .ensures) refl (c .with-bit .ensures) (c .before .before .before .loop .inv .2)))
-    (λ c. M.mask-done _ _ _ _ (P.bits-end _ _ _ (c .loop-test .left)) (c .before .loop .inv .2)))
+    (λ c. let d = c .before .before .before .before in (omega arith, P.bits-next (d .args .at .now) (d .args .m) _ _ (omega arith) (omega arith) (d .pre .3) (omega arith) (c .before .before .before .loop .k) _ _ (omega arith) (c .wide .ensures) (c .before .before .before .loop .inv .1)))
+    (λ c. let z : c .before .loop .k ≡ 0 = omega arith in c .before .loop .inv .1 ∙ ap (λ (n : ℕ). maskOf (P.bitsFrom (drop n (take (c .before .before .args .m) (c .before .before .args .at .now))) 0 (c .before .before .args .c))) z))

@@ -23,8 +23,8 @@ find-side-spec =
     (λ c. search needs)
     (λ c. search needs)
     (λ c. (c .before .before .before .before .before .before .before .before .read-positions .ensures .0, c .before .before .read-positions2 .ensures .0, λ x js ks t lj lk. S.neither (inside (x .columns) (positionsIn (c .before .before .before .before .before .before .before .before .before .before .before .before .before .before .before .args .second) js)) _ (S.found-outside _ _ _ _ _ _ _ (x .columns) (c .before .before .read-positions2 .ensures .2 ks lk) (c .enum-told2 .given .1) (c .before .before .before .before .before .before .before .before .before .before .before .find-columns .ensures .1 x t .0))))
-    (λ c κs. let c8 = c .before .before .before .before .before .before .before .before in let c10 = c8 .before .before in let c13 = c10 .before .before .before in let c17 = c13 .before .before .before .before in (S.kept-few _ _ _ _ _ _ _ ((S.found-all _ _ _ _ _ _ _ _ (c10 .read-positions .ensures .2 (c17 .pre .0 .joins) (c17 .pre .0 .joins-listed)) (c8 .k .given .1)) .1) (c17 .pre .0 .joins-listed), c10 .read-positions .ensures .0, let w = c13 .find-columns .ensures .1 _ (c17 .pre .0 .lines) .0 in let n = c17 .pre .0 .narrow in omega arith))
-    (λ c κs. let c4 = c .before .before .before .before in let c6 = c4 .before .before in let c15 = c6 .before .before .before .before .before .before .before .before .before in let c19 = c15 .before .before .before .before in (S.kept-few _ _ _ _ _ _ _ ((S.found-all _ _ _ _ _ _ _ _ (c6 .read-positions2 .ensures .2 (c19 .pre .0 .terms) (c19 .pre .0 .terms-listed)) (c4 .m .given .1)) .1) (c19 .pre .0 .terms-listed), c6 .read-positions2 .ensures .0, let w = c15 .find-columns .ensures .1 _ (c19 .pre .0 .lines) .0 in let n = c19 .pre .0 .narrow in omega arith))
+    (λ c κs. let c8 = c .before .before .before .before .before .before .before .before in let c10 = c8 .before .before in let c13 = c10 .before .before .before in let c17 = c13 .before .before .before .before in let k = S.kept-asked _ _ _ _ _ _ _ _ (S.found-all _ _ _ _ _ _ _ _ (c10 .read-positions .ensures .2 (c17 .pre .0 .joins) (c17 .pre .0 .joins-listed)) (c8 .k .given .1)) (c17 .pre .0 .joins-listed) in (k .0, c10 .read-positions .ensures .0, let w = c13 .find-columns .ensures .1 _ (c17 .pre .0 .lines) .0 in let n = c17 .pre .0 .narrow in omega arith, k .1))
+    (λ c κs. let c4 = c .before .before .before .before in let c6 = c4 .before .before in let c15 = c6 .before .before .before .before .before .before .before .before .before in let c19 = c15 .before .before .before .before in let k = S.kept-asked _ _ _ _ _ _ _ _ (S.found-all _ _ _ _ _ _ _ _ (c6 .read-positions2 .ensures .2 (c19 .pre .0 .terms) (c19 .pre .0 .terms-listed)) (c4 .m .given .1)) (c19 .pre .0 .terms-listed) in (k .0, c6 .read-positions2 .ensures .0, let w = c15 .find-columns .ensures .1 _ (c19 .pre .0 .lines) .0 in let n = c19 .pre .0 .narrow in omega arith, k .1))
     (λ c. (
       c .before .before .before .before .before .before .before .before .before .before .before .before .before .read-positions .ensures .0,
       c .before .before .before .before .before .before .before .read-positions2 .ensures .0,
