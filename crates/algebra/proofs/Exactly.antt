@@ -24,12 +24,12 @@ pub record Matches {A : Type 0} (β : Limits) (r : Reader A) (lines : A → List
   pub back : (a : A) → Ok a → deep a ≤ β .depth → many a ≤ β .entries → In β (T a start) → r (lines a) start ≡ got a [] (T a start)
   pub neat : (a : A) → Ok a → Neat (lines a)
 
-all-read : {A : Type 0} (g : Got A) (a : A) → outcome g ≡ reads a → (m : Tally) × (g ≡ got a [] m)
+pub all-read : {A : Type 0} (g : Got A) (a : A) → outcome g ≡ reads a → (m : Tally) × (g ≡ got a [] m)
 all-read (got b [] m) a e = let i : b ≡ a = cc in (m, ap (λ x. got x [] m) i)
 all-read (got b (l ∷ ls) m) a e = let z : _≡_ {A = ℕ} 0 1 = cc in absurd (omega arith)
 all-read (refused n) a e = let z : _≡_ {A = ℕ} 0 1 = cc in absurd (omega arith)
 
-short : {A : Type 0} (b : Bool) (x : Outcome A) (a : A) → cond b (refuses overBound) x ≡ reads a → (b ≡ false) × (x ≡ reads a)
+pub short : {A : Type 0} (b : Bool) (x : Outcome A) (a : A) → cond b (refuses overBound) x ≡ reads a → (b ≡ false) × (x ≡ reads a)
 short true x a e = let z : _≡_ {A = ℕ} 0 1 = cc in absurd (omega arith)
 short false x a e = (refl, e)
 

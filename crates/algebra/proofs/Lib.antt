@@ -16,3 +16,4 @@ pub mod AgreeLists
 pub mod CheckReads
 pub mod Lines
 pub mod Roomy
+pub mod Given

@@ -9,6 +9,7 @@ pub mod Reader
 pub mod Reading
 pub mod ListReading
 pub mod Texts
+pub mod Given
 pub mod Bounded
 pub mod Examples
 pub mod bridge

@@ -9,6 +9,9 @@ pub const COLUMNS: usize = 64;
 
 pub const ENTRIES: usize = 64;
 
+// The two lines that an empty file is read as: `project` and `bgp 0`.
+pub const EMPTY_TREE: [u8; 14] = *b"project\nbgp\t0\n";
+
 // A number for each entry of a list.
 pub type PerEntry = [u16; ENTRIES];
 

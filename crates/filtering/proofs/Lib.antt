@@ -11,3 +11,4 @@ pub mod PlacedLines
 pub mod Refused
 pub mod Copying
 pub mod Read
+pub mod Given

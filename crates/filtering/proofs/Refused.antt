@@ -9,7 +9,8 @@ use Rattle.text.specs.Text.{Bytes}
 use Rattle.algebra.specs.Tree.{Pattern}
 use Rattle.algebra.specs.Query.{BindingSet, Filter}
 use Rattle.algebra.specs.Reader.{Outcome as Reading, malformed, overBound, reads, refuses}
-use Rattle.algebra.specs.Texts.{readTree, readSets, readFilters}
+use Rattle.algebra.specs.Given.{readGivenTree}
+use Rattle.algebra.specs.Texts.{readSets, readFilters}
 use Rattle.answers.specs.Outcome.{Outcome, refused, written, then, refusedUnless}
 use Rattle.scoping.specs.Sets.{all}
 use Rattle.merging.specs.Request.{Projection}
@@ -52,7 +53,7 @@ pub record Outside (tree sets : Bytes) : Type 0 where
   pub pattern : Pattern
   pub list : List BindingSet
   pub projection : Projection
-  pub tree-read : readTree tree ≡ reads pattern
+  pub tree-read : readGivenTree tree ≡ reads pattern
   pub sets-read : readSets sets ≡ reads list
   pub found : outermostProjection pattern ≡ some projection
   pub set-given : list ≡ [] → ⊥
@@ -66,7 +67,7 @@ set-inside cs (x ∷ xs) h e = let z : _≡_ {A = ℕ} 0 1 = cc in absurd (omega
 pub bindings-three : (tree sets : Bytes) → bindingsOutcome tree sets ≡ refused 3 → Outside tree sets
 unfolding bindingsOutcome
 bindings-three tree sets e =
-    let x = then-refused (readTree tree) _ 3 (omega arith) e in
+    let x = then-refused (readGivenTree tree) _ 3 (omega arith) e in
     let y = then-refused (readSets sets) _ 3 (omega arith) (x .2) in
     let t = first-fails 3 7 (ifFound (outermostProjection (x .0)) (λ cs. positionsInside cs (y .0))) (ifFound (outermostProjection (x .0)) (λ cs. valuesUsable (y .0))) _ (omega arith) (y .2) in
     let f = found-fails (outermostProjection (x .0)) (λ cs. positionsInside cs (y .0)) t in
@@ -77,7 +78,7 @@ pub record Unusable (tree sets : Bytes) : Type 0 where
   pub pattern : Pattern
   pub list : List BindingSet
   pub projection : Projection
-  pub tree-read : readTree tree ≡ reads pattern
+  pub tree-read : readGivenTree tree ≡ reads pattern
   pub sets-read : readSets sets ≡ reads list
   pub found : outermostProjection pattern ≡ some projection
   pub set-given : list ≡ [] → ⊥
@@ -92,7 +93,7 @@ set-usable (x ∷ xs) h e = let z : _≡_ {A = ℕ} 0 1 = cc in absurd (omega ar
 pub bindings-seven : (tree sets : Bytes) → bindingsOutcome tree sets ≡ refused 7 → Unusable tree sets
 unfolding bindingsOutcome
 bindings-seven tree sets e =
-    let x = then-refused (readTree tree) _ 7 (omega arith) e in
+    let x = then-refused (readGivenTree tree) _ 7 (omega arith) e in
     let y = then-refused (readSets sets) _ 7 (omega arith) (x .2) in
     let s = first-refused 3 7 (ifFound (outermostProjection (x .0)) (λ cs. positionsInside cs (y .0))) _ (omega arith) (y .2) in
     let t = test-refused 7 (ifFound (outermostProjection (x .0)) (λ cs. valuesUsable (y .0))) _ (s .1) in
@@ -116,7 +117,7 @@ pub record OutsideFilters (tree filters : Bytes) : Type 0 where
   pub pattern : Pattern
   pub list : List Filter
   pub projection : Projection
-  pub tree-read : readTree tree ≡ reads pattern
+  pub tree-read : readGivenTree tree ≡ reads pattern
   pub filters-read : readFilters filters ≡ reads list
   pub found : outermostProjection pattern ≡ some projection
   pub outside : all (referencesInside (projection .columns)) list ≡ false
@@ -124,7 +125,7 @@ pub record OutsideFilters (tree filters : Bytes) : Type 0 where
 pub filters-three : (tree filters : Bytes) → filtersOutcome tree filters ≡ refused 3 → OutsideFilters tree filters
 unfolding filtersOutcome
 filters-three tree filters e =
-    let x = then-refused (readTree tree) _ 3 (omega arith) e in
+    let x = then-refused (readGivenTree tree) _ 3 (omega arith) e in
     let y = then-refused (readFilters filters) _ 3 (omega arith) (x .2) in
     let t = test-refused 3 (ifFound (outermostProjection (x .0)) (λ cs. all (referencesInside cs) (y .0))) _ (y .2) in
     let f = found-fails (outermostProjection (x .0)) (λ cs. all (referencesInside cs) (y .0)) t in

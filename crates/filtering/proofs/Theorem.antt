@@ -10,8 +10,10 @@ use Rattle.algebra.specs.Tree.{Pattern, project, orderby, distinct, reduced, sl
 use Rattle.algebra.specs.Query.{BindingSet, Filter}
 use Rattle.algebra.specs.Layout.{layout}
 use Rattle.algebra.specs.Reader.{reads, several, readText}
+use Rattle.algebra.specs.Given.{readGivenTree}
 use Rattle.algebra.specs.Texts.{readTree, readSets, readFilters, readAnyTree}
 use Rattle.algebra.specs.Valid.{Valid, ValidSets, ValidFilters}
+use Rattle.algebra.proofs.Given.{tree-given}
 use Rattle.algebra.proofs.Theorem.{tree-exactly, sets-exactly, filters-exactly}
 use Rattle.algebra.proofs.Roomy.{read-any-exactly}
 use Rattle.answers.specs.Outcome.{Outcome, written, refusedUnless}
@@ -25,6 +27,7 @@ use Rattle.negating.proofs.Found.{Outermost, here, under-distinct, under-reduce
 use Rattle.filtering.specs.IfFound.{ifFound}
 use Rattle.filtering.specs.Bindings.{joinedWithValues, patternWithBindings, positionsInside, valuesUsable, bindingsOutcome}
 use Rattle.filtering.specs.Filters.{expressions, filtered, patternWithFilters, referencesInside, filtersOutcome}
+use Rattle.filtering.specs.bridge.AsIs.{bindingsAsIs, filtersAsIs}
 use Rattle.filtering.proofs.FoundValid.{found-valid, modified-well-formed}
 use Rattle.filtering.proofs.Valid.{joined-valid, filtered-valid}
 
@@ -43,7 +46,7 @@ text-of q b v e =
 pub record Bound (tree sets b : Bytes) : Type 0 where
   pub pattern : Pattern
   pub list : List BindingSet
-  pub tree-read : readTree tree ≡ reads pattern
+  pub tree-read : readGivenTree tree ≡ reads pattern
   pub sets-read : readSets sets ≡ reads list
   pub inside : ifFound (outermostProjection pattern) (λ cs. positionsInside cs list) ≡ true
   pub usable : ifFound (outermostProjection pattern) (λ cs. valuesUsable list) ≡ true
@@ -65,11 +68,11 @@ with-bindings-valid p (x ∷ xs) i u w v = go (outermostProjection p) refl i u
 pub bindings-written : (tree sets b : Bytes) → bindingsOutcome tree sets ≡ written b → Bound tree sets b
 unfolding bindingsOutcome
 bindings-written tree sets b e =
-    let x = then-written (readTree tree) _ b e in
+    let x = then-written (readGivenTree tree) _ b e in
     let y = then-written (readSets sets) _ b (x .2) in
     let z = test-written 3 (ifFound (outermostProjection (x .0)) (λ cs. positionsInside cs (y .0))) _ b (y .2) in
     let u = test-written 7 (ifFound (outermostProjection (x .0)) (λ cs. valuesUsable (y .0))) _ b (z .1) in
-    let v = with-bindings-valid (x .0) (y .0) (z .0) (u .0) (sets-exactly sets (y .0) .0 (y .1) .1) (tree-exactly tree (x .0) .0 (x .1) .1) in
+    let v = with-bindings-valid (x .0) (y .0) (z .0) (u .0) (sets-exactly sets (y .0) .0 (y .1) .1) (tree-given tree (x .0) (x .1) .valid) in
     let t = text-of (patternWithBindings (x .0) (y .0)) b v (u .1) in
     record { pattern = x .0; list = y .0; tree-read = x .1; sets-read = y .1; inside = z .0; usable = u .0; valid = v; text = t .0; read = t .1 }
 
@@ -77,7 +80,7 @@ bindings-written tree sets b e =
 pub record Filtered (tree filters b : Bytes) : Type 0 where
   pub pattern : Pattern
   pub list : List Filter
-  pub tree-read : readTree tree ≡ reads pattern
+  pub tree-read : readGivenTree tree ≡ reads pattern
   pub filters-read : readFilters filters ≡ reads list
   pub inside : ifFound (outermostProjection pattern) (λ cs. all (referencesInside cs) list) ≡ true
   pub valid : Valid (patternWithFilters pattern list .pattern)
@@ -91,14 +94,14 @@ with-filters-valid p fs i w v = modified-well-formed (λ cs inner. filtered (exp
 pub filters-written : (tree filters b : Bytes) → filtersOutcome tree filters ≡ written b → Filtered tree filters b
 unfolding filtersOutcome
 filters-written tree filters b e =
-    let x = then-written (readTree tree) _ b e in
+    let x = then-written (readGivenTree tree) _ b e in
     let y = then-written (readFilters filters) _ b (x .2) in
     let z = test-written 3 (ifFound (outermostProjection (x .0)) (λ cs. all (referencesInside cs) (y .0))) _ b (y .2) in
-    let v = with-filters-valid (x .0) (y .0) (z .0) (filters-exactly filters (y .0) .0 (y .1) .1) (tree-exactly tree (x .0) .0 (x .1) .1) in
+    let v = with-filters-valid (x .0) (y .0) (z .0) (filters-exactly filters (y .0) .0 (y .1) .1) (tree-given tree (x .0) (x .1) .valid) in
     let t = text-of (patternWithFilters (x .0) (y .0) .pattern) b v (z .1) in
     record { pattern = x .0; list = y .0; tree-read = x .1; filters-read = y .1; inside = z .0; valid = v; text = t .0; read = t .1 }
 
--- ---- the tree's own text
+-- ---- the tree's own text, as it stands
 
 pub found-same : (f : List Bytes → Pattern → Pattern) {p : Pattern} {x : Projection} → Outermost p x → f (x .columns) (x .inner) ≡ x .inner → modifyOutermostProjection f p ≡ p
 unfolding modifyOutermostProjection
@@ -148,30 +151,30 @@ none-placed p fs h = go (outermostProjection p) refl
     go (some x) e = found-same (λ cs inner. filtered (expressions cs fs) inner) (found p x e) (ap (λ es. filtered es (x .inner)) (h x e))
 
 -- without sets pattern_with_bindings copies
-pub bindings-no-sets : (tree : Bytes) (p : Pattern) → readTree tree ≡ reads p → bindingsOutcome tree [] ≡ written tree
-unfolding bindingsOutcome positionsInside valuesUsable all patternWithBindings
+pub bindings-no-sets : (tree : Bytes) (p : Pattern) → readTree tree ≡ reads p → bindingsAsIs tree [] ≡ written tree
+unfolding bindingsAsIs positionsInside valuesUsable all patternWithBindings
 bindings-no-sets tree p e =
     rw (e, read-no-sets, all-found (outermostProjection p) (λ cs. true) (λ cs. refl))
     (tree-back tree p p e refl)
 
 -- no projection found: a copy
-pub bindings-not-found : (tree sets : Bytes) (p : Pattern) (xs : List BindingSet) → readTree tree ≡ reads p → readSets sets ≡ reads xs → outermostProjection p ≡ none → bindingsOutcome tree sets ≡ written tree
-unfolding bindingsOutcome
+pub bindings-not-found : (tree sets : Bytes) (p : Pattern) (xs : List BindingSet) → readTree tree ≡ reads p → readSets sets ≡ reads xs → outermostProjection p ≡ none → bindingsAsIs tree sets ≡ written tree
+unfolding bindingsAsIs
 bindings-not-found tree sets p xs e f n =
     rw (e, f, n) (tree-back tree p (patternWithBindings p xs) e (bound-same p xs n))
 
-pub filters-no-filters : (tree : Bytes) (p : Pattern) → readTree tree ≡ reads p → filtersOutcome tree [] ≡ written tree
-unfolding filtersOutcome all expressions
+pub filters-no-filters : (tree : Bytes) (p : Pattern) → readTree tree ≡ reads p → filtersAsIs tree [] ≡ written tree
+unfolding filtersAsIs all expressions
 filters-no-filters tree p e =
     rw (e, read-no-filters, all-found (outermostProjection p) (λ cs. true) (λ cs. refl))
     (tree-back tree p (patternWithFilters p [] .pattern) e (none-placed p [] (λ x h. refl)))
 
 -- every filter is always true or not expressed, or no projection is found: a copy
 pub filters-none-placed : (tree filters : Bytes) (p : Pattern) (fs : List Filter) → readTree tree ≡ reads p → readFilters filters ≡ reads fs
-    → ifFound (outermostProjection p) (λ cs. all (referencesInside cs) fs) ≡ true → ((x : Projection) → outermostProjection p ≡ some x → expressions (x .columns) fs ≡ []) → filtersOutcome tree filters ≡ written tree
-unfolding filtersOutcome
+    → ifFound (outermostProjection p) (λ cs. all (referencesInside cs) fs) ≡ true → ((x : Projection) → outermostProjection p ≡ some x → expressions (x .columns) fs ≡ []) → filtersAsIs tree filters ≡ written tree
+unfolding filtersAsIs
 filters-none-placed tree filters p fs e f i h = rw (e, f, i) (tree-back tree p (patternWithFilters p fs .pattern) e (none-placed p fs h))
 
-pub filters-not-found : (tree filters : Bytes) (p : Pattern) (fs : List Filter) → readTree tree ≡ reads p → readFilters filters ≡ reads fs → outermostProjection p ≡ none → filtersOutcome tree filters ≡ written tree
+pub filters-not-found : (tree filters : Bytes) (p : Pattern) (fs : List Filter) → readTree tree ≡ reads p → readFilters filters ≡ reads fs → outermostProjection p ≡ none → filtersAsIs tree filters ≡ written tree
 filters-not-found tree filters p fs e f n =
     filters-none-placed tree filters p fs e f (none-found (outermostProjection p) (λ cs. all (referencesInside cs) fs) n) (λ x h. let z : _≡_ {A = ℕ} 0 1 = cc in absurd (omega arith))

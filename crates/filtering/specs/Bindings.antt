@@ -7,7 +7,9 @@ use Rattle.text.specs.Text.{Bytes}
 use Rattle.text.specs.Field.{given}
 use Rattle.algebra.specs.Tree.{Pattern, join, values}
 use Rattle.algebra.specs.Query.{Value, BindingSet}
-use Rattle.algebra.specs.Texts.{readTree, readSets}
+use Rattle.algebra.specs.Reader.{Outcome as Reading}
+use Rattle.algebra.specs.Texts.{readSets}
+use Rattle.algebra.specs.Given.{readGivenTree}
 use Rattle.algebra.specs.Layout.{layout}
 use Rattle.answers.specs.Outcome.{Outcome, written, then, refusedUnless}
 use Rattle.scoping.specs.Premises.{columnsAt, inside}
@@ -66,12 +68,16 @@ unfoldable pub valuesUsable : List BindingSet → Bool
 unfolding all groundTerm
 valuesUsable xs = all (λ x. all (all (λ v. given (groundTermFromDatavalue v))) (x .rows)) xs
 
--- docs/SPECIFICATION.md, "Operation by operation", bindings: all positions before any value
-unfoldable pub bindingsOutcome : Bytes → Bytes → Outcome
-unfolding readTree readSets outermostProjection positionsInside valuesUsable patternWithBindings layout
-bindingsOutcome tree sets =
-    then (readTree tree) λ p.
+-- of a tree as it was read: all positions before any value
+abbrev pub bindingsRead : Reading Pattern → Bytes → Outcome
+bindingsRead tree sets =
+    then tree λ p.
     then (readSets sets) λ xs.
     refusedUnless 3 (ifFound (outermostProjection p) λ cs. positionsInside cs xs)
     (refusedUnless 7 (ifFound (outermostProjection p) λ cs. valuesUsable xs)
     (written (layout (patternWithBindings p xs))))
+
+-- docs/SPECIFICATION.md, "Operation by operation", bindings, of given texts
+unfoldable pub bindingsOutcome : Bytes → Bytes → Outcome
+unfolding readGivenTree readSets outermostProjection positionsInside valuesUsable patternWithBindings layout
+bindingsOutcome tree sets = bindingsRead (readGivenTree tree) sets

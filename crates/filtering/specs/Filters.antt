@@ -8,7 +8,9 @@ use lib.Dec.{ltb}
 use Rattle.text.specs.Text.{Bytes}
 use Rattle.algebra.specs.Tree.{AND, Pattern, filter, Expression, apply, eend, econs}
 use Rattle.algebra.specs.Query.{Filter, leaf, ref, function, Filters, fend, fcons}
-use Rattle.algebra.specs.Texts.{readTree, readFilters}
+use Rattle.algebra.specs.Reader.{Outcome as Reading}
+use Rattle.algebra.specs.Texts.{readFilters}
+use Rattle.algebra.specs.Given.{readGivenTree}
 use Rattle.algebra.specs.Layout.{layout}
 use Rattle.answers.specs.Outcome.{Outcome, written, then, refusedUnless}
 use Rattle.scoping.specs.Sets.{all}
@@ -75,11 +77,15 @@ unfoldable mutual
   partsInside cs fend = true
   partsInside cs (fcons f fs) = referencesInside cs f && partsInside cs fs
 
--- docs/SPECIFICATION.md, "Operation by operation", filters
-unfoldable pub filtersOutcome : Bytes → Bytes → Outcome
-unfolding readTree readFilters outermostProjection all referencesInside patternWithFilters layout
-filtersOutcome tree filters =
-    then (readTree tree) λ p.
+-- of a tree as it was read
+abbrev pub filtersRead : Reading Pattern → Bytes → Outcome
+filtersRead tree filters =
+    then tree λ p.
     then (readFilters filters) λ fs.
     refusedUnless 3 (ifFound (outermostProjection p) λ cs. all (referencesInside cs) fs)
     (written (layout (patternWithFilters p fs .pattern)))
+
+-- docs/SPECIFICATION.md, "Operation by operation", filters, of given texts
+unfoldable pub filtersOutcome : Bytes → Bytes → Outcome
+unfolding readGivenTree readFilters outermostProjection all referencesInside patternWithFilters layout
+filtersOutcome tree filters = filtersRead (readGivenTree tree) filters

@@ -6,7 +6,7 @@ use Rattle.text.specs.Text.{Bytes}
 use Rattle.algebra.specs.Tree.{Pattern}
 use Rattle.algebra.specs.Layout.{layout}
 use Rattle.algebra.specs.Bounded.{layoutQuery}
-use Rattle.algebra.specs.Texts.{readTree, readQuery}
+use Rattle.algebra.specs.Given.{readGivenTree, readGivenQuery}
 use Rattle.answers.specs.Outcome.{Outcome, written}
 use Rattle.answers.proofs.Numbered.{Numbered, written-numbered, then-numbered, some-numbered, test-numbered}
 use Rattle.merging.specs.Sides.{Pair, Constant}
@@ -32,12 +32,12 @@ module _ (left right pairs leftConstants rightConstants : Bytes) where
   pub merge-patterns-numbered : Numbered (mergePatternsOutcome left right pairs leftConstants rightConstants)
   unfolding mergePatternsOutcome
   merge-patterns-numbered =
-      then-numbered (readTree left) _ λ p. then-numbered (readTree right) _ λ q. lists-numbered pairs leftConstants rightConstants _ λ js ks ls.
+      then-numbered (readGivenTree left) _ λ p. then-numbered (readGivenTree right) _ λ q. lists-numbered pairs leftConstants rightConstants _ λ js ks ls.
       trees-numbered p q js ks ls (λ t. written (layout t)) (λ t. written-numbered (layout t))
 
   pub merge-queries-numbered : Numbered (mergeQueriesOutcome left right pairs leftConstants rightConstants)
   unfolding mergeQueriesOutcome
   merge-queries-numbered =
-      then-numbered (readQuery left) _ λ a. then-numbered (readQuery right) _ λ b. lists-numbered pairs leftConstants rightConstants _ λ js ks ls.
+      then-numbered (readGivenQuery left) _ λ a. then-numbered (readGivenQuery right) _ λ b. lists-numbered pairs leftConstants rightConstants _ λ js ks ls.
       test-numbered 5 (mergeable a b) _ (λ z. omega arith)
       (trees-numbered (a .tree) (b .tree) js ks ls (λ t. written (layoutQuery (over a t))) (λ t. written-numbered (layoutQuery (over a t))))

@@ -11,7 +11,8 @@ use Rattle.text.specs.Text.{Bytes}
 use Rattle.text.proofs.Basics.{and-left, and-right}
 use Rattle.algebra.specs.Query.{Pair, constants}
 use Rattle.algebra.specs.Reader.{Outcome as Reading, reads}
-use Rattle.algebra.specs.Texts.{readTree, readQuery, readPairs}
+use Rattle.algebra.specs.Texts.{readPairs}
+use Rattle.algebra.specs.Given.{readGivenTree, readGivenQuery}
 use Rattle.algebra.specs.Layout.{layout}
 use Rattle.algebra.specs.Bounded.{layoutQuery}
 use Rattle.answers.specs.Outcome.{written, then, refusedUnless}
@@ -93,8 +94,8 @@ unfolding mergePatternsOutcome
 merge-patterns-one-order left right pairs ks ks′ ls ls′ a b =
     ap₂
     (λ (l r : Reading (List Constant)).
-    then (readTree left) λ p.
-    then (readTree right) λ q.
+    then (readGivenTree left) λ p.
+    then (readGivenTree right) λ q.
     then (readJoins pairs) λ js.
     then l λ ks.
     then r λ ls.
@@ -106,8 +107,8 @@ unfolding mergeQueriesOutcome
 merge-queries-one-order left right pairs ks ks′ ls ls′ a b =
     ap₂
     (λ (l r : Reading (List Constant)).
-    then (readQuery left) λ p.
-    then (readQuery right) λ q.
+    then (readGivenQuery left) λ p.
+    then (readGivenQuery right) λ q.
     then (readJoins pairs) λ js.
     then l λ ks.
     then r λ ls.
@@ -119,7 +120,7 @@ unfolding pushConstantsOutcome
 push-constants-one-order query ks ks′ a =
     ap
     (λ (l : Reading (List Constant)).
-    then (readQuery query) λ q.
+    then (readGivenQuery query) λ q.
     then l λ ks.
     pushConstants q ks)
     (one-order ks ks′ a)

@@ -13,9 +13,11 @@ use Rattle.algebra.specs.Query.{Query}
 use Rattle.algebra.specs.Reader.{reads}
 use Rattle.algebra.specs.Layout.{putQuery, layout}
 use Rattle.algebra.specs.Bounded.{layoutQuery}
+use Rattle.algebra.specs.Given.{readGivenQuery}
 use Rattle.algebra.specs.Texts.{readQuery, readAnyTree}
 use Rattle.algebra.specs.Valid.{Triples, Takes, Valid, ValidQuery}
 use Rattle.algebra.proofs.Theorem.{query-exactly}
+use Rattle.algebra.proofs.Given.{query-given}
 use Rattle.algebra.proofs.Roomy.{read-any-exactly}
 use Rattle.answers.specs.Outcome.{written}
 use Rattle.scoping.specs.Label.{prefixV}
@@ -50,13 +52,20 @@ pub record Asked (q : Query) (b : Bytes) : Type 0 where
 asks : (q : Query) (p : Pattern) (b : Bytes) → Valid p → written (layoutQuery (over q p)) ≡ written b → Asked q b
 asks q p b v e = record { tree = p; text = layout p; head = sym (bytes-of (layoutQuery (over q p)) b e) ∙ query-over q p; read = read-any-exactly (layout p) p .1 (refl, v) }
 
--- a query that was read
+-- a query that was read, as it stands or given
 pub tree-valid : (s : Bytes) (q : Query) → readQuery s ≡ reads q → Valid (q .tree)
 unfolding ValidQuery
 tree-valid s q e = query-exactly s q .0 e .1 .3
 
 pub tree-names : (s : Bytes) (q : Query) → readQuery s ≡ reads q → length (byPlace (q .tree)) ≤ 1024
 tree-names s q e = subst (λ (l : List Bytes). length l ≤ 1024) (by-place-query q) (query-exactly s q .0 e .2 .names)
+
+pub given-valid : (s : Bytes) (q : Query) → readGivenQuery s ≡ reads q → Valid (q .tree)
+unfolding ValidQuery
+given-valid s q e = query-given s q e .valid .3
+
+pub given-names : (s : Bytes) (q : Query) → readGivenQuery s ≡ reads q → length (byPlace (q .tree)) ≤ 1024
+given-names s q e = subst (λ (l : List Bytes). length l ≤ 1024) (by-place-query q) (query-given s q e .names)
 
 -- ---- push constants
 
@@ -70,12 +79,12 @@ pushed-valid x ks v n i g =
     let k : Known prefixV x [] ks = record { letter = letter-v; valid = v; names = n; pairs = omega arith; joins-inside = refl; joins-once = refl; constants-inside = i; constants-good = g } in
     (fit-of variable (freeColumns (onlySide x ks)) (free-fits prefixV x [] ks k), side-valid prefixV x [] ks k)
 
-pub push-reads : (query constants b : Bytes) → pushConstantsOutcome query constants ≡ written b → (q : Query) × (readQuery query ≡ reads q) × Asked q b
+pub push-reads : (query constants b : Bytes) → pushConstantsOutcome query constants ≡ written b → (q : Query) × (readGivenQuery query ≡ reads q) × Asked q b
 unfolding pushConstantsOutcome pushConstants pushed
 push-reads query constants b e =
-    let x = then-written (readQuery query) _ b e in
+    let x = then-written (readGivenQuery query) _ b e in
     let y = then-written (readConstants constants) (pushConstants (x .0)) b (x .2) in
-    (x .0, x .1, go (x .0) (y .0) (tree-valid query (x .0) (x .1)) (tree-names query (x .0) (x .1)) (constants-good constants (y .0) (y .1)) (isSelectOrAsk (x .0 .kind)) (y .2))
+    (x .0, x .1, go (x .0) (y .0) (given-valid query (x .0) (x .1)) (given-names query (x .0) (x .1)) (constants-good constants (y .0) (y .1)) (isSelectOrAsk (x .0 .kind)) (y .2))
   where
     root : (q : Query) (ks : List Constant) → Valid (q .tree) → length (byPlace (q .tree)) ≤ 1024 → Good ks → (o : Option Projection) → asProject (q .tree) ≡ o → pushed q ks o ≡ written b → Asked q b
     root q ks v n g none h r = asks q (q .tree) b v r
@@ -115,11 +124,11 @@ negated-valid : (p : Pattern) → Valid p → Valid (negateProjectPattern p)
 unfolding negateProjectPattern Valid Triples Takes
 negated-valid p v = modified-valid (λ cs q. filter (bgp []) (apply NOT (econs (exists q) eend))) (λ cs q w. ((omega arith, tt), (refl, (w, tt)))) p v
 
-pub negate-reads : (query b : Bytes) → negateOutcome query ≡ written b → (q : Query) × (readQuery query ≡ reads q) × Asked q b
+pub negate-reads : (query b : Bytes) → negateOutcome query ≡ written b → (q : Query) × (readGivenQuery query ≡ reads q) × Asked q b
 unfolding negateOutcome negateQuery
 negate-reads query b e =
-    let x = then-written (readQuery query) (λ q. written (layoutQuery (negateQuery q))) b e in
-    (x .0, x .1, go (x .0) (tree-valid query (x .0) (x .1)) (isSelectOrAsk (x .0 .kind)) (x .2))
+    let x = then-written (readGivenQuery query) (λ q. written (layoutQuery (negateQuery q))) b e in
+    (x .0, x .1, go (x .0) (given-valid query (x .0) (x .1)) (isSelectOrAsk (x .0 .kind)) (x .2))
   where
     go : (q : Query) → Valid (q .tree) → (t : Bool) → written (layoutQuery (cond t (over q (negateProjectPattern (q .tree))) q)) ≡ written b → Asked q b
     go q v true r = asks q (negateProjectPattern (q .tree)) b (negated-valid (q .tree) v) r

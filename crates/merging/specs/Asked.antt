@@ -6,7 +6,7 @@ use Rattle.text.specs.Word.{bytes}
 use Rattle.algebra.specs.Tree.{Pattern}
 use Rattle.algebra.specs.Query.{Query}
 use Rattle.algebra.specs.Reader.{reads}
-use Rattle.algebra.specs.Texts.{readTree, readQuery}
+use Rattle.algebra.specs.Given.{readGivenTree, readGivenQuery}
 use Rattle.merging.specs.Request.{tree, readJoins, readConstants, Request}
 
 -- the request's lists are those of the three texts
@@ -17,16 +17,16 @@ pub record Lists (pairs leftConstants rightConstants : Bytes) (m : Request) : Ty
 
 -- the request's trees are those of the two texts
 pub record Trees (left right : Bytes) (m : Request) : Type 0 where
-  pub left-tree : readTree left ≡ reads (tree (m .left))
-  pub right-tree : readTree right ≡ reads (tree (m .right))
+  pub left-tree : readGivenTree left ≡ reads (tree (m .left))
+  pub right-tree : readGivenTree right ≡ reads (tree (m .right))
 
 -- the request's trees stand in two queries with one head
 abbrev pub queryOf : Bytes → Bytes → Bytes → Pattern → Query
 queryOf kind dataset base t = record { kind = kind; dataset = dataset; base = base; tree = t }
 
 pub record Queries (left right kind dataset base : Bytes) (m : Request) : Type 0 where
-  pub left-query : readQuery left ≡ reads (queryOf kind dataset base (tree (m .left)))
-  pub right-query : readQuery right ≡ reads (queryOf kind dataset base (tree (m .right)))
+  pub left-query : readGivenQuery left ≡ reads (queryOf kind dataset base (tree (m .left)))
+  pub right-query : readGivenQuery right ≡ reads (queryOf kind dataset base (tree (m .right)))
 
 -- a text behind a query's head line
 unfoldable pub behindHead : Bytes → Bytes → Bytes → Bytes → Bytes

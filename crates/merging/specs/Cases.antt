@@ -60,8 +60,22 @@ cases =
     ∷ gives (pushConstants "query\tselect\t-\t-\nproject\t?xLabelLabel\t?x\nbgp\t0\n" "") "query\tselect\t-\t-\nproject\t?v0Label\t?v1\nbgp\t0\n"
     -- 9: `?Label` and no other
     ∷ gives (pushConstants "query\task\t-\t-\nproject\t?Label\nbgp\t0\n" "") "query\task\t-\t-\nproject\t?v0Label\nbgp\t0\n"
-    -- 10: no left tree
-    ∷ refuses (mergePatterns "" "project\t?b\nbgp\t0\n" "" "" "") 1
+    -- 10: no bytes for the left tree, for the right one, for both
+    ∷ gives (mergePatterns "" "project\t?b\nbgp\t0\n" "" "" "") "project\t?r0\njoin\nbgp\t0\nbgp\t0\n"
+    ∷ gives (mergePatterns "project\t?b\nbgp\t0\n" "" "" "" "") "project\t?l0\njoin\nbgp\t0\nbgp\t0\n"
+    ∷ gives (mergePatterns "" "" "" "" "") "project\njoin\nbgp\t0\nbgp\t0\n"
+    -- a position of an empty file is outside
+    ∷ refuses (mergePatterns "" "project\t?b\nbgp\t0\n" "0\t0\n" "" "") 3
+    -- a head line alone
+    ∷ gives (mergeQueries "query\tselect\t-\t-\n" "query\tselect\t-\t-\nproject\t?b\nbgp\t0\n" "" "" "") "query\tselect\t-\t-\nproject\t?r0\njoin\nbgp\t0\nbgp\t0\n"
+    ∷ gives (pushConstants "query\tselect\t-\t-\n" "") "query\tselect\t-\t-\nproject\nbgp\t0\n"
+    ∷ gives (pushConstants "query\tdescribe\t-\t-\n" "7\t<k>\n") "query\tdescribe\t-\t-\nproject\nbgp\t0\n"
+    ∷ gives (negate "query\task\t-\t-\n") "query\task\t-\t-\nproject\nfilter\nbgp\t0\nnot\nexists\nbgp\t0\n"
+    -- no head line, one that isn't ended, one of another form
+    ∷ refuses (negate "") 1
+    ∷ refuses (negate "query\task\t-\t-") 1
+    ∷ refuses (negate "query\task\t-\n") 1
+    ∷ refuses (negate "project\nbgp\t0\n") 1
     -- beyond the ten: constants by rising position, and a head line
     ∷ gives (mergeQueries "query\task\t-\t<b>\nproject\t?a\t?b\t?c\nbgp\t0\n" "query\task\t-\t<b>\nproject\t?d\nbgp\t0\n" "1\t0\n" "2\t\"x\"\n0\t<k>\n" "")
     "query\task\t-\t<b>\nproject\t?j0\njoin\njoin\nbgp\t0\nvalues\t2\t1\ncols\t?l0\t?l2\nrow\t<k>\t\"x\"\nbgp\t0\n"

@@ -5,7 +5,7 @@ use Rattle.text.specs.Text.{Bytes, same}
 use Rattle.text.specs.Word.{bytes}
 use Rattle.algebra.specs.Tree.{Pattern}
 use Rattle.algebra.specs.Query.{Query}
-use Rattle.algebra.specs.Texts.{readTree, readQuery}
+use Rattle.algebra.specs.Given.{readGivenTree, readGivenQuery}
 use Rattle.algebra.specs.Layout.{layout}
 use Rattle.algebra.specs.Bounded.{layoutQuery}
 use Rattle.answers.specs.Outcome.{Outcome, written, then, orRefused, refusedUnless}
@@ -49,10 +49,10 @@ mergeTrees left right js ks ls k =
 
 -- docs/SPECIFICATION.md, "Operation by operation", merge patterns: the five texts, 4, 3, 10, the merged tree
 unfoldable pub mergePatternsOutcome : Bytes → Bytes → Bytes → Bytes → Bytes → Outcome
-unfolding readTree readJoins readConstants mergeTrees layout
+unfolding readGivenTree readJoins readConstants mergeTrees layout
 mergePatternsOutcome left right pairs leftConstants rightConstants =
-    then (readTree left) λ p.
-    then (readTree right) λ q.
+    then (readGivenTree left) λ p.
+    then (readGivenTree right) λ q.
     lists pairs leftConstants rightConstants λ js ks ls.
     mergeTrees p q js ks ls λ t. written (layout t)
 
@@ -74,10 +74,10 @@ over q t = record { kind = q .kind; dataset = q .dataset; base = q .base; tree =
 
 -- docs/SPECIFICATION.md, "Operation by operation", merge queries: the five texts, 5, 4, 3, 10, the head and the merged tree
 unfoldable pub mergeQueriesOutcome : Bytes → Bytes → Bytes → Bytes → Bytes → Outcome
-unfolding readQuery readJoins readConstants mergeable mergeTrees layoutQuery
+unfolding readGivenQuery readJoins readConstants mergeable mergeTrees layoutQuery
 mergeQueriesOutcome left right pairs leftConstants rightConstants =
-    then (readQuery left) λ a.
-    then (readQuery right) λ b.
+    then (readGivenQuery left) λ a.
+    then (readGivenQuery right) λ b.
     lists pairs leftConstants rightConstants λ js ks ls.
     refusedUnless 5 (mergeable a b)
     (mergeTrees (a .tree) (b .tree) js ks ls λ t. written (layoutQuery (over a t)))

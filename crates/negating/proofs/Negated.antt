@@ -23,7 +23,8 @@ use Rattle.answers.specs.declared.Answer.the-variants.{Written, Malformed, Over
 use Rattle.answers.specs.Outcome.{written, Reported, Answered}
 use Rattle.answers.proofs.Answers.{too-short, all-written, answered}
 use Rattle.merging.specs.Merge.{isSelectOrAsk, over}
-use Rattle.merging.specs.Negate.{negateProjectPattern, negateQuery, negateOutcome}
+use Rattle.merging.specs.Negate.{negateProjectPattern, negateQuery}
+use Rattle.merging.specs.bridge.AsIs.{negateAsIs}
 use Rattle.heads.specs.bridge.TreeAt.{TreeAt}
 use Rattle.heads.proofs.Queries.{query-layout, over-layout, tree-ended}
 use Rattle.negating.specs.bridge.Lines.{fromProject, Projects}
@@ -39,16 +40,16 @@ not-exists-text q t = refl
 
 module _ (s : Bytes) (q : Query) (e : readQuery s ≡ reads q) where
   -- a query that is copied
-  copied : negateQuery q ≡ q → negateOutcome s ≡ written s
-  unfolding negateOutcome
+  copied : negateQuery q ≡ q → negateAsIs s ≡ written s
+  unfolding negateAsIs
   copied h = rw e (ap (λ (x : Query). written (layoutQuery x)) h ∙ ap written (query-layout s q e))
 
-  pub other-kind : (b : Bool) → b ≡ isSelectOrAsk (q .kind) → not b ≡ true → negateOutcome s ≡ written s
+  pub other-kind : (b : Bool) → b ≡ isSelectOrAsk (q .kind) → not b ≡ true → negateAsIs s ≡ written s
   unfolding negateQuery
   other-kind b is h = copied (rw (sym is ∙ not-true b h))
 
   module _ (from : ℕ) (a : TreeAt s q from) where
-    pub no-projection : fromProject (linesFrom s from) ≡ none → negateOutcome s ≡ written s
+    pub no-projection : fromProject (linesFrom s from) ≡ none → negateAsIs s ≡ written s
     unfolding negateQuery negateProjectPattern
     no-projection n =
         copied (ap (λ (t : Pattern). cond (isSelectOrAsk (q .kind)) (over q t) q) (not-found _ (q .tree) (not-placed s from (q .tree) [] (a .lines) n))
@@ -66,24 +67,24 @@ module _ (s : Bytes) (q : Query) (e : readQuery s ≡ reads q) where
           ∙ ap (λ (b : Bytes). take inner s ++ (notExists ++ b)) (sym (inner-text s from line inner (q .tree) [] (a .lines) (tree-ended s q e) (w .high) x))
 
       module _ (b : Bool) (is : b ≡ isSelectOrAsk (q .kind)) (yes : not b ≡ false) where
-        negated : negateOutcome s ≡ written (negatedAt inner s)
-        unfolding negateOutcome negateQuery
+        negated : negateAsIs s ≡ written (negatedAt inner s)
+        unfolding negateAsIs negateQuery
         negated = rw (e, sym is ∙ not-false b yes) (ap written negated-layout)
 
         module _ (out : Bytes) (need : ℕ) (tiny tiny′ : Bytes) (measure : em need tiny′ ≡ puts (negatedAt inner s) (em 0 tiny)) where
-          pub negate-short : length out < need → Answered (negateOutcome s) out out TooShort
+          pub negate-short : length out < need → Answered (negateAsIs s) out out TooShort
           negate-short h = answered _ _ out out TooShort negated (too-short _ out need tiny tiny′ measure h)
 
-          pub negate-written : (size : ℕ) (out′ : Bytes) → need ≤ length out → length out < last → em size out′ ≡ puts (negatedAt inner s) (em 0 out) → Answered (negateOutcome s) out out′ (Written size)
+          pub negate-written : (size : ℕ) (out′ : Bytes) → need ≤ length out → length out < last → em size out′ ≡ puts (negatedAt inner s) (em 0 out) → Answered (negateAsIs s) out out′ (Written size)
           negate-written size out′ i j k = answered _ _ out out′ (Written size) negated (all-written _ out need tiny tiny′ measure size out′ i j k)
 
 -- a query that is refused
-pub negate-malformed : (s out : Bytes) → readQuery s ≡ refuses malformed → Answered (negateOutcome s) out out Malformed
-unfolding negateOutcome Reported
+pub negate-malformed : (s out : Bytes) → readQuery s ≡ refuses malformed → Answered (negateAsIs s) out out Malformed
+unfolding negateAsIs Reported
 negate-malformed s out e = rw e (refl, refl, refl)
 
-pub negate-over : (s out : Bytes) → readQuery s ≡ refuses overBound → Answered (negateOutcome s) out out OverBound
-unfolding negateOutcome Reported
+pub negate-over : (s out : Bytes) → readQuery s ≡ refuses overBound → Answered (negateAsIs s) out out OverBound
+unfolding negateAsIs Reported
 negate-over s out e = rw e (refl, refl, refl)
 
 -- what stands before the place, the new lines, what stands from it on

@@ -18,7 +18,7 @@ ghost use Rattle.algebra.specs.Reader.{reads};
 ghost use Rattle.algebra.specs.Texts.{readQuery};
 ghost use Rattle.emit.specs.bridge.Emit.{em, puts};
 ghost use Rattle.answers.specs.Outcome.{Answered};
-ghost use Rattle.merging.specs.Negate.{negateOutcome};
+ghost use Rattle.merging.specs.bridge.AsIs.{negateAsIs};
 ghost use Rattle.words.specs.bridge.Key.{keyIn};
 ghost use Rattle.negating.specs.bridge.Lines.{passed, Finds};
 ghost use Rattle.negating.specs.bridge.Negated.{negatedAt};
@@ -82,7 +82,7 @@ fn put_negated(query: &[u8], inner: usize, out: &mut [u8]) -> usize
 // negate_query, for a query that was checked.
 fn negate_of(query: &[u8], out: &mut [u8]) -> Answer
     requires { ⌜ ((q : Query) × (readQuery (now query) ≡ reads q)) ⌝ }
-    ensures { λ r. ⌜ Answered (negateOutcome (now (query .entry))) (now (out .entry)) (now (out .exit)) r ⌝ }
+    ensures { λ r. ⌜ Answered (negateAsIs (now (query .entry))) (now (out .entry)) (now (out .exit)) r ⌝ }
 {
     if !is_select_or_ask(query) {
         return copy(query, out);
@@ -101,7 +101,7 @@ fn negate_of(query: &[u8], out: &mut [u8]) -> Answer
 
 // negate: query to query.
 pub fn negate(query: &[u8], out: &mut [u8]) -> Answer
-    ensures { λ r. ⌜ Answered (negateOutcome (now (query .entry))) (now (out .entry)) (now (out .exit)) r ⌝ }
+    ensures { λ r. ⌜ Answered (negateAsIs (now (query .entry))) (now (out .entry)) (now (out .exit)) r ⌝ }
 {
     let words = all_words();
     let mut table = [[0u16; 2]; 1024];

@@ -3,3 +3,4 @@ pub mod Tables
 pub mod Targets
 pub mod Long
 pub mod Renamed
+pub mod Given

@@ -33,7 +33,8 @@ use Rattle.walking.proofs.Noted.{rewritten-tree}
 use Rattle.walking.proofs.Remarked.{renamed-rewritten}
 use Rattle.answers.specs.declared.Answer.the-variants.{Written, Malformed, OverBound, TooShort}
 use Rattle.answers.specs.Outcome.{written, Reported, Answered}
-use Rattle.renaming.specs.Rename.{becomes, renameOutcome}
+use Rattle.renaming.specs.Rename.{becomes}
+use Rattle.renaming.specs.bridge.AsIs.{renameAsIs}
 use Rattle.heads.specs.bridge.Known.{Known}
 use Rattle.surveying.specs.bridge.Code.{Surveyed}
 use Rattle.renaming.specs.bridge.Code.{Renaming, Targets, renamedSize}
@@ -67,8 +68,8 @@ module _ (s : Bytes) (a l : List ℕ) (n : ℕ) (spots : List (List ℕ)) (k : �
   alike : renameInGraphPattern new pattern ≡ renameInGraphPattern (becomes (t .list)) pattern
   alike = rename-alike new (becomes (t .list)) pattern visible agrees
 
-  outcome-is : renameOutcome s pairs ≡ written (layout (renameInGraphPattern new pattern))
-  unfolding renameOutcome
+  outcome-is : renameAsIs s pairs ≡ written (layout (renameInGraphPattern new pattern))
+  unfolding renameAsIs
   outcome-is = rw (x .known .read, t .read) (ap (λ (q : Pattern). written (layout q)) (sym alike))
 
   -- what is put, the tree's variables under their new names
@@ -117,28 +118,28 @@ module _ (s : Bytes) (a l : List ℕ) (n : ℕ) (spots : List (List ℕ)) (k : �
   unfolding renamedSize
   measure = renamed-puts (counted .at) [] (counted .out) refl
 
-  pub rename-short : (out : Bytes) → length out < need → Answered (renameOutcome s pairs) out out TooShort
+  pub rename-short : (out : Bytes) → length out < need → Answered (renameAsIs s pairs) out out TooShort
   rename-short out i = answered _ _ out out TooShort outcome-is (too-short _ out need [] (counted .out) measure i)
 
   pub rename-written : (out : Bytes) (size : ℕ) (out′ : Bytes) → need ≤ length out → length out < last
-      → em size out′ ≡ rewritten new s (drop 0 (spotsOf (listing s a l n) spots k)) 0 (length s) (em 0 out) → Answered (renameOutcome s pairs) out out′ (Written size)
+      → em size out′ ≡ rewritten new s (drop 0 (spotsOf (listing s a l n) spots k)) 0 (length s) (em 0 out) → Answered (renameAsIs s pairs) out out′ (Written size)
   rename-written out size out′ i j w = answered _ _ out out′ (Written size) outcome-is (all-written _ out need [] (counted .out) measure size out′ i j (renamed-puts size out out′ w))
 
 -- ---- a text that is refused
 
-pub tree-malformed : (s pairs out : Bytes) → readTree s ≡ refuses malformed → Answered (renameOutcome s pairs) out out Malformed
-unfolding renameOutcome Reported
+pub tree-malformed : (s pairs out : Bytes) → readTree s ≡ refuses malformed → Answered (renameAsIs s pairs) out out Malformed
+unfolding renameAsIs Reported
 tree-malformed s pairs out e = rw e (refl, refl, refl)
 
-pub tree-over : (s pairs out : Bytes) → readTree s ≡ refuses overBound → Answered (renameOutcome s pairs) out out OverBound
-unfolding renameOutcome Reported
+pub tree-over : (s pairs out : Bytes) → readTree s ≡ refuses overBound → Answered (renameAsIs s pairs) out out OverBound
+unfolding renameAsIs Reported
 tree-over s pairs out e = rw e (refl, refl, refl)
 
 module _ (s : Bytes) (a l h : List ℕ) (n : ℕ) (k : Known s a l h n) (pairs out : Bytes) where
-  pub mapping-malformed : readPairs mapping pairs ≡ refuses malformed → Answered (renameOutcome s pairs) out out Malformed
-  unfolding renameOutcome Reported
+  pub mapping-malformed : readPairs mapping pairs ≡ refuses malformed → Answered (renameAsIs s pairs) out out Malformed
+  unfolding renameAsIs Reported
   mapping-malformed e = rw (k .read, e) (refl, refl, refl)
 
-  pub mapping-over : readPairs mapping pairs ≡ refuses overBound → Answered (renameOutcome s pairs) out out OverBound
-  unfolding renameOutcome Reported
+  pub mapping-over : readPairs mapping pairs ≡ refuses overBound → Answered (renameAsIs s pairs) out out OverBound
+  unfolding renameAsIs Reported
   mapping-over e = rw (k .read, e) (refl, refl, refl)

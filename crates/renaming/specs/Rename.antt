@@ -3,7 +3,9 @@ use mathlib.Core.List.{List, map}
 use Rattle.text.specs.Text.{Bytes}
 use Rattle.algebra.specs.Tree.{Pattern}
 use Rattle.algebra.specs.Query.{Pair, mapping}
-use Rattle.algebra.specs.Texts.{readTree, readPairs}
+use Rattle.algebra.specs.Reader.{Outcome as Reading}
+use Rattle.algebra.specs.Texts.{readPairs}
+use Rattle.algebra.specs.Given.{readGivenTree}
 use Rattle.algebra.specs.Layout.{layout}
 use Rattle.scoping.specs.Rename.{renameInGraphPattern}
 use Rattle.scoping.specs.Standardize.{Entry, entry, renamed}
@@ -14,7 +16,11 @@ unfoldable pub becomes : List Pair → Bytes → Bytes
 unfolding renamed
 becomes xs v = renamed (map (λ x. entry (x .first) (x .second)) xs) v
 
--- texts are checked in the order given: tree, mapping
+-- of a tree as it was read: texts are checked in the order given, tree, mapping
+abbrev pub renameRead : Reading Pattern → Bytes → Outcome
+renameRead tree pairs = then tree λ p. then (readPairs mapping pairs) λ xs. written (layout (renameInGraphPattern (becomes xs) p))
+
+-- docs/SPECIFICATION.md, "Operation by operation", rename, of given texts
 unfoldable pub renameOutcome : Bytes → Bytes → Outcome
-unfolding readTree readPairs layout renameInGraphPattern becomes
-renameOutcome tree pairs = then (readTree tree) λ p. then (readPairs mapping pairs) λ xs. written (layout (renameInGraphPattern (becomes xs) p))
+unfolding readGivenTree readPairs layout renameInGraphPattern becomes
+renameOutcome tree pairs = renameRead (readGivenTree tree) pairs

@@ -1,5 +1,6 @@
 // The call rename: a tree under the names that a mapping gives.
 use algebra::Answer as Check;
+use algebra::EMPTY_TREE;
 use algebra::ENTRIES;
 use answers::Answer;
 use checking::check::Noting;
@@ -28,6 +29,7 @@ ghost use Rattle.lists.specs.bridge.Pairs.{pairAt};
 ghost use Rattle.walking.specs.bridge.Code.{Named};
 ghost use Rattle.answers.specs.Outcome.{Answered};
 ghost use Rattle.renaming.specs.Rename.{renameOutcome};
+ghost use Rattle.renaming.specs.bridge.AsIs.{renameAsIs};
 ghost use Rattle.renaming.specs.bridge.Code.{Recorded, Renaming, KnownPairs, Targets, Settled, renamedSize};
 
 // A pair of the mapping: the entry of its first name, if that is in the table, gets the second.
@@ -118,7 +120,7 @@ fn rename_over(
     out: &mut [u8],
 ) -> Answer
     requires { ⌜ Renaming (now tree) (startsOf (now table)) (sizesOf (now table)) n (now spots) k (sizesOf (now news)) × Targets (namesIn (now tree) (now table) n) n (now mapping) (startsOf (now news)) (sizesOf (now news)) ⌝ }
-    ensures { λ r. ⌜ Answered (renameOutcome (now (tree .entry)) (now (mapping .entry))) (now (out .entry)) (now (out .exit)) r ⌝ }
+    ensures { λ r. ⌜ Answered (renameAsIs (now (tree .entry)) (now (mapping .entry))) (now (out .entry)) (now (out .exit)) r ⌝ }
 {
     if !is_room(tree, table, n, spots, k, mapping, news, out.len()) {
         return Answer::TooShort;
@@ -143,7 +145,7 @@ fn rename_by(
     out: &mut [u8],
 ) -> Answer
     requires { ⌜ Recorded (now tree) (startsOf (now table)) (sizesOf (now table)) (now hints) n (now spots) k (now words) (now nodes) m ⌝ }
-    ensures { λ r. ⌜ Answered (renameOutcome (now (tree .entry)) (now (mapping .entry))) (now (out .entry)) (now (out .exit)) r ⌝ }
+    ensures { λ r. ⌜ Answered (renameAsIs (now (tree .entry)) (now (mapping .entry))) (now (out .entry)) (now (out .exit)) r ⌝ }
 {
     let mut keys = [[0u16; 4]; ENTRIES];
     match check_mapping(mapping, &mut keys) {
@@ -167,7 +169,7 @@ fn rename_with(
     out: &mut [u8],
 ) -> Answer
     requires { ⌜ (length (now tree) ≤ 16384 → length (now tree) ≤ 3 * length (now spots)) × Roomy (now tree) (now nodes) ⌝ }
-    ensures { λ r. ⌜ Answered (renameOutcome (now (tree .entry)) (now (mapping .entry))) (now (out .entry)) (now (out .exit)) r ⌝ }
+    ensures { λ r. ⌜ Answered (renameAsIs (now (tree .entry)) (now (mapping .entry))) (now (out .entry)) (now (out .exit)) r ⌝ }
 {
     let words = all_words();
     let mut table = new_table();
@@ -193,9 +195,9 @@ fn rename_with(
     }
 }
 
-// rename: tree and mapping to tree. Spots and nodes are as many as pays: they are cleared first.
-pub fn rename(tree: &[u8], mapping: &[u8], out: &mut [u8]) -> Answer
-    ensures { λ r. ⌜ Answered (renameOutcome (now (tree .entry)) (now (mapping .entry))) (now (out .entry)) (now (out .exit)) r ⌝ }
+// A tree's text as it stands and a mapping to tree. Spots and nodes are as many as pays: they are cleared first.
+fn rename_text(tree: &[u8], mapping: &[u8], out: &mut [u8]) -> Answer
+    ensures { λ r. ⌜ Answered (renameAsIs (now (tree .entry)) (now (mapping .entry))) (now (out .entry)) (now (out .exit)) r ⌝ }
 {
     if tree.len() <= 384 {
         let mut spots = [[0u16; 3]; 128];
@@ -220,4 +222,14 @@ pub fn rename(tree: &[u8], mapping: &[u8], out: &mut [u8]) -> Answer
     let mut spots = [[0u16; 3]; 5462];
     let mut nodes = [[0u32; 3]; 2048];
     rename_with(tree, &mut spots, &mut nodes, mapping, out)
+}
+
+// rename: tree and mapping to tree; an empty file is read as its two lines.
+pub fn rename(tree: &[u8], mapping: &[u8], out: &mut [u8]) -> Answer
+    ensures { λ r. ⌜ Answered (renameOutcome (now (tree .entry)) (now (mapping .entry))) (now (out .entry)) (now (out .exit)) r ⌝ }
+{
+    if tree.len() == 0 {
+        return rename_text(&EMPTY_TREE, mapping, out);
+    }
+    rename_text(tree, mapping, out)
 }

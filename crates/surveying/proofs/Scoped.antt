@@ -22,7 +22,8 @@ use Rattle.walking.specs.bridge.Rewritten.{flagSpots}
 use Rattle.walking.proofs.Noted.{spotted-inside, flagged-tree}
 use Rattle.answers.specs.declared.Answer.the-variants.{Written, Malformed, OverBound, TooShort}
 use Rattle.answers.specs.Outcome.{written, Reported, Answered}
-use Rattle.surveying.specs.Scope.{scopeText, scopeOutcome}
+use Rattle.surveying.specs.Scope.{scopeText}
+use Rattle.surveying.specs.bridge.AsIs.{scopeAsIs}
 use Rattle.surveying.specs.bridge.Code.{Surveyed, chosenText}
 use Rattle.surveying.proofs.Tables.{known-valid, known-depth, known-few, known-names, known-named, known-lines}
 use Rattle.walking.proofs.Chosen.{chosen-in-scope, chosen-hidden}
@@ -48,22 +49,22 @@ module _ (s : Bytes) (a l : List ℕ) (n : ℕ) (spots : List (List ℕ)) (k : �
         (λ i. textOf ((bytes "in" ∷ chosen 0 (flags-are i) (known-names s a l (x .hints) n (x .known) i)) ∷ (bytes "hid" ∷ chosen 1024 (flags-are i) (known-names s a l (x .hints) n (x .known) i)) ∷ []))
         ∙ (λ i. textOf ((bytes "in" ∷ chosen-in-scope pattern v few i) ∷ (bytes "hid" ∷ chosen-hidden pattern v few i) ∷ []))
 
-    outcome-is : scopeOutcome s ≡ written (chosenText flags (listing s a l n))
-    unfolding scopeOutcome
+    outcome-is : scopeAsIs s ≡ written (chosenText flags (listing s a l n))
+    unfolding scopeAsIs
     outcome-is = rw (x .known .read) (ap written (sym text-is))
 
     module _ (out : Bytes) (need : ℕ) (tiny tiny′ : Bytes) (measure : em need tiny′ ≡ puts (chosenText flags (listing s a l n)) (em 0 tiny)) where
-      pub scope-short : length out < need → Answered (scopeOutcome s) out out TooShort
+      pub scope-short : length out < need → Answered (scopeAsIs s) out out TooShort
       scope-short h = answered _ _ out out TooShort outcome-is (too-short _ out need tiny tiny′ measure h)
 
-      pub scope-written : (size : ℕ) (out′ : Bytes) → need ≤ length out → length out < last → em size out′ ≡ puts (chosenText flags (listing s a l n)) (em 0 out) → Answered (scopeOutcome s) out out′ (Written size)
+      pub scope-written : (size : ℕ) (out′ : Bytes) → need ≤ length out → length out < last → em size out′ ≡ puts (chosenText flags (listing s a l n)) (em 0 out) → Answered (scopeAsIs s) out out′ (Written size)
       scope-written size out′ i j e = answered _ _ out out′ (Written size) outcome-is (all-written _ out need tiny tiny′ measure size out′ i j e)
 
 -- a tree that is refused
-pub scope-malformed : (s out : Bytes) → readTree s ≡ refuses malformed → Answered (scopeOutcome s) out out Malformed
-unfolding scopeOutcome Reported
+pub scope-malformed : (s out : Bytes) → readTree s ≡ refuses malformed → Answered (scopeAsIs s) out out Malformed
+unfolding scopeAsIs Reported
 scope-malformed s out e = rw e (refl, refl, refl)
 
-pub scope-over : (s out : Bytes) → readTree s ≡ refuses overBound → Answered (scopeOutcome s) out out OverBound
-unfolding scopeOutcome Reported
+pub scope-over : (s out : Bytes) → readTree s ≡ refuses overBound → Answered (scopeAsIs s) out out OverBound
+unfolding scopeAsIs Reported
 scope-over s out e = rw e (refl, refl, refl)

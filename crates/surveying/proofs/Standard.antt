@@ -10,8 +10,8 @@ use Rattle.text.specs.Word.{bytes}
 use Rattle.algebra.specs.Tree.{Pattern, bgp, service}
 use Rattle.algebra.specs.Valid.{mem, different}
 use Rattle.algebra.specs.Reader.{Outcome as Reading, reads, refuses}
-use Rattle.algebra.specs.Texts.{readTree}
-use Rattle.algebra.proofs.Theorem.{tree-exactly}
+use Rattle.algebra.specs.Given.{readGivenTree}
+use Rattle.algebra.proofs.Given.{tree-given}
 use Rattle.answers.specs.Outcome.{written, then}
 use Rattle.answers.proofs.Answers.{bytes-of}
 use Rattle.scoping.specs.Sets.{Alike, keep, variablesOf, tripleVariables}
@@ -23,13 +23,13 @@ use Rattle.surveying.specs.Scope.{scopeText, scopeOutcome}
 
 -- where scope writes bytes, its text is a tree's, and the names of the line `in` are the set in scope by section 18.2.1 of this tree with its services named by IRIs
 pub scope-standard : (tree b i : Bytes) → isIri i ≡ true → scopeOutcome tree ≡ written b
-    → (p : Pattern) × (names hidden : List Bytes) × (readTree tree ≡ reads p) × (b ≡ textOf ((bytes "in" ∷ names) ∷ (bytes "hid" ∷ hidden) ∷ []))
+    → (p : Pattern) × (names hidden : List Bytes) × (readGivenTree tree ≡ reads p) × (b ≡ textOf ((bytes "in" ∷ names) ∷ (bytes "hid" ∷ hidden) ∷ []))
     × Alike names (inScope (servicesNamed i p)) × (different names ≡ true)
 unfolding scopeOutcome scopeText
-scope-standard tree b i h e = go (readTree tree) refl e
+scope-standard tree b i h e = go (readGivenTree tree) refl e
   where
-    go : (o : Reading Pattern) → readTree tree ≡ o → then o (λ p. written (scopeText p)) ≡ written b
-        → (p : Pattern) × (names hidden : List Bytes) × (readTree tree ≡ reads p) × (b ≡ textOf ((bytes "in" ∷ names) ∷ (bytes "hid" ∷ hidden) ∷ []))
+    go : (o : Reading Pattern) → readGivenTree tree ≡ o → then o (λ p. written (scopeText p)) ≡ written b
+        → (p : Pattern) × (names hidden : List Bytes) × (readGivenTree tree ≡ reads p) × (b ≡ textOf ((bytes "in" ∷ names) ∷ (bytes "hid" ∷ hidden) ∷ []))
         × Alike names (inScope (servicesNamed i p)) × (different names ≡ true)
     go (refuses n) r e = let z : _≡_ {A = ℕ} 0 1 = cc in absurd (omega arith)
     go (reads p) r e = (
@@ -38,7 +38,7 @@ scope-standard tree b i h e = go (readTree tree) refl e
       hiddenByPlace p,
       r,
       sym (bytes-of (scopeText p) b e),
-      (λ v. numbered-in-scope p (tree-exactly tree p .0 r .1) v ∙ ap (mem v) (in-scope-standard i h p)),
+      (λ v. numbered-in-scope p (tree-given tree p r .valid) v ∙ ap (mem v) (in-scope-standard i h p)),
       in-scope-once p,
     )
 

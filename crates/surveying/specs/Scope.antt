@@ -3,7 +3,8 @@ use mathlib.Core.List.{[], _∷_}
 use Rattle.text.specs.Text.{Bytes, textOf}
 use Rattle.text.specs.Word.{bytes}
 use Rattle.algebra.specs.Tree.{Pattern}
-use Rattle.algebra.specs.Texts.{readTree}
+use Rattle.algebra.specs.Reader.{Outcome as Reading}
+use Rattle.algebra.specs.Given.{readGivenTree}
 use Rattle.scoping.specs.Numbering.{inScopeByPlace, hiddenByPlace}
 use Rattle.answers.specs.Outcome.{Outcome, written, then}
 
@@ -12,6 +13,11 @@ unfoldable pub scopeText : Pattern → Bytes
 unfolding textOf inScopeByPlace hiddenByPlace
 scopeText p = textOf ((bytes "in" ∷ inScopeByPlace p) ∷ (bytes "hid" ∷ hiddenByPlace p) ∷ [])
 
+-- of a tree as it was read
+abbrev pub scopeRead : Reading Pattern → Outcome
+scopeRead tree = then tree λ p. written (scopeText p)
+
+-- docs/SPECIFICATION.md, "Operation by operation", scope, of a given text
 unfoldable pub scopeOutcome : Bytes → Outcome
-unfolding readTree scopeText
-scopeOutcome tree = then (readTree tree) λ p. written (scopeText p)
+unfolding readGivenTree scopeText
+scopeOutcome tree = scopeRead (readGivenTree tree)

@@ -1,4 +1,5 @@
 // The call scope: the variables of a tree that are in scope, and those that are hidden.
+use algebra::EMPTY_TREE;
 use answers::Answer;
 use checking::check::Noting;
 use emit::put;
@@ -22,6 +23,7 @@ ghost use Rattle.names.specs.bridge.Names.{startsOf, sizesOf, namesIn, nameIn};
 ghost use Rattle.emit.specs.bridge.Emit.{em, puts};
 ghost use Rattle.answers.specs.Outcome.{Answered};
 ghost use Rattle.surveying.specs.Scope.{scopeOutcome};
+ghost use Rattle.surveying.specs.bridge.AsIs.{scopeAsIs};
 ghost use Rattle.scoping.specs.bridge.Becomes.{chosen};
 ghost use Rattle.surveying.specs.bridge.Code.{Surveyed, chosenText, tabbed};
 
@@ -101,7 +103,7 @@ fn scope_of(
     out: &mut [u8],
 ) -> Answer
     requires { ⌜ Surveyed (now tree) (startsOf (now table)) (sizesOf (now table)) n (now spots) k ⌝ }
-    ensures { λ r. ⌜ Answered (scopeOutcome (now (tree .entry))) (now (out .entry)) (now (out .exit)) r ⌝ }
+    ensures { λ r. ⌜ Answered (scopeAsIs (now (tree .entry))) (now (out .entry)) (now (out .exit)) r ⌝ }
 {
     let mut flags = [0u8; 2048];
     note_places(spots, k, &mut flags);
@@ -117,7 +119,7 @@ fn scope_of(
 // The same for any text, where the spots have room for all that a text within the bounds can have. Lines aren't noted.
 fn scope_over(tree: &[u8], spots: &mut [Spot], out: &mut [u8]) -> Answer
     requires { ⌜ (length (now tree) ≤ 16384 → length (now tree) ≤ 3 * length (now spots)) ⌝ }
-    ensures { λ r. ⌜ Answered (scopeOutcome (now (tree .entry))) (now (out .entry)) (now (out .exit)) r ⌝ }
+    ensures { λ r. ⌜ Answered (scopeAsIs (now (tree .entry))) (now (out .entry)) (now (out .exit)) r ⌝ }
 {
     let words = all_words();
     let mut table = new_table();
@@ -130,9 +132,9 @@ fn scope_over(tree: &[u8], spots: &mut [Spot], out: &mut [u8]) -> Answer
     }
 }
 
-// scope: tree to the lines `in` and `hid`. The spots are as many as pays: they are cleared first.
-pub fn scope(tree: &[u8], out: &mut [u8]) -> Answer
-    ensures { λ r. ⌜ Answered (scopeOutcome (now (tree .entry))) (now (out .entry)) (now (out .exit)) r ⌝ }
+// A tree's text as it stands to the lines `in` and `hid`. The spots are as many as pays: they are cleared first.
+fn scope_text(tree: &[u8], out: &mut [u8]) -> Answer
+    ensures { λ r. ⌜ Answered (scopeAsIs (now (tree .entry))) (now (out .entry)) (now (out .exit)) r ⌝ }
 {
     if tree.len() <= 768 {
         let mut spots = [[0u16; 3]; 256];
@@ -148,4 +150,14 @@ pub fn scope(tree: &[u8], out: &mut [u8]) -> Answer
     }
     let mut spots = [[0u16; 3]; 5462];
     scope_over(tree, &mut spots, out)
+}
+
+// scope: tree to the lines `in` and `hid`; an empty file is read as its two lines.
+pub fn scope(tree: &[u8], out: &mut [u8]) -> Answer
+    ensures { λ r. ⌜ Answered (scopeOutcome (now (tree .entry))) (now (out .entry)) (now (out .exit)) r ⌝ }
+{
+    if tree.len() == 0 {
+        return scope_text(&EMPTY_TREE, out);
+    }
+    scope_text(tree, out)
 }
