@@ -1,6 +1,6 @@
 -- What bindings needs: its tree and 65 times its sets, as a position with the byte behind it takes 2 bytes at least and a column 130 at most. Assumes nothing.
 use Prim.Native.Nat.{ℕ, _+_, _*_, _≤_}
-use mathlib.Core.Path.{_≡_, ap}
+use mathlib.Core.Path.{_≡_, sym, ap, subst}
 use mathlib.Core.List.{List, [], _∷_, map}
 use native.Mathlib.Omega.{arith}
 use lib.ListN.{length}
@@ -14,15 +14,18 @@ use Rattle.algebra.specs.Bounded.{layoutSets}
 use Rattle.algebra.specs.Texts.{readTree, readSets}
 use Rattle.algebra.specs.Valid.{AllFit, Valid, ValidSets}
 use Rattle.algebra.proofs.Theorem.{tree-exactly, sets-exactly}
+use Rattle.algebra.proofs.Given.{treeText, text-longer}
 use Rattle.scoping.specs.Premises.{columnsAt}
 use Rattle.merging.specs.Request.{position}
 use Rattle.merging.proofs.Lists.{map-length}
 use Rattle.negating.specs.Projections.{outermostProjection}
 use Rattle.filtering.specs.IfFound.{ifFound}
 use Rattle.filtering.specs.Bindings.{cellOf, boundVariables, valuesOf, joinedWithValues, patternWithBindings, positionsInside, valuesUsable, bindingsOutcome}
+use Rattle.filtering.specs.bridge.AsIs.{bindingsAsIs}
+use Rattle.filtering.proofs.Given.{bindings-given}
 use Rattle.filtering.proofs.Valid.{bound-length}
 use Rattle.room.specs.Room.{bindingsRoom}
-use Rattle.room.proofs.Enough.{Enough, then-enough, test-enough}
+use Rattle.room.proofs.Enough.{Enough, then-enough, test-enough, enough-more}
 use Rattle.walking.proofs.Sizes.{width, size, text-size, tree-size}
 use Rattle.walking.proofs.Fields.{column-short, integer-some}
 use Rattle.room.proofs.Added.{put-same}
@@ -71,13 +74,20 @@ sets-size : (xs : List BindingSet) → length (layoutSets xs) ≡ size (putSets 
 unfolding layoutSets
 sets-size xs = text-size (putSets xs [])
 
-pub bindings-enough : (tree sets : Bytes) → Enough (bindingsRoom (length tree) (length sets)) (bindingsOutcome tree sets)
-unfolding bindingsOutcome bindingsRoom Enough
+-- of a tree's text as it stands
+pub bindings-enough : (tree sets : Bytes) → Enough (length tree + 65 * length sets) (bindingsAsIs tree sets)
+unfolding bindingsAsIs Enough
 bindings-enough tree sets =
-    let room = bindingsRoom (length tree) (length sets) in
+    let room = length tree + 65 * length sets in
     then-enough room (readTree tree) _ λ p e. then-enough room (readSets sets) _ λ xs i.
     test-enough room 3 (ifFound (outermostProjection p) λ cs. positionsInside cs xs) _ (λ z. omega arith) λ a.
     test-enough room 7 (ifFound (outermostProjection p) λ cs. valuesUsable xs) _ (λ z. omega arith) λ b.
     let y = tree-exactly tree p .0 e in
     let z = sets-exactly sets xs .0 i in
     omega (arith, with-bindings-size p xs (y .1) (z .1), tree-size p, tree-size (patternWithBindings p xs), ap length (y .0), sets-size xs, ap length (z .0))
+
+-- of a file that may be empty
+pub bindings-given-enough : (tree sets : Bytes) → Enough (bindingsRoom (length tree) (length sets)) (bindingsOutcome tree sets)
+unfolding bindingsRoom
+bindings-given-enough tree sets = subst (Enough (length tree + 65 * length sets + 14)) (sym (bindings-given tree sets))
+    (enough-more (length (treeText tree) + 65 * length sets) (length tree + 65 * length sets + 14) (bindingsAsIs (treeText tree) sets) (omega (arith, text-longer tree)) (bindings-enough (treeText tree) sets))

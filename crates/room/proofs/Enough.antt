@@ -35,6 +35,11 @@ test-enough room n false o h f = h
 
 -- ---- what follows
 
+pub enough-more : (less more : ℕ) (o : Outcome) → less ≤ more → Enough less o → Enough more o
+unfolding Enough
+enough-more less more (refused k) l h = h
+enough-more less more (written b) l h = omega arith
+
 pub written-fits : (room : ℕ) (o : Outcome) (b : Bytes) → Enough room o → o ≡ written b → length b ≤ room
 unfolding Enough
 written-fits room o b h e = subst (Enough room) e h

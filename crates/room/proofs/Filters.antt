@@ -12,9 +12,11 @@ use Rattle.algebra.specs.Tree.{Pattern, Expression}
 use Rattle.algebra.specs.Query.{Filter}
 use Rattle.algebra.specs.Layout.{put, putE, putArity, putFilter, putFilters}
 use Rattle.algebra.specs.Bounded.{layoutFilters}
-use Rattle.algebra.specs.Texts.{readTree, readFilters}
+use Rattle.algebra.specs.Given.{readGivenTree}
+use Rattle.algebra.specs.Texts.{readFilters}
 use Rattle.algebra.specs.Valid.{AllFit, Valid, ValidFilter, ValidFilters}
-use Rattle.algebra.proofs.Theorem.{tree-exactly, filters-exactly}
+use Rattle.algebra.proofs.Given.{tree-given}
+use Rattle.algebra.proofs.Theorem.{filters-exactly}
 use Rattle.scoping.specs.Sets.{all}
 use Rattle.negating.specs.Projections.{outermostProjection}
 use Rattle.filtering.specs.IfFound.{ifFound}
@@ -72,8 +74,8 @@ pub filters-enough : (tree filters : Bytes) → Enough (filtersRoom (length tree
 unfolding filtersOutcome filtersRoom Enough
 filters-enough tree filters =
     let room = filtersRoom (length tree) (length filters) in
-    then-enough room (readTree tree) _ λ p e. then-enough room (readFilters filters) _ λ fs i.
+    then-enough room (readGivenTree tree) _ λ p e. then-enough room (readFilters filters) _ λ fs i.
     test-enough room 3 (ifFound (outermostProjection p) λ cs. all (referencesInside cs) fs) _ (λ z. omega arith) λ a.
-    let y = tree-exactly tree p .0 e in
+    let y = tree-given tree p e in
     let z = filters-exactly filters fs .0 i in
-    omega (arith, with-filters-size p fs (y .1) (z .1), tree-size p, tree-size (patternWithFilters p fs .pattern), ap length (y .0), filters-size fs, ap length (z .0))
+    omega (arith, with-filters-size p fs (y .valid) (z .1), tree-size p, tree-size (patternWithFilters p fs .pattern), y .size, filters-size fs, ap length (z .0))

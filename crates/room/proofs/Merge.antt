@@ -12,10 +12,10 @@ use Rattle.algebra.specs.Query.{Query}
 use Rattle.algebra.specs.Layout.{put, layout}
 use Rattle.algebra.specs.Reader.{reads}
 use Rattle.algebra.specs.Bounded.{layoutQuery}
-use Rattle.algebra.specs.Texts.{readTree, readQuery}
+use Rattle.algebra.specs.Given.{readGivenTree, readGivenQuery}
 use Rattle.algebra.specs.Valid.{Valid, mem}
-use Rattle.algebra.proofs.Theorem.{tree-exactly, query-exactly}
 use Rattle.algebra.specs.Tally.{bounds}
+use Rattle.algebra.proofs.Given.{tree-given, query-given}
 use Rattle.answers.specs.Outcome.{Outcome, written}
 use Rattle.scoping.specs.Label.{prefixL, prefixR}
 use Rattle.scoping.specs.Numbering.{byPlace}
@@ -28,7 +28,7 @@ use Rattle.merging.specs.Asked.{Lists}
 use Rattle.merging.specs.bridge.Twice.{noneTwice}
 use Rattle.merging.proofs.Given.{project-of, sides-merged}
 use Rattle.merging.proofs.Lists.{map-length, joins-few}
-use Rattle.merging.proofs.Others.{tree-valid, tree-names}
+use Rattle.merging.proofs.Others.{given-valid, given-names}
 use Rattle.merging.proofs.TreeRead.{TreeRead, tree-read}
 use Rattle.room.specs.Room.{mergeRoom}
 use Rattle.room.proofs.Enough.{Enough, then-enough, some-enough, test-enough}
@@ -78,10 +78,10 @@ pub merge-patterns-enough : (left right pairs leftConstants rightConstants : Byt
 unfolding mergePatternsOutcome mergeRoom Enough
 merge-patterns-enough left right pairs leftConstants rightConstants =
     let room = mergeRoom (length left) (length right) (length leftConstants) (length rightConstants) in
-    then-enough room (readTree left) _ λ p e. then-enough room (readTree right) _ λ q h.
+    then-enough room (readGivenTree left) _ λ p e. then-enough room (readGivenTree right) _ λ q h.
     lists-enough room pairs leftConstants rightConstants _ λ js ks ls says. merge-trees-enough room p q js ks ls (λ t. written (layout t)) λ l r x y i.
-    let lt : readTree left ≡ reads (tree l) = e ∙ ap reads x in
-    let rt : readTree right ≡ reads (tree r) = h ∙ ap reads y in
+    let lt : readGivenTree left ≡ reads (tree l) = e ∙ ap reads x in
+    let rt : readGivenTree right ≡ reads (tree r) = h ∙ ap reads y in
     let m = request l r js ks ls in
     omega (
       arith,
@@ -89,20 +89,20 @@ merge-patterns-enough left right pairs leftConstants rightConstants =
       tree-size (mergeProjectPatterns m),
       tree-size (tree l),
       tree-size (tree r),
-      ap length (tree-exactly left (tree l) .0 lt .0),
-      ap length (tree-exactly right (tree r) .0 rt .0),
+      tree-given left (tree l) lt .size,
+      tree-given right (tree r) rt .size,
     )
 
 -- ---- queries
 
-pub query-tree : (s : Bytes) (q : Query) (x : Projection) → readQuery s ≡ reads q → q .tree ≡ tree x → TreeRead x
-query-tree s q x e t = record { valid = subst Valid t (tree-valid s q e); names = subst (λ (p : Pattern). length (byPlace p) ≤ 1024) t (tree-names s q e) }
+pub query-tree : (s : Bytes) (q : Query) (x : Projection) → readGivenQuery s ≡ reads q → q .tree ≡ tree x → TreeRead x
+query-tree s q x e t = record { valid = subst Valid t (given-valid s q e); names = subst (λ (p : Pattern). length (byPlace p) ≤ 1024) t (given-names s q e) }
 
 pub merge-queries-enough : (left right pairs leftConstants rightConstants : Bytes) → Enough (mergeRoom (length left) (length right) (length leftConstants) (length rightConstants)) (mergeQueriesOutcome left right pairs leftConstants rightConstants)
 unfolding mergeQueriesOutcome mergeRoom Enough
 merge-queries-enough left right pairs leftConstants rightConstants =
     let room = mergeRoom (length left) (length right) (length leftConstants) (length rightConstants) in
-    then-enough room (readQuery left) _ λ a e. then-enough room (readQuery right) _ λ b h.
+    then-enough room (readGivenQuery left) _ λ a e. then-enough room (readGivenQuery right) _ λ b h.
     lists-enough room pairs leftConstants rightConstants _ λ js ks ls says. test-enough room 5 (mergeable a b) _ (λ z. omega arith) λ t.
     merge-trees-enough room (a .tree) (b .tree) js ks ls (λ p. written (layoutQuery (over a p))) λ l r x y i.
     let m = request l r js ks ls in
@@ -115,6 +115,6 @@ merge-queries-enough left right pairs leftConstants rightConstants =
       query-size b,
       ap (λ (p : Pattern). size (put p [])) x,
       ap (λ (p : Pattern). size (put p [])) y,
-      ap length (query-exactly left a .0 e .0),
-      ap length (query-exactly right b .0 h .0),
+      query-given left a e .size,
+      query-given right b h .size,
     )

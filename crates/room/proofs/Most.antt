@@ -9,8 +9,10 @@ use Rattle.algebra.specs.Tree.{Pattern}
 use Rattle.algebra.specs.Query as Kinds
 use Rattle.algebra.specs.Query.{Query, BindingSet, Filter}
 use Rattle.algebra.specs.Reader.{reads}
-use Rattle.algebra.specs.Texts.{readTree, readQuery, readPairs, readSets, readFilters}
-use Rattle.algebra.proofs.Theorem.{tree-exactly, query-exactly, pairs-exactly, sets-exactly, filters-exactly}
+use Rattle.algebra.specs.Given.{readGivenTree, readGivenQuery}
+use Rattle.algebra.specs.Texts.{readPairs, readSets, readFilters}
+use Rattle.algebra.proofs.Given.{tree-given, query-given}
+use Rattle.algebra.proofs.Theorem.{pairs-exactly, sets-exactly, filters-exactly}
 use Rattle.answers.specs.Outcome.{Outcome, refused, written}
 use Rattle.merging.specs.Sides.{Constant}
 use Rattle.merging.specs.Request.{constantsIn, byPosition, readJoins, readConstants}
@@ -29,16 +31,16 @@ use Rattle.room.proofs.Rename.{rename-enough}
 use Rattle.room.proofs.Merge.{merge-patterns-enough, merge-queries-enough}
 use Rattle.room.proofs.Push.{push-enough}
 use Rattle.room.proofs.Negate.{negate-enough}
-use Rattle.room.proofs.Bindings.{bindings-enough}
+use Rattle.room.proofs.Bindings.{bindings-given-enough}
 use Rattle.room.proofs.Filters.{filters-enough}
 
 -- ---- texts that are read
 
-tree-short : (s : Bytes) (p : Pattern) → readTree s ≡ reads p → length s ≤ longest
-tree-short s p e = let y = tree-exactly s p .0 e in omega (arith, y .2 .bytes, ap length (y .0))
+tree-short : (s : Bytes) (p : Pattern) → readGivenTree s ≡ reads p → length s ≤ longest
+tree-short s p e = tree-given s p e .bytes
 
-query-short : (s : Bytes) (q : Query) → readQuery s ≡ reads q → length s ≤ longest
-query-short s q e = let y = query-exactly s q .0 e in omega (arith, y .2 .bytes, ap length (y .0))
+query-short : (s : Bytes) (q : Query) → readGivenQuery s ≡ reads q → length s ≤ longest
+query-short s q e = query-given s q e .bytes
 
 sets-short : (s : Bytes) (xs : List BindingSet) → readSets s ≡ reads xs → length s ≤ longest
 sets-short s xs e = let y = sets-exactly s xs .0 e in omega (arith, y .2 .bytes, ap length (y .0))
@@ -64,39 +66,39 @@ most-suffices less more (written b) h f = suffices more (written b) (omega (arit
 pub scope-most : (tree : Bytes) → Suffices (scopeRoom longest) (scopeOutcome tree)
 unfolding scopeOutcome scopeRoom
 scope-most tree = most-suffices (scopeRoom (length tree)) (scopeRoom longest) (scopeOutcome tree) (scope-enough tree) λ b e.
-    let x = then-written (readTree tree) _ b e in
+    let x = then-written (readGivenTree tree) _ b e in
     omega (arith, tree-short tree (x .0) (x .1))
 
 pub rename-most : (tree mapping : Bytes) → Suffices (renameRoom longest) (renameOutcome tree mapping)
 unfolding renameOutcome renameRoom
 rename-most tree mapping = most-suffices (renameRoom (length tree)) (renameRoom longest) (renameOutcome tree mapping) (rename-enough tree mapping) λ b e.
-    let x = then-written (readTree tree) _ b e in
+    let x = then-written (readGivenTree tree) _ b e in
     omega (arith, tree-short tree (x .0) (x .1))
 
 pub negate-most : (query : Bytes) → Suffices (negateRoom longest) (negateOutcome query)
 unfolding negateOutcome negateRoom
 negate-most query = most-suffices (negateRoom (length query)) (negateRoom longest) (negateOutcome query) (negate-enough query) λ b e.
-    let x = then-written (readQuery query) _ b e in
+    let x = then-written (readGivenQuery query) _ b e in
     omega (arith, query-short query (x .0) (x .1))
 
 pub push-most : (query constants : Bytes) → Suffices (pushRoom longest longest) (pushConstantsOutcome query constants)
 unfolding pushConstantsOutcome pushRoom
 push-most query constants = most-suffices (pushRoom (length query) (length constants)) (pushRoom longest longest) (pushConstantsOutcome query constants) (push-enough query constants) λ b e.
-    let x = then-written (readQuery query) _ b e in
+    let x = then-written (readGivenQuery query) _ b e in
     let y = then-written (readConstants constants) _ b (x .2) in
     omega (arith, query-short query (x .0) (x .1), constants-short constants (y .0) (y .1))
 
 pub bindings-most : (tree sets : Bytes) → Suffices (bindingsRoom longest longest) (bindingsOutcome tree sets)
 unfolding bindingsOutcome bindingsRoom
-bindings-most tree sets = most-suffices (bindingsRoom (length tree) (length sets)) (bindingsRoom longest longest) (bindingsOutcome tree sets) (bindings-enough tree sets) λ b e.
-    let x = then-written (readTree tree) _ b e in
+bindings-most tree sets = most-suffices (bindingsRoom (length tree) (length sets)) (bindingsRoom longest longest) (bindingsOutcome tree sets) (bindings-given-enough tree sets) λ b e.
+    let x = then-written (readGivenTree tree) _ b e in
     let y = then-written (readSets sets) _ b (x .2) in
     omega (arith, tree-short tree (x .0) (x .1), sets-short sets (y .0) (y .1))
 
 pub filters-most : (tree filters : Bytes) → Suffices (filtersRoom longest longest) (filtersOutcome tree filters)
 unfolding filtersOutcome filtersRoom
 filters-most tree filters = most-suffices (filtersRoom (length tree) (length filters)) (filtersRoom longest longest) (filtersOutcome tree filters) (filters-enough tree filters) λ b e.
-    let x = then-written (readTree tree) _ b e in
+    let x = then-written (readGivenTree tree) _ b e in
     let y = then-written (readFilters filters) _ b (x .2) in
     omega (arith, tree-short tree (x .0) (x .1), filters-short filters (y .0) (y .1))
 
@@ -110,8 +112,8 @@ module _ (left right pairs leftConstants rightConstants : Bytes) where
   pub merge-patterns-most : Suffices (mergeRoom longest longest longest longest) (mergePatternsOutcome left right pairs leftConstants rightConstants)
   unfolding mergePatternsOutcome mergeRoom
   merge-patterns-most = most-suffices own most (mergePatternsOutcome left right pairs leftConstants rightConstants) (merge-patterns-enough left right pairs leftConstants rightConstants) λ b e.
-      let x = then-written (readTree left) _ b e in
-      let y = then-written (readTree right) _ b (x .2) in
+      let x = then-written (readGivenTree left) _ b e in
+      let y = then-written (readGivenTree right) _ b (x .2) in
       let z = then-written (readJoins pairs) _ b (y .2) in
       let u = then-written (readConstants leftConstants) _ b (z .2) in
       let v = then-written (readConstants rightConstants) _ b (u .2) in
@@ -120,8 +122,8 @@ module _ (left right pairs leftConstants rightConstants : Bytes) where
   pub merge-queries-most : Suffices (mergeRoom longest longest longest longest) (mergeQueriesOutcome left right pairs leftConstants rightConstants)
   unfolding mergeQueriesOutcome mergeRoom
   merge-queries-most = most-suffices own most (mergeQueriesOutcome left right pairs leftConstants rightConstants) (merge-queries-enough left right pairs leftConstants rightConstants) λ b e.
-      let x = then-written (readQuery left) _ b e in
-      let y = then-written (readQuery right) _ b (x .2) in
+      let x = then-written (readGivenQuery left) _ b e in
+      let y = then-written (readGivenQuery right) _ b (x .2) in
       let z = then-written (readJoins pairs) _ b (y .2) in
       let u = then-written (readConstants leftConstants) _ b (z .2) in
       let v = then-written (readConstants rightConstants) _ b (u .2) in

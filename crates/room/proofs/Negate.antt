@@ -11,13 +11,13 @@ use Rattle.algebra.specs.Tree.{NOT, Pattern, bgp, filter, exists, apply, eend, 
 use Rattle.algebra.specs.Query.{Query}
 use Rattle.algebra.specs.Layout.{put, putTriples, putArity}
 use Rattle.algebra.specs.Bounded.{layoutQuery}
-use Rattle.algebra.specs.Texts.{readQuery}
+use Rattle.algebra.specs.Given.{readGivenQuery}
 use Rattle.algebra.specs.Valid.{Valid}
-use Rattle.algebra.proofs.Theorem.{query-exactly}
+use Rattle.algebra.proofs.Given.{query-given}
 use Rattle.answers.specs.Outcome.{written}
 use Rattle.merging.specs.Merge.{isSelectOrAsk, over}
 use Rattle.merging.specs.Negate.{negateProjectPattern, negateQuery, negateOutcome}
-use Rattle.merging.proofs.Others.{tree-valid}
+use Rattle.merging.proofs.Others.{given-valid}
 use Rattle.room.specs.Room.{negateRoom}
 use Rattle.room.proofs.Enough.{Enough, then-enough}
 use Rattle.walking.proofs.Sizes.{width, size, query-size}
@@ -37,5 +37,5 @@ negated q v = go (isSelectOrAsk (q .kind))
 
 pub negate-enough : (query : Bytes) → Enough (negateRoom (length query)) (negateOutcome query)
 unfolding negateOutcome negateRoom Enough
-negate-enough query = then-enough (negateRoom (length query)) (readQuery query) (λ q. written (layoutQuery (negateQuery q))) λ q e.
-    omega (arith, negated q (tree-valid query q e), ap length (query-exactly query q .0 e .0))
+negate-enough query = then-enough (negateRoom (length query)) (readGivenQuery query) (λ q. written (layoutQuery (negateQuery q))) λ q e.
+    omega (arith, negated q (given-valid query q e), query-given query q e .size)

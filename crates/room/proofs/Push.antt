@@ -12,8 +12,8 @@ use Rattle.algebra.specs.Query.{Query}
 use Rattle.algebra.specs.Layout.{put}
 use Rattle.algebra.specs.Reader.{reads}
 use Rattle.algebra.specs.Bounded.{layoutQuery}
-use Rattle.algebra.specs.Texts.{readQuery}
-use Rattle.algebra.proofs.Theorem.{query-exactly}
+use Rattle.algebra.specs.Given.{readGivenQuery}
+use Rattle.algebra.proofs.Given.{query-given}
 use Rattle.answers.specs.Outcome.{written}
 use Rattle.scoping.specs.Label.{prefixV}
 use Rattle.scoping.specs.Premises.{inside}
@@ -33,18 +33,18 @@ pushed-size : (x : Projection) (ks : List Constant) (s : Bytes) → TreeRead x �
 unfolding pushConstantsInProjectPattern put size width
 pushed-size x ks s a e i = omega (arith, side-size prefixV x [] ks s (a .valid) (a .names) (omega arith) e i)
 
-module _ (query constants : Bytes) (q : Query) (ks : List Constant) (read : readQuery query ≡ reads q) (listed : readConstants constants ≡ reads ks) where
+module _ (query constants : Bytes) (q : Query) (ks : List Constant) (read : readGivenQuery query ≡ reads q) (listed : readConstants constants ≡ reads ks) where
   -- a query that is copied
   copied-enough : Enough (pushRoom (length query) (length constants)) (written (layoutQuery q))
   unfolding pushRoom Enough
-  copied-enough = omega (arith, ap length (query-exactly query q .0 read .0))
+  copied-enough = omega (arith, query-given query q read .size)
 
   root-enough : (o : Option Projection) → asProject (q .tree) ≡ o → Enough (pushRoom (length query) (length constants)) (pushed q ks o)
   unfolding pushed pushRoom Enough
   root-enough none e = copied-enough
   root-enough (some x) e = test-enough (pushRoom (length query) (length constants)) 3 (inside (x .columns) (positions ks)) (written (layoutQuery (over q (pushConstantsInProjectPattern x ks)))) (λ z. omega arith) λ i.
       let t = project-of (q .tree) x e in
-      omega (arith, pushed-size x ks constants (query-tree query q x read t) listed i, query-size (over q (pushConstantsInProjectPattern x ks)), query-size q, ap (λ (p : Pattern). size (put p [])) t, ap length (query-exactly query q .0 read .0))
+      omega (arith, pushed-size x ks constants (query-tree query q x read t) listed i, query-size (over q (pushConstantsInProjectPattern x ks)), query-size q, ap (λ (p : Pattern). size (put p [])) t, query-given query q read .size)
 
   kind-enough : (t : Bool) → Enough (pushRoom (length query) (length constants)) (cond t (pushed q ks (asProject (q .tree))) (written (layoutQuery q)))
   kind-enough true = root-enough (asProject (q .tree)) refl
@@ -54,4 +54,4 @@ pub push-enough : (query constants : Bytes) → Enough (pushRoom (length query) 
 unfolding pushConstantsOutcome pushConstants
 push-enough query constants =
     let room = pushRoom (length query) (length constants) in
-    then-enough room (readQuery query) _ λ q e. then-enough room (readConstants constants) _ λ ks h. kind-enough query constants q ks e h (isSelectOrAsk (q .kind))
+    then-enough room (readGivenQuery query) _ λ q e. then-enough room (readConstants constants) _ λ ks h. kind-enough query constants q ks e h (isSelectOrAsk (q .kind))

@@ -1,6 +1,6 @@
--- What scope needs: one byte more than its tree. Assumes nothing.
+-- What scope needs: one byte more than its tree, and 7 bytes for an empty file. Assumes nothing.
 use Prim.Native.Nat.{ℕ, suc, _+_, _≤_}
-use mathlib.Core.Path.{sym, ap, _∙_}
+use mathlib.Core.Path.{sym, ap, subst, _∙_}
 use mathlib.Core.Bool.{Bool, cond}
 use mathlib.Core.List.{List, [], _∷_}
 use native.Mathlib.Omega.{arith}
@@ -21,8 +21,10 @@ use Rattle.scoping.proofs.Sets.{mem-keep}
 use Rattle.scoping.proofs.Walked.{visible-in-scope, covered-hidden}
 use Rattle.scoping.proofs.Numbered.{in-scope-once, hidden-once}
 use Rattle.surveying.specs.Scope.{scopeText, scopeOutcome}
+use Rattle.surveying.specs.bridge.AsIs.{scopeAsIs}
+use Rattle.surveying.proofs.Given.{scope-given, scope-empty}
 use Rattle.room.specs.Room.{scopeRoom}
-use Rattle.room.proofs.Enough.{Enough, then-enough}
+use Rattle.room.proofs.Enough.{Enough, then-enough, enough-more}
 use Rattle.walking.proofs.Sizes.{width, size, text-size, tree-size}
 use Rattle.room.proofs.Names.{once-width}
 use Rattle.room.proofs.Spread.{spread, spread-size}
@@ -58,7 +60,14 @@ unfolding scopeText size width visibleNames hiddenNames
 scope-size p =
     omega (arith, text-size ((bytes "in" ∷ inScopeByPlace p) ∷ (bytes "hid" ∷ hiddenByPlace p) ∷ []), in-scope-width p, hidden-width p, sets-apart (places p visible), spread-size p visible [])
 
-pub scope-enough : (tree : Bytes) → Enough (scopeRoom (length tree)) (scopeOutcome tree)
-unfolding scopeOutcome scopeRoom Enough
-scope-enough tree = then-enough (scopeRoom (length tree)) (readTree tree) (λ p. written (scopeText p)) λ p e.
+-- of a text as it stands, one byte more than the text
+as-it-stands : (tree : Bytes) → Enough (length tree + 1) (scopeAsIs tree)
+unfolding scopeAsIs Enough
+as-it-stands tree = then-enough (length tree + 1) (readTree tree) (λ p. written (scopeText p)) λ p e.
     omega (arith, scope-size p, tree-size p, ap length (tree-exactly tree p .0 e .0))
+
+-- of an empty file, the two words
+pub scope-enough : (tree : Bytes) → Enough (scopeRoom (length tree)) (scopeOutcome tree)
+unfolding scopeRoom Enough
+scope-enough [] = subst (Enough 7) (sym scope-empty) (omega arith)
+scope-enough (b ∷ s) = subst (Enough (scopeRoom (length (b ∷ s)))) (sym (scope-given (b ∷ s))) (enough-more (length (b ∷ s) + 1) (length (b ∷ s) + 7) (scopeAsIs (b ∷ s)) (omega arith) (as-it-stands (b ∷ s)))

@@ -18,7 +18,7 @@ use Rattle.room.proofs.Rename.{rename-enough}
 use Rattle.room.proofs.Merge.{merge-patterns-enough, merge-queries-enough}
 use Rattle.room.proofs.Push.{push-enough}
 use Rattle.room.proofs.Negate.{negate-enough}
-use Rattle.room.proofs.Bindings.{bindings-enough}
+use Rattle.room.proofs.Bindings.{bindings-given-enough}
 use Rattle.room.proofs.Filters.{filters-enough}
 
 -- ---- scope
@@ -74,10 +74,10 @@ negate-never-short query = suffices (negateRoom (length query)) (negateOutcome q
 -- ---- bindings
 
 pub bindings-room : (tree sets b : Bytes) → bindingsOutcome tree sets ≡ written b → length b ≤ bindingsRoom (length tree) (length sets)
-bindings-room tree sets b e = written-fits (bindingsRoom (length tree) (length sets)) (bindingsOutcome tree sets) b (bindings-enough tree sets) e
+bindings-room tree sets b e = written-fits (bindingsRoom (length tree) (length sets)) (bindingsOutcome tree sets) b (bindings-given-enough tree sets) e
 
 pub bindings-never-short : (tree sets : Bytes) → Suffices (bindingsRoom (length tree) (length sets)) (bindingsOutcome tree sets)
-bindings-never-short tree sets = suffices (bindingsRoom (length tree) (length sets)) (bindingsOutcome tree sets) (bindings-enough tree sets)
+bindings-never-short tree sets = suffices (bindingsRoom (length tree) (length sets)) (bindingsOutcome tree sets) (bindings-given-enough tree sets)
 
 -- ---- filters
 

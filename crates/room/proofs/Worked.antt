@@ -13,12 +13,14 @@ use Rattle.algebra.specs.Tally.{notes, noted, headed, within, tallyTriples, tal
 use Rattle.algebra.specs.Reader.{one, kept, rest, times, end, tooMany, several, readText}
 use Rattle.algebra.specs.Reading.{expressions, orders, aggregates, patternAfter, expressionAfter, inside}
 use Rattle.algebra.specs.ListReading.{parts, partAfter, filterIn}
-use Rattle.algebra.specs.Texts.{readTree, readFilters}
+use Rattle.algebra.specs.Given.{readGivenTree}
+use Rattle.algebra.specs.Texts.{readFilters}
 use Rattle.answers.specs.Outcome.{Outcome, refused, written}
 use Rattle.scoping.specs.Sets.{keep, variablesOf, tripleVariables}
 use Rattle.scoping.specs.Variables.{variablesInPattern}
 use Rattle.scoping.specs.Numbering.{byPlace, inScopeByPlace, hiddenByPlace}
-use Rattle.surveying.specs.Scope.{scopeText, scopeOutcome}
+use Rattle.surveying.specs.Scope.{scopeOutcome}
+use Rattle.surveying.proofs.Given.{scope-empty}
 use Rattle.merging.specs.Cases.{Call, mergePatterns, mergeQueries, pushConstants, negate, Case, cases, outcomeOf}
 use Rattle.merging.proofs.Worked.{worked}
 use Rattle.filtering.specs.Filters.{filtersOutcome}
@@ -53,16 +55,16 @@ measured (o ∷ os) [] = []
 measured (o ∷ os) (c ∷ cs) = took (lengthOf o) (roomOf (c .call)) ∷ measured os cs
 
 -- what each call of merging's table writes, and its room: "that merge" first, the two negates last
-pub merges-measured : measured (map (λ (c : Case). outcomeOf (c .call)) cases) cases ≡ took 67 258 ∷ took 47 150 ∷ took 0 111 ∷ took 0 111 ∷ took 0 111 ∷ took 0 117 ∷ took 37 120 ∷ took 0 111 ∷ took 0 117 ∷ took 0 129 ∷ took 0 69 ∷ took 0 222 ∷ took 68 117 ∷ took 44 141 ∷ took 37 105 ∷ took 0 51 ∷ took 86 228 ∷ took 107 144 ∷ took 76 132 ∷ took 37 117 ∷ took 43 135 ∷ took 0 99 ∷ took 67 67 ∷ took 36 60 ∷ []
+pub merges-measured : measured (map (λ (c : Case). outcomeOf (c .call)) cases) cases ≡ took 67 342 ∷ took 47 234 ∷ took 0 195 ∷ took 0 195 ∷ took 0 195 ∷ took 0 201 ∷ took 37 204 ∷ took 0 195 ∷ took 0 201 ∷ took 0 213 ∷ took 0 153 ∷ took 0 306 ∷ took 68 159 ∷ took 44 183 ∷ took 37 147 ∷ took 29 135 ∷ took 29 135 ∷ took 25 84 ∷ took 0 135 ∷ took 46 237 ∷ took 31 93 ∷ took 33 105 ∷ took 52 52 ∷ took 0 38 ∷ took 0 51 ∷ took 0 50 ∷ took 0 52 ∷ took 86 312 ∷ took 107 228 ∷ took 76 174 ∷ took 37 159 ∷ took 43 177 ∷ took 0 141 ∷ took 67 81 ∷ took 36 74 ∷ []
 unfolding mergeRoom pushRoom negateRoom
 merges-measured = ap (λ (os : List Outcome). measured os cases) worked
 
 -- ---- as near as can be
 
--- `bgp 0` takes 6 bytes, its answer 7
-pub scope-reached : lengthOf (scopeOutcome (bytes "bgp\t0\n")) ≡ scopeRoom 6
-unfolding scopeRoom scopeOutcome scopeText readTree readText within noted headed notes mem inside one end tooMany kept rest times expressions orders aggregates patternAfter expressionAfter linesOf linesIn split onto same spelled numberOf digitsOf fits isKind clean textOf ended inScopeByPlace hiddenByPlace byPlace tally tallyTriples keep variablesOf tripleVariables variablesInPattern
-scope-reached = refl
+-- an empty file takes no bytes, its answer 7
+pub scope-reached : lengthOf (scopeOutcome []) ≡ scopeRoom 0
+unfolding scopeRoom
+scope-reached = ap lengthOf scope-empty
 
 -- a column of 129 bytes
 abbrev wide : String
@@ -70,13 +72,13 @@ wide = "project\t?aaaaaaaaaaaaaaaaaaaaaaaaaaaaaaaaaaaaaaaaaaaaaaaaaaaaaaaaaaaaaa
 
 -- two bytes short of the room of `ref 0`
 pub filters-near : lengthOf (filtersOutcome (bytes wide) (bytes "ref\t0\n")) ≡ size wide + 142
-unfolding filtersOutcome readTree readFilters readText within noted headed notes mem inside several one end tooMany kept rest times expressions orders aggregates patternAfter expressionAfter parts partAfter filterIn linesOf linesIn split onto same spelled numberOf digitsOf fits isKind clean isVar isIri isLiteral isBlank isDash isFlag isTag isRegion isDatatype isForm allFit layout put putTriples putRows putArity decimal digits textOf ended
+unfolding filtersOutcome readGivenTree readFilters readText within noted headed notes mem inside several one end tooMany kept rest times expressions orders aggregates patternAfter expressionAfter parts partAfter filterIn linesOf linesIn split onto same spelled numberOf digitsOf fits isKind clean isVar isIri isLiteral isBlank isDash isFlag isTag isRegion isDatatype isForm allFit layout put putTriples putRows putArity decimal digits textOf ended
 filters-near = refl
 
 -- ---- room for all texts
 
 pub longest-rooms :
-    (scopeRoom longest ≡ 16385) × (renameRoom longest ≡ 720896) × (mergeRoom longest longest longest longest ≡ 131072) × (pushRoom longest longest ≡ 65536)
-    × (negateRoom longest ≡ 16408) × (bindingsRoom longest longest ≡ 1081344) × (filtersRoom longest longest ≡ 409600)
+    (scopeRoom longest ≡ 16391) × (renameRoom longest ≡ 720910) × (mergeRoom longest longest longest longest ≡ 131156) × (pushRoom longest longest ≡ 65578)
+    × (negateRoom longest ≡ 16422) × (bindingsRoom longest longest ≡ 1081358) × (filtersRoom longest longest ≡ 409614)
 unfolding scopeRoom renameRoom mergeRoom pushRoom negateRoom bindingsRoom filtersRoom
 longest-rooms = (refl, refl, refl, refl, refl, refl, refl)

@@ -8,33 +8,33 @@ use Rattle.answers.specs.Outcome.{Outcome, Reported}
 
 -- ---- the bytes to lend
 
--- scope: the names of the tree, and `bgp 0` has an answer one byte longer than itself
+-- scope: the names of the tree; an empty file has an answer of 7 bytes
 unfoldable pub scopeRoom : ℕ → ℕ
-scopeRoom tree = tree + 1
+scopeRoom tree = tree + 7
 
--- rename: a variable of 2 bytes can become one of 129, each with a tab or line end behind it
+-- rename: a variable of 2 bytes can become one of 129, each with a tab or line end behind it; an empty file becomes two lines
 unfoldable pub renameRoom : ℕ → ℕ
-renameRoom tree = 44 * tree
+renameRoom tree = 44 * tree + 14
 
--- merge patterns and merge queries: a variable of 2 bytes can become one of 6, as `?l1000`; a term of a constant is written once
+-- merge patterns and merge queries: a variable of 2 bytes can become one of 6, as `?l1000`; a term of a constant is written once; two empty files are 28 bytes, and three times that
 unfoldable pub mergeRoom : ℕ → ℕ → ℕ → ℕ → ℕ
-mergeRoom left right leftConstants rightConstants = 3 * (left + right) + leftConstants + rightConstants
+mergeRoom left right leftConstants rightConstants = 3 * (left + right) + leftConstants + rightConstants + 84
 
 -- push constants: the same for one query
 unfoldable pub pushRoom : ℕ → ℕ → ℕ
-pushRoom query constants = 3 * query + constants
+pushRoom query constants = 3 * query + constants + 42
 
--- negate: four lines more, `filter`, `bgp 0`, `not` and `exists`
+-- negate: four lines more, `filter`, `bgp 0`, `not` and `exists`, and the two lines of an empty file
 unfoldable pub negateRoom : ℕ → ℕ
-negateRoom query = query + 24
+negateRoom query = query + 38
 
 -- bindings: a position of 1 byte can become a column of 129
 unfoldable pub bindingsRoom : ℕ → ℕ → ℕ
-bindingsRoom tree sets = tree + 65 * sets
+bindingsRoom tree sets = tree + 65 * sets + 14
 
 -- filters: `ref 0`, 6 bytes, can become `term` and a column of 129 bytes, under `filter` or `and`
 unfoldable pub filtersRoom : ℕ → ℕ → ℕ
-filtersRoom tree filters = tree + 24 * filters
+filtersRoom tree filters = tree + 24 * filters + 14
 
 -- the longest text that isn't refused for its length: room for it is room for every text
 abbrev pub longest : ℕ
