@@ -30,7 +30,8 @@ use Rattle.merging.specs.Negate.{modifyOutermostProjection}
 use Rattle.heads.proofs.Cut.{text-append}
 use Rattle.negating.specs.bridge.Lines.{word, fromProject, Projects}
 use Rattle.negating.proofs.TreeLines.{behind}
-use Rattle.filtering.specs.Bindings.{joinedWithValues, patternWithBindings, positionsInside, valuesUsable, bindingsOutcome}
+use Rattle.filtering.specs.Bindings.{joinedWithValues, patternWithBindings, positionsInside, valuesUsable}
+use Rattle.filtering.specs.bridge.AsIs.{bindingsAsIs}
 use Rattle.filtering.specs.bridge.SetLines.{repeated, setsIn, valuesLine, atInside, rowUsable}
 use Rattle.filtering.proofs.BindingLines.{putAllValues, joined-lines, values-lines, positions-lines, usable-lines, sets-in}
 use Rattle.filtering.proofs.Theorem.{found-same, bindings-not-found}
@@ -79,15 +80,15 @@ below-inside cs [] = refl
 below-inside cs (l ∷ ls) = ap₂ (λ (a b : Bool). cond (same (word l) (bytes "at")) a true && b) (fields-inside cs (drop 1 l)) (below-inside cs ls)
 
 module _ (tree sets : Bytes) (p : Pattern) (xs : List BindingSet) (e : readTree tree ≡ reads p) (f : readSets sets ≡ reads xs) where
-  pub not-found : fromProject (linesFrom tree 0) ≡ none → bindingsOutcome tree sets ≡ written tree
+  pub not-found : fromProject (linesFrom tree 0) ≡ none → bindingsAsIs tree sets ≡ written tree
   not-found n = bindings-not-found tree sets p xs e f (none-found tree p e n)
 
   module _ (line inner : ℕ) (w : Projects tree 0 line inner) where
     abbrev At : Projection
     At = Found tree p e line inner w
 
-    by-tests : bindingsOutcome tree sets ≡ refusedUnless 3 (positionsInside (At .columns) xs) (refusedUnless 7 (valuesUsable xs) (written (layout (patternWithBindings p xs))))
-    unfolding bindingsOutcome
+    by-tests : bindingsAsIs tree sets ≡ refusedUnless 3 (positionsInside (At .columns) xs) (refusedUnless 7 (valuesUsable xs) (written (layout (patternWithBindings p xs))))
+    unfolding bindingsAsIs
     by-tests = rw (e, f, is-found tree p e line inner w)
 
     as-modified : (ys : List BindingSet) → patternWithBindings p ys ≡ modifyOutermostProjection (λ cs q. joinedWithValues cs q ys) p
@@ -112,12 +113,12 @@ module _ (tree sets : Bytes) (p : Pattern) (xs : List BindingSet) (e : readTree 
       sets-is : j .sets ≡ length xs
       sets-is = g .sets ∙ ap setsIn (sets-at sets xs f) ∙ sets-in xs
 
-      pub outside : (out : Bytes) → not (j .inside) ≡ true → Answered (bindingsOutcome tree sets) out out Outside
+      pub outside : (out : Bytes) → not (j .inside) ≡ true → Answered (bindingsAsIs tree sets) out out Outside
       unfolding Reported
       outside out h = rw (by-tests, sym inside-is ∙ not-true (j .inside) h) (refl, refl, refl)
 
       module _ (yes : not (j .inside) ≡ false) where
-        pub unusable : (out : Bytes) → not (j .usable) ≡ true → Answered (bindingsOutcome tree sets) out out NotUsable
+        pub unusable : (out : Bytes) → not (j .usable) ≡ true → Answered (bindingsAsIs tree sets) out out NotUsable
         unfolding Reported
         unusable out h = rw (by-tests, sym inside-is ∙ not-false (j .inside) yes, sym usable-is ∙ not-true (j .usable) h) (refl, refl, refl)
 
@@ -149,7 +150,7 @@ module _ (tree sets : Bytes) (p : Pattern) (xs : List BindingSet) (e : readTree 
               ∙ ap (λ (b : Bytes). take inner tree ++ b) joined-text
               ∙ (λ i. take inner tree ++ (textOf (repeated (sym sets-is i) (bytes "join") []) ++ (part inner end tree ++ (textOf (map (valuesLine (sym cs-are i)) (sym (sets-at sets xs f) i)) ++ drop end tree))))
 
-          bound : bindingsOutcome tree sets ≡ written Answer
+          bound : bindingsAsIs tree sets ≡ written Answer
           bound = by-tests ∙ rw (sym inside-is ∙ not-false (j .inside) yes, sym usable-is ∙ not-false (j .usable) can) (ap written bound-layout)
 
           module _ (out : Bytes) (b : Bool) (h : Holds (length tree + 65 * length sets) (length Answer) (length out) b) where
@@ -161,10 +162,10 @@ module _ (tree sets : Bytes) (p : Pattern) (xs : List BindingSet) (e : readTree 
             measure : em (min (length Answer) last) [] ≡ puts Answer (em 0 [])
             measure = puts-past Answer 0 (min (length Answer) last) [] (omega arith) (omega arith) (omega arith)
 
-            pub bindings-short : not b ≡ true → Answered (bindingsOutcome tree sets) out out TooShort
+            pub bindings-short : not b ≡ true → Answered (bindingsAsIs tree sets) out out TooShort
             bindings-short i = answered _ _ out out TooShort bound (too-short _ out (min (length Answer) last) [] [] measure (h .no (not-true b i)))
 
-            pub bindings-all : (size : ℕ) (out′ : Bytes) → not b ≡ false → length out < last → em size out′ ≡ puts Answer (em 0 out) → Answered (bindingsOutcome tree sets) out out′ (Written size)
+            pub bindings-all : (size : ℕ) (out′ : Bytes) → not b ≡ false → length out < last → em size out′ ≡ puts Answer (em 0 out) → Answered (bindingsAsIs tree sets) out out′ (Written size)
             bindings-all size out′ i j k = answered _ _ out out′ (Written size) bound (all-written _ out (min (length Answer) last) [] [] measure size out′ (fits (not-false b i)) j k)
 
 -- ---- the room
@@ -183,19 +184,19 @@ size-holds most room k p o e =
 -- ---- a text that is refused
 
 module _ (tree sets out : Bytes) where
-  pub tree-malformed : readTree tree ≡ refuses malformed → Answered (bindingsOutcome tree sets) out out Malformed
-  unfolding bindingsOutcome Reported
+  pub tree-malformed : readTree tree ≡ refuses malformed → Answered (bindingsAsIs tree sets) out out Malformed
+  unfolding bindingsAsIs Reported
   tree-malformed e = rw e (refl, refl, refl)
 
-  pub tree-over : readTree tree ≡ refuses overBound → Answered (bindingsOutcome tree sets) out out OverBound
-  unfolding bindingsOutcome Reported
+  pub tree-over : readTree tree ≡ refuses overBound → Answered (bindingsAsIs tree sets) out out OverBound
+  unfolding bindingsAsIs Reported
   tree-over e = rw e (refl, refl, refl)
 
   module _ (p : Pattern) (r : readTree tree ≡ reads p) where
-    pub sets-malformed : readSets sets ≡ refuses malformed → Answered (bindingsOutcome tree sets) out out Malformed
-    unfolding bindingsOutcome Reported
+    pub sets-malformed : readSets sets ≡ refuses malformed → Answered (bindingsAsIs tree sets) out out Malformed
+    unfolding bindingsAsIs Reported
     sets-malformed e = rw (r, e) (refl, refl, refl)
 
-    pub sets-over : readSets sets ≡ refuses overBound → Answered (bindingsOutcome tree sets) out out OverBound
-    unfolding bindingsOutcome Reported
+    pub sets-over : readSets sets ≡ refuses overBound → Answered (bindingsAsIs tree sets) out out OverBound
+    unfolding bindingsAsIs Reported
     sets-over e = rw (r, e) (refl, refl, refl)

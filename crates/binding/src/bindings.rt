@@ -3,6 +3,7 @@ use crate::judge::judge;
 use crate::values::put_values;
 use algebra::Answer as Check;
 use algebra::COLUMNS;
+use algebra::EMPTY_TREE;
 use answers::Answer;
 use emit::put_all;
 use heads::copy;
@@ -34,6 +35,7 @@ ghost use Rattle.names.specs.bridge.Names.{namesIn};
 ghost use Rattle.emit.specs.bridge.Emit.{em, puts};
 ghost use Rattle.answers.specs.Outcome.{Answered};
 ghost use Rattle.filtering.specs.Bindings.{bindingsOutcome};
+ghost use Rattle.filtering.specs.bridge.AsIs.{bindingsAsIs};
 ghost use Rattle.binding.specs.bridge.Bound.{boundAt, Holds};
 
 const JOIN: [u8; 4] = *b"join";
@@ -84,7 +86,7 @@ fn has_room(
 // For texts that were checked.
 fn bindings_of(tree: &[u8], sets: &[u8], words: &[WordRow; 56], out: &mut [u8]) -> Answer
     requires { ⌜ ((p : Pattern) × (readTree (now tree) ≡ reads p)) × ((xs : List BindingSet) × (readSets (now sets) ≡ reads xs)) × Worded (now words) ⌝ }
-    ensures { λ r. ⌜ Answered (bindingsOutcome (now (tree .entry)) (now (sets .entry))) (now (out .entry)) (now (out .exit)) r ⌝ }
+    ensures { λ r. ⌜ Answered (bindingsAsIs (now (tree .entry)) (now (sets .entry))) (now (out .entry)) (now (out .exit)) r ⌝ }
 {
     let Outermost::At(line, inner) = outermost_projection(tree, 0) else {
         return copy(tree, out);
@@ -116,7 +118,7 @@ fn bindings_by(
     out: &mut [u8],
 ) -> Answer
     requires { ⌜ ((p : Pattern) × (readTree (now tree) ≡ reads p)) × Worded (now words) ⌝ }
-    ensures { λ r. ⌜ Answered (bindingsOutcome (now (tree .entry)) (now (sets .entry))) (now (out .entry)) (now (out .exit)) r ⌝ }
+    ensures { λ r. ⌜ Answered (bindingsAsIs (now (tree .entry)) (now (sets .entry))) (now (out .entry)) (now (out .exit)) r ⌝ }
 {
     clear(table);
     match check_sets(sets, words, table, hints) {
@@ -126,9 +128,9 @@ fn bindings_by(
     }
 }
 
-// bindings: tree and binding sets to tree.
-pub fn bindings(tree: &[u8], sets: &[u8], out: &mut [u8]) -> Answer
-    ensures { λ r. ⌜ Answered (bindingsOutcome (now (tree .entry)) (now (sets .entry))) (now (out .entry)) (now (out .exit)) r ⌝ }
+// The same for any tree's text as it stands.
+fn bindings_text(tree: &[u8], sets: &[u8], out: &mut [u8]) -> Answer
+    ensures { λ r. ⌜ Answered (bindingsAsIs (now (tree .entry)) (now (sets .entry))) (now (out .entry)) (now (out .exit)) r ⌝ }
 {
     let words = all_words();
     let mut table = [[0u16; 2]; 1024];
@@ -138,4 +140,14 @@ pub fn bindings(tree: &[u8], sets: &[u8], out: &mut [u8]) -> Answer
         Check::Malformed => Answer::Malformed,
         Check::OverBound => Answer::OverBound,
     }
+}
+
+// bindings: tree and binding sets to tree; an empty file is read as its two lines.
+pub fn bindings(tree: &[u8], sets: &[u8], out: &mut [u8]) -> Answer
+    ensures { λ r. ⌜ Answered (bindingsOutcome (now (tree .entry)) (now (sets .entry))) (now (out .entry)) (now (out .exit)) r ⌝ }
+{
+    if tree.len() == 0 {
+        return bindings_text(&EMPTY_TREE, sets, out);
+    }
+    bindings_text(tree, sets, out)
 }

@@ -28,7 +28,8 @@ use Rattle.negating.specs.bridge.Lines.{fromProject, Projects}
 use Rattle.negating.proofs.TreeLines.{behind}
 use Rattle.filtering.specs.bridge.SetLines.{repeated}
 use Rattle.filtering.specs.bridge.FilterLines.{refInside, Placed, placedFilters}
-use Rattle.filtering.specs.Filters.{expressions, filtered, patternWithFilters, referencesInside, filtersOutcome}
+use Rattle.filtering.specs.Filters.{expressions, filtered, patternWithFilters, referencesInside}
+use Rattle.filtering.specs.bridge.AsIs.{filtersAsIs}
 use Rattle.filtering.proofs.FilterLines.{references-lines}
 use Rattle.filtering.proofs.PlacedLines.{putExpressions, placed-lines, PlacedAs, filters-placed}
 use Rattle.filtering.proofs.Theorem.{found-same, filters-not-found}
@@ -106,15 +107,15 @@ below-inside cs [] = refl
 below-inside cs (l ∷ ls) = ap (λ (b : Bool). refInside cs l && b) (below-inside cs ls)
 
 module _ (tree filters : Bytes) (p : Pattern) (fs : List Filter) (e : readTree tree ≡ reads p) (f : readFilters filters ≡ reads fs) where
-  pub not-found : fromProject (linesFrom tree 0) ≡ none → filtersOutcome tree filters ≡ written tree
+  pub not-found : fromProject (linesFrom tree 0) ≡ none → filtersAsIs tree filters ≡ written tree
   not-found n = filters-not-found tree filters p fs e f (none-found tree p e n)
 
   module _ (line inner : ℕ) (w : Projects tree 0 line inner) where
     abbrev At : Projection
     At = Found tree p e line inner w
 
-    by-tests : filtersOutcome tree filters ≡ refusedUnless 3 (all (referencesInside (At .columns)) fs) (written (layout (patternWithFilters p fs .pattern)))
-    unfolding filtersOutcome
+    by-tests : filtersAsIs tree filters ≡ refusedUnless 3 (all (referencesInside (At .columns)) fs) (written (layout (patternWithFilters p fs .pattern)))
+    unfolding filtersAsIs
     by-tests = rw (e, f, is-found tree p e line inner w)
 
     module _ (n : ℕ) (cs : List Bytes) (c : cs ≡ columnsOn tree line) (width : length cs ≡ n) (b : Bool) (g : b ≡ all (refBelow n) (linesFrom filters 0)) where
@@ -128,12 +129,12 @@ module _ (tree filters : Bytes) (p : Pattern) (fs : List Filter) (e : readTree t
           ∙ below-inside (At .columns) (putFilters fs [])
           ∙ references-lines (At .columns) fs
 
-      pub outside : (out : Bytes) → not b ≡ true → Answered (filtersOutcome tree filters) out out Outside
+      pub outside : (out : Bytes) → not b ≡ true → Answered (filtersAsIs tree filters) out out Outside
       unfolding Reported
       outside out h = rw (by-tests, sym inside-is ∙ not-true b h) (refl, refl, refl)
 
       module _ (yes : not b ≡ false) (lines : ℕ) (l : lines ≡ length (linesFrom filters 0)) where
-        written-is : filtersOutcome tree filters ≡ written (layout (patternWithFilters p fs .pattern))
+        written-is : filtersAsIs tree filters ≡ written (layout (patternWithFilters p fs .pattern))
         written-is = by-tests ∙ rw (sym inside-is ∙ not-false b yes)
 
         abbrev Put : Placed
@@ -150,7 +151,7 @@ module _ (tree filters : Bytes) (p : Pattern) (fs : List Filter) (e : readTree t
           many-is = k .many ∙ placed-as .many
 
           -- none is placed
-          pub none-placed : j .many ≡ 0 → filtersOutcome tree filters ≡ written tree
+          pub none-placed : j .many ≡ 0 → filtersAsIs tree filters ≡ written tree
           unfolding patternWithFilters filtered
           none-placed z =
               written-is
@@ -184,7 +185,7 @@ module _ (tree filters : Bytes) (p : Pattern) (fs : List Filter) (e : readTree t
                 modified tree p e line inner w (λ cs q. filtered (expressions cs fs) q)
                 ∙ ap (λ (t : Bytes). take inner tree ++ t) (inner-text (expressions (At .columns) fs) placed-as many-is)
 
-            answer-is : filtersOutcome tree filters ≡ written Answer
+            answer-is : filtersAsIs tree filters ≡ written Answer
             answer-is = written-is ∙ ap written filtered-layout
 
             module _ (out : Bytes) (need : ℕ) (size : need ≡ min (length tree + 7 + (j .many - 1) * 4 + j .size) last) where
@@ -194,28 +195,28 @@ module _ (tree filters : Bytes) (p : Pattern) (fs : List Filter) (e : readTree t
                   let m : j .size ≡ min (0 + length (textOf (Put .lines))) last = ap (λ (e : Em). e .at) (k .size) ∙ puts-at (textOf (Put .lines)) (em 0 []) (omega arith) in
                   puts-past Answer 0 need [] (omega arith) (omega arith) (omega arith)
 
-              pub filters-short : length out < need → Answered (filtersOutcome tree filters) out out TooShort
+              pub filters-short : length out < need → Answered (filtersAsIs tree filters) out out TooShort
               filters-short h = answered _ _ out out TooShort answer-is (too-short _ out need [] [] measure h)
 
-              pub filters-all : (size : ℕ) (out′ : Bytes) → need ≤ length out → length out < last → em size out′ ≡ puts Answer (em 0 out) → Answered (filtersOutcome tree filters) out out′ (Written size)
+              pub filters-all : (size : ℕ) (out′ : Bytes) → need ≤ length out → length out < last → em size out′ ≡ puts Answer (em 0 out) → Answered (filtersAsIs tree filters) out out′ (Written size)
               filters-all size out′ i j k = answered _ _ out out′ (Written size) answer-is (all-written _ out need [] [] measure size out′ i j k)
 
 -- ---- a text that is refused
 
 module _ (tree filters out : Bytes) where
-  pub tree-malformed : readTree tree ≡ refuses malformed → Answered (filtersOutcome tree filters) out out Malformed
-  unfolding filtersOutcome Reported
+  pub tree-malformed : readTree tree ≡ refuses malformed → Answered (filtersAsIs tree filters) out out Malformed
+  unfolding filtersAsIs Reported
   tree-malformed e = rw e (refl, refl, refl)
 
-  pub tree-over : readTree tree ≡ refuses overBound → Answered (filtersOutcome tree filters) out out OverBound
-  unfolding filtersOutcome Reported
+  pub tree-over : readTree tree ≡ refuses overBound → Answered (filtersAsIs tree filters) out out OverBound
+  unfolding filtersAsIs Reported
   tree-over e = rw e (refl, refl, refl)
 
   module _ (p : Pattern) (r : readTree tree ≡ reads p) where
-    pub filters-malformed : readFilters filters ≡ refuses malformed → Answered (filtersOutcome tree filters) out out Malformed
-    unfolding filtersOutcome Reported
+    pub filters-malformed : readFilters filters ≡ refuses malformed → Answered (filtersAsIs tree filters) out out Malformed
+    unfolding filtersAsIs Reported
     filters-malformed e = rw (r, e) (refl, refl, refl)
 
-    pub filters-over : readFilters filters ≡ refuses overBound → Answered (filtersOutcome tree filters) out out OverBound
-    unfolding filtersOutcome Reported
+    pub filters-over : readFilters filters ≡ refuses overBound → Answered (filtersAsIs tree filters) out out OverBound
+    unfolding filtersAsIs Reported
     filters-over e = rw (r, e) (refl, refl, refl)

@@ -4,6 +4,7 @@ use crate::place::measure_filters;
 use crate::place::put_expressions;
 use algebra::Answer as Check;
 use algebra::COLUMNS;
+use algebra::EMPTY_TREE;
 use answers::Answer;
 use cursor::Cursor;
 use emit::put_all;
@@ -42,6 +43,7 @@ ghost use Rattle.answers.specs.Outcome.{Answered};
 ghost use Rattle.scoping.specs.Sets.{all};
 ghost use Rattle.filtering.specs.bridge.FilterLines.{placedFilters};
 ghost use Rattle.filtering.specs.Filters.{filtersOutcome};
+ghost use Rattle.filtering.specs.bridge.AsIs.{filtersAsIs};
 ghost use Rattle.expressing.specs.bridge.Filtered.{refBelow, filteredAt};
 ghost use Rattle.expressing.specs.bridge.Walks.{allPlaced};
 
@@ -122,7 +124,7 @@ fn filtered_size(tree: &[u8], ands: usize, size: usize) -> usize
 // For texts that were checked.
 fn filters_of(tree: &[u8], filters: &[u8], words: &[WordRow; 56], out: &mut [u8]) -> Answer
     requires { ⌜ ((p : Pattern) × (readTree (now tree) ≡ reads p)) × ((fs : List Filter) × (readFilters (now filters) ≡ reads fs)) × Worded (now words) ⌝ }
-    ensures { λ r. ⌜ Answered (filtersOutcome (now (tree .entry)) (now (filters .entry))) (now (out .entry)) (now (out .exit)) r ⌝ }
+    ensures { λ r. ⌜ Answered (filtersAsIs (now (tree .entry)) (now (filters .entry))) (now (out .entry)) (now (out .exit)) r ⌝ }
 {
     let Outermost::At(line, inner) = outermost_projection(tree, 0) else {
         return copy(tree, out);
@@ -169,7 +171,7 @@ fn filters_by(
     out: &mut [u8],
 ) -> Answer
     requires { ⌜ ((p : Pattern) × (readTree (now tree) ≡ reads p)) × Worded (now words) ⌝ }
-    ensures { λ r. ⌜ Answered (filtersOutcome (now (tree .entry)) (now (filters .entry))) (now (out .entry)) (now (out .exit)) r ⌝ }
+    ensures { λ r. ⌜ Answered (filtersAsIs (now (tree .entry)) (now (filters .entry))) (now (out .entry)) (now (out .exit)) r ⌝ }
 {
     clear(table);
     match check_filters(filters, words, table, hints) {
@@ -179,9 +181,9 @@ fn filters_by(
     }
 }
 
-// filters: tree and filters to tree.
-pub fn filters(tree: &[u8], filters: &[u8], out: &mut [u8]) -> Answer
-    ensures { λ r. ⌜ Answered (filtersOutcome (now (tree .entry)) (now (filters .entry))) (now (out .entry)) (now (out .exit)) r ⌝ }
+// The same for any tree's text as it stands.
+fn filters_text(tree: &[u8], filters: &[u8], out: &mut [u8]) -> Answer
+    ensures { λ r. ⌜ Answered (filtersAsIs (now (tree .entry)) (now (filters .entry))) (now (out .entry)) (now (out .exit)) r ⌝ }
 {
     let words = all_words();
     let mut table = [[0u16; 2]; 1024];
@@ -191,4 +193,14 @@ pub fn filters(tree: &[u8], filters: &[u8], out: &mut [u8]) -> Answer
         Check::Malformed => Answer::Malformed,
         Check::OverBound => Answer::OverBound,
     }
+}
+
+// filters: tree and filters to tree; an empty file is read as its two lines.
+pub fn filters(tree: &[u8], filters: &[u8], out: &mut [u8]) -> Answer
+    ensures { λ r. ⌜ Answered (filtersOutcome (now (tree .entry)) (now (filters .entry))) (now (out .entry)) (now (out .exit)) r ⌝ }
+{
+    if tree.len() == 0 {
+        return filters_text(&EMPTY_TREE, filters, out);
+    }
+    filters_text(tree, filters, out)
 }
