@@ -14,3 +14,4 @@ pub mod Decide
 pub mod Needed
 pub mod Once
 pub mod Relays
+pub mod Empty

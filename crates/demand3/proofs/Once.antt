@@ -2,7 +2,7 @@
 use mathlib.Core.Path.{_≡_, ap, subst, _∙_}
 use Rattle.text.specs.Text.{Bytes}
 use Rattle.algebra.specs.Reader.{Outcome as Reading, reads}
-use Rattle.algebra.specs.Texts.{readTree, readQuery}
+use Rattle.algebra.specs.Given.{readGivenTree, readGivenQuery}
 use Rattle.answers.specs.Outcome.{written}
 use Rattle.merging.specs.Request.{Projection, tree, readJoins, readConstants, Request}
 use Rattle.merging.specs.Merge.{mergePatternsOutcome, mergeQueriesOutcome}
@@ -39,8 +39,8 @@ module _ (left right pairs leftConstants rightConstants : Bytes) where
   -- what the five texts say
   pub asked-once : (m n : Request) → Trees left right m → Lists pairs leftConstants rightConstants m → Trees left right n → Lists pairs leftConstants rightConstants n → m ≡ n
   asked-once m n s a t b = request-once m n a b
-      (tree-once (m .left) (n .left) (read-once (readTree left) (tree (m .left)) (tree (n .left)) (s .left-tree) (t .left-tree)))
-      (tree-once (m .right) (n .right) (read-once (readTree right) (tree (m .right)) (tree (n .right)) (s .right-tree) (t .right-tree)))
+      (tree-once (m .left) (n .left) (read-once (readGivenTree left) (tree (m .left)) (tree (n .left)) (s .left-tree) (t .left-tree)))
+      (tree-once (m .right) (n .right) (read-once (readGivenTree right) (tree (m .right)) (tree (n .right)) (s .right-tree) (t .right-tree)))
 
   -- demand 3 for the trees and lists that the texts are read as
   pub merge-patterns-counts-read : (b : Bytes) (m : Request) → Trees left right m → Lists pairs leftConstants rightConstants m → mergePatternsOutcome left right pairs leftConstants rightConstants ≡ written b → Counted m b
@@ -53,6 +53,6 @@ module _ (left right pairs leftConstants rightConstants : Bytes) where
       → (text : Bytes) × (b ≡ behindHead kind dataset base text) × Counted m text
   merge-queries-counts-read b kind dataset base m s a e =
       let x = merge-queries-counts left right pairs leftConstants rightConstants b e in
-      let l = query-once (x .1) (x .2) (x .3) kind dataset base (x .0 .left) (m .left) (read-once (readQuery left) _ _ (x .5 .left-query) (s .left-query)) in
-      let r = query-once (x .1) (x .2) (x .3) kind dataset base (x .0 .right) (m .right) (read-once (readQuery right) _ _ (x .5 .right-query) (s .right-query)) in
+      let l = query-once (x .1) (x .2) (x .3) kind dataset base (x .0 .left) (m .left) (read-once (readGivenQuery left) _ _ (x .5 .left-query) (s .left-query)) in
+      let r = query-once (x .1) (x .2) (x .3) kind dataset base (x .0 .right) (m .right) (read-once (readGivenQuery right) _ _ (x .5 .right-query) (s .right-query)) in
       (x .4, x .7 ∙ (λ i. behindHead (l .kinds i) (l .datasets i) (l .bases i) (x .4)), subst (λ (n : Request). Counted n (x .4)) (request-once (x .0) m (x .6) a (l .trees) (r .trees)) (x .8))

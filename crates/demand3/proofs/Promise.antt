@@ -38,11 +38,11 @@ use Rattle.demand3.proofs.Expected.{expected-is}
 
 module _ (m : Request) (a : Known prefixL (m .left) (lefts (m .joins)) (m .left-constants)) (b : Known prefixR (m .right) (rights (m .joins)) (m .right-constants)) where
   module _ (s : Premises m) where
-    columns-named : mergedColumns (leftSide m) (rightSide m) (m .joins) ≡ mergedNames m
+    pub columns-named : mergedColumns (leftSide m) (rightSide m) (m .joins) ≡ mergedNames m
     columns-named = merged-names m (left-names m a b s) (right-names m a b s) (sides-fit m a b s)
 
     -- under nemo's names, then under those that demand 3 says
-    counts-named : (g : List Triple) (row : List Cell) → count sameRow row (answer (mergedNames m) g (mergeProjectPatterns m)) ≡ expectedCount m g row
+    pub counts-named : (g : List Triple) (row : List Cell) → count sameRow row (answer (mergedNames m) g (mergeProjectPatterns m)) ≡ expectedCount m g row
     unfolding mergeProjectPatterns
     counts-named g row =
         ap (λ (cs : List Bytes). count sameRow row (answer cs g (mergeProjectPatterns m))) (sym columns-named)
@@ -90,7 +90,7 @@ module _ (m : Request) (pairs leftConstants rightConstants : Bytes) (a : TreeRea
   unfolding noneTwice
   each = (and-left (differentPositions (lefts (m .joins))) (differentPositions (rights (m .joins))) o, and-right (differentPositions (lefts (m .joins))) (differentPositions (rights (m .joins))) o)
 
-  left-known : Known prefixL (m .left) (lefts (m .joins)) (m .left-constants)
+  pub left-known : Known prefixL (m .left) (lefts (m .joins)) (m .left-constants)
   left-known = record {
     letter = letter-l;
     valid = a .valid;
@@ -102,7 +102,7 @@ module _ (m : Request) (pairs leftConstants rightConstants : Bytes) (a : TreeRea
     constants-good = constants-good leftConstants (m .left-constants) (ls .left-constants);
   }
 
-  right-known : Known prefixR (m .right) (rights (m .joins)) (m .right-constants)
+  pub right-known : Known prefixR (m .right) (rights (m .joins)) (m .right-constants)
   right-known = record {
     letter = letter-r;
     valid = b .valid;

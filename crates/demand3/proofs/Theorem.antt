@@ -9,7 +9,7 @@ use Rattle.algebra.specs.Query.{Query}
 use Rattle.algebra.specs.Reader.{reads}
 use Rattle.algebra.specs.Layout.{layout}
 use Rattle.algebra.specs.Bounded.{layoutQuery}
-use Rattle.algebra.specs.Texts.{readTree, readQuery}
+use Rattle.algebra.specs.Given.{readGivenTree, readGivenQuery}
 use Rattle.answers.specs.Outcome.{written}
 use Rattle.answers.proofs.Answers.{bytes-of}
 use Rattle.merging.specs.Request.{tree, Request, request}
@@ -29,13 +29,13 @@ pub merge-patterns-counts : (left right pairs leftConstants rightConstants b : B
     → (m : Request) × Trees left right m × Lists pairs leftConstants rightConstants m × Counted m b
 unfolding mergePatternsOutcome
 merge-patterns-counts left right pairs leftConstants rightConstants b e =
-    let x = then-written (readTree left) _ b e in
-    let y = then-written (readTree right) _ b (x .2) in
+    let x = then-written (readGivenTree left) _ b e in
+    let y = then-written (readGivenTree right) _ b (x .2) in
     let z = lists-read pairs leftConstants rightConstants _ b (y .2) in
     let w = merge-written (x .0) (y .0) (z .joins) (z .left-constants) (z .right-constants) (λ t. written (layout t)) b (z .gives) in
     let m : Request = request (w .left) (w .right) (z .joins) (z .left-constants) (z .right-constants) in
-    let l : readTree left ≡ reads (tree (w .left)) = x .1 ∙ ap reads (w .left-is) in
-    let r : readTree right ≡ reads (tree (w .right)) = y .1 ∙ ap reads (w .right-is) in
+    let l : readGivenTree left ≡ reads (tree (w .left)) = x .1 ∙ ap reads (w .left-is) in
+    let r : readGivenTree right ≡ reads (tree (w .right)) = y .1 ∙ ap reads (w .right-is) in
     let t : layout (mergeProjectPatterns m) ≡ b = bytes-of _ b (w .gives) in (
       m,
       record { left-tree = l; right-tree = r },
@@ -62,15 +62,15 @@ pub merge-queries-counts : (left right pairs leftConstants rightConstants b : By
     × (b ≡ behindHead kind dataset base text) × Counted m text
 unfolding mergeQueriesOutcome
 merge-queries-counts left right pairs leftConstants rightConstants b e =
-    let x = then-written (readQuery left) _ b e in
-    let y = then-written (readQuery right) _ b (x .2) in
+    let x = then-written (readGivenQuery left) _ b e in
+    let y = then-written (readGivenQuery right) _ b (x .2) in
     let z = lists-read pairs leftConstants rightConstants _ b (y .2) in
     let h = test-written 5 (mergeable (x .0) (y .0)) _ b (z .gives) in
     let a : Query = x .0 in
     let w = merge-written (a .tree) (y .0 .tree) (z .joins) (z .left-constants) (z .right-constants) (λ t. written (layoutQuery (over a t))) b (h .1) in
     let m : Request = request (w .left) (w .right) (z .joins) (z .left-constants) (z .right-constants) in
-    let l : readQuery left ≡ reads (queryOf (a .kind) (a .dataset) (a .base) (tree (w .left))) = x .1 ∙ ap (λ (p : Pattern). reads (over a p)) (w .left-is) in
-    let r : readQuery right ≡ reads (queryOf (a .kind) (a .dataset) (a .base) (tree (w .right))) = y .1 ∙ ap reads (head-is a (y .0) (h .0)) ∙ ap (λ (p : Pattern). reads (over a p)) (w .right-is) in
+    let l : readGivenQuery left ≡ reads (queryOf (a .kind) (a .dataset) (a .base) (tree (w .left))) = x .1 ∙ ap (λ (p : Pattern). reads (over a p)) (w .left-is) in
+    let r : readGivenQuery right ≡ reads (queryOf (a .kind) (a .dataset) (a .base) (tree (w .right))) = y .1 ∙ ap reads (head-is a (y .0) (h .0)) ∙ ap (λ (p : Pattern). reads (over a p)) (w .right-is) in
     let t : b ≡ behindHead (a .kind) (a .dataset) (a .base) (layout (mergeProjectPatterns m)) = sym (bytes-of (layoutQuery (over a (mergeProjectPatterns m))) b (w .gives)) ∙ query-over a (mergeProjectPatterns m) in (
       m,
       a .kind,

@@ -1,4 +1,5 @@
 pub mod Names
 pub mod Expected
 pub mod Demand3
+pub mod Empty
 pub mod bridge
