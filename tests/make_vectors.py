@@ -5,9 +5,9 @@
 
 writes OUTDIR/cases and OUTDIR/expected, the same bytes each time. First come
 the cases of vectors/, whose answers are those of nemo's Rust, then the inputs
-below, in written_merges.py and written_placings.py, whose answers are written
-by hand from the rules of docs/SPECIFICATION.md, then the calls of that page. It
-stops where second_calls.py writes another answer.
+below, in written_merges.py, written_placings.py and written_empty.py, whose
+answers are written by hand from the rules of docs/SPECIFICATION.md, then the
+calls of that page. It stops where second_calls.py writes another answer.
 
 vectors/NAME.txt: a head, then the cases; a line ==== follows each of them. A
 case is what the call NAME reads, a line ->, and what it must write. `%` and
@@ -24,6 +24,7 @@ import urllib.parse
 import calls
 import second_calls
 import specification
+import written_empty
 import written_merges
 import written_placings
 from written_texts import BAR, LONG, MALFORMED, OVER, padded, refused, text
@@ -48,7 +49,7 @@ SWAP = text("?a ?b/?b ?a")
 
 # The number of lines `--` is looked at before the texts, so a tree over a bound tells whether a line was one.
 WRITTEN = [
-    ("scope", "no-input", b"", refused(1)),
+    ("scope", "no-input", b"", text("in/hid")),
     ("scope", "tree", TREE, SCOPE),
     ("scope", "over-bound", OVER, refused(2)),
     ("scope", "bar-behind", TREE + BAR, refused(1)),
@@ -64,7 +65,7 @@ WRITTEN = [
     ("scope", "too-long-input", padded(TREE + BAR, LONG + 1), refused(2)),
     ("rename", "swap", TREE + BAR + SWAP, OTHER),
     ("rename", "no-mapping", TREE + BAR, TREE),
-    ("rename", "no-texts", BAR, refused(1)),
+    ("rename", "no-texts", BAR, text("project/bgp 0")),
     ("rename", "no-bar", TREE + SWAP, refused(1)),
     ("rename", "two-bars", TREE + BAR + SWAP + BAR, refused(1)),
     ("rename", "no-bar-before-bounds", OVER + SWAP, refused(1)),
@@ -84,7 +85,7 @@ def records():
     for program in calls.NAMES:
         for number, (given, answer) in enumerate(recorded(program), 1):
             yield program, "%s-%d" % (program, number), given, answer
-    for program, name, given, answer in WRITTEN + written_merges.WRITTEN + written_placings.WRITTEN:
+    for program, name, given, answer in WRITTEN + written_merges.WRITTEN + written_placings.WRITTEN + written_empty.WRITTEN:
         yield program, "%s-%s" % (program, name), given, answer
     for program, name, given, answer in specification.calls():
         yield program, "%s-%s" % (program, name), given, answer

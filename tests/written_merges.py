@@ -53,7 +53,7 @@ CASES = [
          SELECT + "project ?a ?b/bgp 1/t ?a <p> ?b", "0 <k>"),
     push("case-8", SELECT + "project ?v0Label ?v1/bgp 1/t ?v1 <p> ?v0Label", SELECT + "project ?xLabelLabel ?x/bgp 1/t ?x <p> ?xLabelLabel"),
     push("case-9", SELECT + "project ?v0Label/bgp 1/t ?v0Label <p> ?v0Label", SELECT + "project ?Label/bgp 1/t ?Label <p> ?Label"),
-    merge("case-10", 1, "", BAY, "1 0"),
+    merge("case-10", "project ?r0 ?r1/join/bgp 0/bgp 1/t ?r0 <in> ?r1", "", BAY),
 ]
 
 # Constants: by rising position, on a join column, one on each side.
@@ -151,7 +151,7 @@ ORDER = [
 
 # Bars: their number is looked at before the texts.
 BARS = [
-    ("merge", "no-input", b"", refused(1)), ("merge", "no-texts", BAR * 4, refused(1)), ("merge", "three-bars", parted(OVER, BAY, "1 0", ""), refused(1)),
+    ("merge", "no-input", b"", refused(1)), ("merge", "no-texts", BAR * 4, text("project/join/bgp 0/bgp 0")), ("merge", "three-bars", parted(OVER, BAY, "1 0", ""), refused(1)),
     ("merge", "five-bars", parted(OVER, BAY, "1 0", "", "", ""), refused(1)), ("merge", "unended-fourth-bar", parted(OVER, BAY, "1 0", "") + b"--", refused(1)),
     ("merge", "unended-fifth-bar", parted(OVER, BAY, "1 0", "", "") + b"--", refused(2)), ("merge", "unended-bar-behind", parted(EVENT, BAY, "1 0", "", "") + b"--", refused(1)),
     ("merge_queries", "three-bars", parted(OVER_QUERY, SELECT + BAY, "1 0", ""), refused(1)), ("merge_queries", "five-bars", parted(OVER_QUERY, SELECT + BAY, "1 0", "", "", ""), refused(1)),
