@@ -5,6 +5,9 @@
  * stands in the first `*size` bytes of `out`, the bytes behind it unchanged; or the number of a refusal, and `*size` is 0 and `out` is
  * unchanged. Texts are checked in the order of the parameters (1, 2); then come 5, 4, 3, 10, 7, 6 in this order, as far as a call has them.
  *
+ * An empty file is a tree: each call reads a tree of no bytes, and a query of its head line alone, as if the lines `project` and `bgp 0`
+ * stood there, and writes them where it copies.
+ *
  * Every text is allowed. What a caller owes is what C asks of any such call, as nothing in C can test it:
  *
  * - no pointer is null, also where the number of bytes beside it is 0: an empty text is "" and 0;
@@ -45,14 +48,14 @@ enum {
 
 /* How many bytes to lend as `out`, from the sizes of the texts: a call that is lent so many never returns GANDEUCH_TOO_SHORT. It is proved
  * (crates/room). For texts within their bound no sum is too large for 32 bits. */
-#define GANDEUCH_SCOPE_ROOM(tree_size) ((size_t)(tree_size) + 1)
-#define GANDEUCH_RENAME_ROOM(tree_size) (44 * (size_t)(tree_size))
+#define GANDEUCH_SCOPE_ROOM(tree_size) ((size_t)(tree_size) + 7)
+#define GANDEUCH_RENAME_ROOM(tree_size) (44 * (size_t)(tree_size) + 14)
 #define GANDEUCH_MERGE_ROOM(left_size, right_size, left_constants_size, right_constants_size) \
-    (3 * ((size_t)(left_size) + (size_t)(right_size)) + (size_t)(left_constants_size) + (size_t)(right_constants_size))
-#define GANDEUCH_PUSH_ROOM(query_size, constants_size) (3 * (size_t)(query_size) + (size_t)(constants_size))
-#define GANDEUCH_NEGATE_ROOM(query_size) ((size_t)(query_size) + 24)
-#define GANDEUCH_BINDINGS_ROOM(tree_size, sets_size) ((size_t)(tree_size) + 65 * (size_t)(sets_size))
-#define GANDEUCH_FILTERS_ROOM(tree_size, filters_size) ((size_t)(tree_size) + 24 * (size_t)(filters_size))
+    (3 * ((size_t)(left_size) + (size_t)(right_size)) + (size_t)(left_constants_size) + (size_t)(right_constants_size) + 84)
+#define GANDEUCH_PUSH_ROOM(query_size, constants_size) (3 * (size_t)(query_size) + (size_t)(constants_size) + 42)
+#define GANDEUCH_NEGATE_ROOM(query_size) ((size_t)(query_size) + 38)
+#define GANDEUCH_BINDINGS_ROOM(tree_size, sets_size) ((size_t)(tree_size) + 65 * (size_t)(sets_size) + 14)
+#define GANDEUCH_FILTERS_ROOM(tree_size, filters_size) ((size_t)(tree_size) + 24 * (size_t)(filters_size) + 14)
 
 #ifdef __cplusplus
 extern "C" {

@@ -51,6 +51,15 @@
 //! assert_eq!(unprojected, Err(Refusal::NotProject));
 //! ```
 //!
+//! An empty file is a tree: no columns over no triples, the lines `project` and `bgp 0`. So is what follows a query's head line:
+//!
+//! ```
+//! let tree = b"project\t?r\nbgp\t1\nt\t?r\t<in>\t?bay\n";
+//! let merged = gandeuch::merge_patterns(tree, b"", b"", b"", b"")?;
+//! assert_eq!(merged, b"project\t?l0\njoin\nbgp\t1\nt\t?l0\t<in>\t?l2\nbgp\t0\n");
+//! # Ok::<(), gandeuch::Refusal>(())
+//! ```
+//!
 //! **What is proved** is the library: number, length and every byte of each answer, for every text. **What is not** is this
 //! crate: the declarations of the calls, the buffers that it lends them, and the module `layout`.
 //!

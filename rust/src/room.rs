@@ -9,30 +9,30 @@ fn length(text: &[u8]) -> usize {
 }
 
 pub fn scope(tree: &[u8]) -> usize {
-    length(tree) + 1
+    length(tree) + 7
 }
 
 pub fn rename(tree: &[u8]) -> usize {
-    44 * length(tree)
+    44 * length(tree) + 14
 }
 
 /// For trees and for queries.
 pub fn merge(left: &[u8], right: &[u8], left_constants: &[u8], right_constants: &[u8]) -> usize {
-    3 * (length(left) + length(right)) + length(left_constants) + length(right_constants)
+    3 * (length(left) + length(right)) + length(left_constants) + length(right_constants) + 84
 }
 
 pub fn push(query: &[u8], constants: &[u8]) -> usize {
-    3 * length(query) + length(constants)
+    3 * length(query) + length(constants) + 42
 }
 
 pub fn negate(query: &[u8]) -> usize {
-    length(query) + 24
+    length(query) + 38
 }
 
 pub fn bindings(tree: &[u8], sets: &[u8]) -> usize {
-    length(tree) + 65 * length(sets)
+    length(tree) + 65 * length(sets) + 14
 }
 
 pub fn filters(tree: &[u8], filters: &[u8]) -> usize {
-    length(tree) + 24 * length(filters)
+    length(tree) + 24 * length(filters) + 14
 }

@@ -124,42 +124,42 @@ fn rooms_are_those_of_the_header() {
     let [tree, list, other] = [100, 10, 1].map(|length| vec![0; length]);
     let rooms = [
         (
-            "SCOPE_ROOM(tree_size)((tree_size)+1)",
+            "SCOPE_ROOM(tree_size)((tree_size)+7)",
             room::scope(&tree),
-            101,
+            107,
         ),
         (
-            "RENAME_ROOM(tree_size)(44*(tree_size))",
+            "RENAME_ROOM(tree_size)(44*(tree_size)+14)",
             room::rename(&tree),
-            4_400,
+            4_414,
         ),
         (
             "MERGE_ROOM(left_size,right_size,left_constants_size,right_constants_size)\
-             (3*((left_size)+(right_size))+(left_constants_size)+(right_constants_size))",
+             (3*((left_size)+(right_size))+(left_constants_size)+(right_constants_size)+84)",
             room::merge(&tree, &tree, &list, &other),
-            611,
+            695,
         ),
         (
-            "PUSH_ROOM(query_size,constants_size)(3*(query_size)+(constants_size))",
+            "PUSH_ROOM(query_size,constants_size)(3*(query_size)+(constants_size)+42)",
             room::push(&tree, &list),
-            310,
+            352,
         ),
         (
-            "NEGATE_ROOM(query_size)((query_size)+24)",
+            "NEGATE_ROOM(query_size)((query_size)+38)",
             room::negate(&tree),
-            124,
+            138,
         ),
         (
-            "BINDINGS_ROOM(tree_size,sets_size)((tree_size)+65*(sets_size))",
+            "BINDINGS_ROOM(tree_size,sets_size)((tree_size)+65*(sets_size)+14)",
             room::bindings(&tree, &list),
-            750,
+            764,
         ),
         (
-            "FILTERS_ROOM(tree_size,filters_size)((tree_size)+24*(filters_size))",
+            "FILTERS_ROOM(tree_size,filters_size)((tree_size)+24*(filters_size)+14)",
             room::filters(&tree, &list),
-            340,
+            354,
         ),
-        ("TEXT(16384)", room::scope(&[0; 20_000]), 16_385),
+        ("TEXT(16384)", room::scope(&[0; 20_000]), 16_391),
         ("STACK(262144)", STACK, 262_144 + 4_096),
     ];
     for (defined, room, expected) in rooms {

@@ -43,7 +43,8 @@ fn query(kind: &str) -> Vec<u8> {
 
 #[test]
 fn refused() {
-    assert_eq!(gandeuch::scope(b""), Err(Refusal::Malformed));
+    assert_eq!(gandeuch::scope(b"\n"), Err(Refusal::Malformed));
+    assert_eq!(gandeuch::negate(b""), Err(Refusal::Malformed));
     assert_eq!(gandeuch::rename(TREE, b"?a\n"), Err(Refusal::Malformed));
     assert_eq!(gandeuch::negate(TREE), Err(Refusal::Malformed));
     assert_eq!(gandeuch::scope(&[b'\n'; 16_385]), Err(Refusal::OverBound));
@@ -59,6 +60,40 @@ fn refused() {
     assert_eq!(heads, Err(Refusal::NotMergeable));
     let kind = gandeuch::merge_queries(&query("describe"), &query("describe"), b"", b"", b"");
     assert_eq!(kind, Err(Refusal::NotMergeable));
+}
+
+/// Every call on a tree of no bytes, or on a query of its head line alone.
+#[test]
+fn empty_files() {
+    let (head, other) = (b"query\task\t-\t-\n", b"query\tselect\t-\t-\n");
+    let lines: &[u8] = b"project\nbgp\t0\n";
+    let joined: &[u8] = b"project\njoin\nbgp\t0\nbgp\t0\n";
+    let negated: &[u8] = b"project\nfilter\nbgp\t0\nnot\nexists\nbgp\t0\n";
+    let answers = [
+        (gandeuch::scope(b""), b"in\nhid\n".to_vec()),
+        (gandeuch::rename(b"", b"?a\t?b\n"), lines.to_vec()),
+        (
+            gandeuch::merge_patterns(b"", b"", b"", b"", b""),
+            joined.to_vec(),
+        ),
+        (
+            gandeuch::merge_queries(head, head, b"", b"", b""),
+            [head, joined].concat(),
+        ),
+        (gandeuch::push_constants(head, b""), [head, lines].concat()),
+        (gandeuch::negate(head), [head, negated].concat()),
+        (gandeuch::bindings(b"", b""), lines.to_vec()),
+        (gandeuch::filters(b"", b"nary\tf\t0\n"), lines.to_vec()),
+    ];
+    for (answer, expected) in answers {
+        assert_eq!(answer, Ok(expected));
+    }
+    let outside = gandeuch::merge_patterns(b"", TREE, b"0\t0\n", b"", b"");
+    assert_eq!(outside, Err(Refusal::Outside));
+    let heads = gandeuch::merge_queries(head, other, b"", b"", b"");
+    assert_eq!(heads, Err(Refusal::NotMergeable));
+    let unended = gandeuch::push_constants(&head[..head.len() - 1], b"");
+    assert_eq!(unended, Err(Refusal::Malformed));
 }
 
 #[test]

@@ -68,6 +68,15 @@ fn heads_come_back() {
     assert_eq!(read, Some(dataset));
 }
 
+#[test]
+fn an_empty_file_is_two_lines() {
+    let tree = layout::read_pattern(b"").expect("a tree");
+    assert_eq!(layout::write_pattern(&tree), Ok(text("project/bgp|0")));
+    let query = layout::read_query(&text("query|ask|-|-")).expect("a query");
+    let lines = text("query|ask|-|-/project/bgp|0");
+    assert_eq!(layout::write_query(&query), Ok(lines));
+}
+
 fn expression(lines: &str) -> Result<Expression, ReadError> {
     layout::read_expression(&text(lines))
 }

@@ -34,9 +34,10 @@ fn what_is_no_tree_says_why() {
     for (lines, error) in cases {
         assert_eq!(layout::read_pattern(&text(lines)), Err(error), "{lines}");
     }
+    assert_eq!(layout::read_query(b""), Err(ReadError::Missing { line: 1 }));
     assert_eq!(
-        layout::read_pattern(b""),
-        Err(ReadError::Missing { line: 1 })
+        layout::read_pattern(b"\n"),
+        Err(ReadError::Word { line: 1 })
     );
     assert_eq!(
         layout::read_pattern(b"bgp\t0"),

@@ -6,7 +6,7 @@
 
 #include "gandeuch.h"
 
-enum { AROUND = 64, ROOM = 1024, BUFFER = AROUND + ROOM + AROUND, LONGEST = 16384, ENTRIES = 64, TEXTS = 5, MADE = 10 };
+enum { AROUND = 64, ROOM = 1024, BUFFER = AROUND + ROOM + AROUND, LONGEST = 16384, ENTRIES = 64, TEXTS = 5, MADE = 12 };
 
 #define TREE "project\t?a\t?b\nminus\nbgp\t1\nt\t?a\t<p>\t?b\nservice\t?s\t0\nbgp\t1\nt\t?b\t<q>\t?c\n"
 #define SCOPE "in\t?a\t?b\nhid\t?a\t?b\t?c\n"
@@ -21,6 +21,10 @@ enum { AROUND = 64, ROOM = 1024, BUFFER = AROUND + ROOM + AROUND, LONGEST = 1638
               "join\nbgp\t1\nt\t?j0\t<in>\t?r1\nvalues\t1\t1\ncols\t?r1\nrow\t\"b\"\n"
 #define DISTINCT "distinct\n" LEFT
 #define BAD "bgp\t1\n"
+#define EMPTY "project\nbgp\t0\n"
+#define JOINED "project\njoin\nbgp\t0\nbgp\t0\n"
+#define EMPTY_LEFT "project\t?r0\t?r1\njoin\nbgp\t0\nbgp\t1\nt\t?r0\t<in>\t?r1\n"
+#define EMPTY_RIGHT "project\t?l0\t?l1\njoin\nbgp\t1\nt\t?l0\t<in>\t?l1\nbgp\t0\n"
 
 #define SELECT "query\tselect\t-\t-\n"
 #define ASK "query\task\t-\t-\n"
@@ -144,7 +148,8 @@ static void expect_in_rooms(const char *label, call *made, const char *const giv
 
 static void scopes(void) {
     expect_in_rooms("scope", scope, TEXTS_OF(TREE), SCOPE);
-    expect("scope-no-text", scope, TEXTS_OF(""), ROOM, 1, "");
+    expect_in_rooms("scope-empty-file", scope, TEXTS_OF(""), "in\nhid\n");
+    expect("scope-empty-line", scope, TEXTS_OF("\n"), ROOM, 1, "");
     expect("scope-unended", scope, TEXTS_OF("bgp\t0"), ROOM, 1, "");
     expect("scope-malformed-no-room", scope, TEXTS_OF(BAD), 0, 1, "");
     expect("scope-text-at-bound", scope, TEXTS_OF(repeated("", "x", LONGEST, "")), ROOM, 1, "");
@@ -156,6 +161,7 @@ static void renames(void) {
     const char *many = repeated("", "?k%d\t?a\n", ENTRIES + 1, "");
     expect_in_rooms("rename", rename_tree, TEXTS_OF(TREE, SWAP), RENAMED);
     expect("rename-empty-mapping", rename_tree, TEXTS_OF(TREE, ""), ROOM, 0, TREE);
+    expect_in_rooms("rename-empty-file", rename_tree, TEXTS_OF("", SWAP), EMPTY);
     expect("rename-bad-tree", rename_tree, TEXTS_OF(BAD, SWAP), ROOM, 1, "");
     expect("rename-from-repeated", rename_tree, TEXTS_OF(TREE, "?a\t?b\n?a\t?c\n"), ROOM, 1, "");
     expect("rename-mapping-over", rename_tree, TEXTS_OF(TREE, many), ROOM, 2, "");
@@ -167,7 +173,10 @@ static void merges_of_patterns(void) {
     const char *joins = repeated("", "0\t%d\n", ENTRIES + 1, ""), *constants = repeated("", "%d\t<k>\n", ENTRIES + 1, "");
     expect_in_rooms("merge", merge_patterns, TEXTS_OF(LEFT, RIGHT, JOIN), MERGED);
     expect_in_rooms("merge-constants", merge_patterns, TEXTS_OF(LEFT, RIGHT, JOIN, "1\t<k>\n", "1\t\"b\"\n"), BOUND);
-    expect("merge-no-left", merge_patterns, TEXTS_OF("", RIGHT, JOIN), ROOM, 1, "");
+    expect_in_rooms("merge-empty-files", merge_patterns, TEXTS_OF(""), JOINED);
+    expect("merge-empty-left", merge_patterns, TEXTS_OF("", RIGHT), ROOM, 0, EMPTY_LEFT);
+    expect("merge-empty-right", merge_patterns, TEXTS_OF(RIGHT), ROOM, 0, EMPTY_RIGHT);
+    expect("merge-empty-left-outside", merge_patterns, TEXTS_OF("", RIGHT, JOIN), 0, 3, "");
     expect("merge-left-first", merge_patterns, TEXTS_OF(over, BAD, "0\n"), ROOM, 2, "");
     expect("merge-right-second", merge_patterns, TEXTS_OF(LEFT, over, "0\n"), ROOM, 2, "");
     expect("merge-joins-third", merge_patterns, TEXTS_OF(DISTINCT, RIGHT, joins, "0\t?a\n"), ROOM, 2, "");
@@ -184,6 +193,12 @@ static void merges_of_patterns(void) {
 static void merges_of_queries(void) {
     expect_in_rooms("merge-queries", merge_queries, TEXTS_OF(SELECT LEFT, SELECT RIGHT, JOIN), SELECT MERGED);
     expect("merge-queries-ask", merge_queries, TEXTS_OF(ASK LEFT, ASK RIGHT, JOIN), ROOM, 0, ASK MERGED);
+    expect_in_rooms("merge-queries-heads-alone", merge_queries, TEXTS_OF(ASK, ASK), ASK JOINED);
+    expect("merge-queries-left-head-alone", merge_queries, TEXTS_OF(SELECT, SELECT RIGHT), ROOM, 0, SELECT EMPTY_LEFT);
+    expect("merge-queries-right-head-alone", merge_queries, TEXTS_OF(SELECT RIGHT, SELECT), ROOM, 0, SELECT EMPTY_RIGHT);
+    expect("merge-queries-other-head-alone", merge_queries, TEXTS_OF(SELECT RIGHT, ASK), 0, 5, "");
+    expect("merge-queries-head-unended", merge_queries, TEXTS_OF("query\task\t-\t-", ASK RIGHT), ROOM, 1, "");
+    expect("merge-queries-no-query", merge_queries, TEXTS_OF(ASK RIGHT, ""), ROOM, 1, "");
     expect("merge-queries-tree", merge_queries, TEXTS_OF(LEFT, SELECT RIGHT, JOIN), ROOM, 1, "");
     expect("merge-queries-joins", merge_queries, TEXTS_OF(SELECT DISTINCT, ASK RIGHT, "9\n"), ROOM, 1, "");
     expect("merge-queries-heads", merge_queries, TEXTS_OF(SELECT DISTINCT, ASK RIGHT, "9\t9\n"), 0, 5, "");
@@ -197,6 +212,11 @@ static void pushes(void) {
     expect_in_rooms("push", push_constants, TEXTS_OF(SELECT LEFT, "1\t<k>\n"), SELECT PUSHED);
     expect("push-construct", push_constants, TEXTS_OF(CONSTRUCT LEFT, "9\t<k>\n"), ROOM, 0, CONSTRUCT LEFT);
     expect("push-no-project", push_constants, TEXTS_OF(SELECT DISTINCT, "9\t<k>\n"), ROOM, 0, SELECT DISTINCT);
+    expect_in_rooms("push-head-alone", push_constants, TEXTS_OF(SELECT), SELECT EMPTY);
+    expect_in_rooms("push-construct-head-alone", push_constants, TEXTS_OF(CONSTRUCT, "9\t<k>\n"), CONSTRUCT EMPTY);
+    expect("push-head-alone-outside", push_constants, TEXTS_OF(SELECT, "0\t<k>\n"), 0, 3, "");
+    expect("push-head-unended", push_constants, TEXTS_OF("query\task\t-\t-"), ROOM, 1, "");
+    expect("push-no-query", push_constants, TEXTS_OF(""), ROOM, 1, "");
     expect("push-bad-query", push_constants, TEXTS_OF(SELECT BAD, "1\t<k>\n"), ROOM, 1, "");
     expect("push-repeated", push_constants, TEXTS_OF(SELECT LEFT, "1\t<k>\n1\t<l>\n"), ROOM, 1, "");
     expect("push-outside", push_constants, TEXTS_OF(ASK LEFT, "2\t<k>\n"), 0, 3, "");
@@ -206,6 +226,12 @@ static void negations(void) {
     expect_in_rooms("negate", negate, TEXTS_OF(SELECT DISTINCT), SELECT NEGATED);
     expect("negate-describe", negate, TEXTS_OF("query\tdescribe\t-\t-\n" LEFT), ROOM, 0, "query\tdescribe\t-\t-\n" LEFT);
     expect("negate-no-projection", negate, TEXTS_OF(SELECT "bgp\t0\n"), ROOM, 0, SELECT "bgp\t0\n");
+    expect_in_rooms("negate-head-alone", negate, TEXTS_OF(ASK), ASK "project\nfilter\nbgp\t0\nnot\nexists\nbgp\t0\n");
+    expect_in_rooms("negate-construct-head-alone", negate, TEXTS_OF(CONSTRUCT), CONSTRUCT EMPTY);
+    expect("negate-head-unended", negate, TEXTS_OF("query\task\t-\t-"), ROOM, 1, "");
+    expect("negate-no-query", negate, TEXTS_OF(""), ROOM, 1, "");
+    expect("negate-head-too-long", negate, TEXTS_OF(repeated("query\task\t-\t", "b", LONGEST - 12, "\n")), ROOM, 2, "");
+    expect("negate-head-at-bound-no-room", negate, TEXTS_OF(repeated("query\task\t-\t", "b", LONGEST - 13, "\n")), ROOM, 6, "");
     expect("negate-tree", negate, TEXTS_OF(LEFT), 0, 1, "");
     expect("negate-over", negate, TEXTS_OF(repeated(SELECT "project", "\t?c%d", ENTRIES + 1, "\nbgp\t0\n")), 0, 2, "");
 }
@@ -214,6 +240,9 @@ static void bindings_of_sets(void) {
     const char *many = repeated("", "set\t1\t0\nat\t%d\n", ENTRIES + 1, "");
     expect_in_rooms("bindings", bindings, TEXTS_OF(DISTINCT, SETS), WITH_SETS);
     expect("bindings-no-sets", bindings, TEXTS_OF(DISTINCT), ROOM, 0, DISTINCT);
+    expect_in_rooms("bindings-empty-file", bindings, TEXTS_OF(""), EMPTY);
+    expect_in_rooms("bindings-empty-file-no-columns", bindings, TEXTS_OF("", "set\t0\t1\nat\nrow\n"), "project\njoin\nbgp\t0\nvalues\t0\t1\ncols\nrow\n");
+    expect("bindings-empty-file-outside", bindings, TEXTS_OF("", "set\t1\t0\nat\t0\n"), 0, 3, "");
     expect("bindings-no-projection", bindings, TEXTS_OF(BELOW_JOIN, "set\t1\t1\nat\t9\nrow\tMap\tx\t-\n"), ROOM, 0, BELOW_JOIN);
     expect("bindings-bad-tree-first", bindings, TEXTS_OF(BAD, many), ROOM, 1, "");
     expect("bindings-bad-sets", bindings, TEXTS_OF(LEFT, "set\t1\t0\n"), ROOM, 1, "");
@@ -225,6 +254,8 @@ static void bindings_of_sets(void) {
 static void filters_placed(void) {
     expect_in_rooms("filters", filters, TEXTS_OF(DISTINCT, FILTER), WITH_FILTER);
     expect("filters-none", filters, TEXTS_OF(DISTINCT), ROOM, 0, DISTINCT);
+    expect_in_rooms("filters-empty-file", filters, TEXTS_OF("", "nary\tf\t0\n"), EMPTY);
+    expect("filters-empty-file-outside", filters, TEXTS_OF("", "ref\t0\n"), 0, 3, "");
     expect("filters-dropped", filters, TEXTS_OF(LEFT, "un\tOther\nref\t0\n"), ROOM, 0, LEFT);
     expect("filters-no-projection", filters, TEXTS_OF(BELOW_JOIN, "ref\t9\n"), ROOM, 0, BELOW_JOIN);
     expect("filters-bad-tree-first", filters, TEXTS_OF(BAD, "ref\n"), ROOM, 1, "");

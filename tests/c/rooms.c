@@ -7,13 +7,13 @@
 
 /* The numbers of `longest-rooms` in crates/room/proofs/Worked.antt: the header's sums are those that are proved. */
 #define LONGEST GANDEUCH_TEXT
-_Static_assert(GANDEUCH_SCOPE_ROOM(LONGEST) == 16385, "scope");
-_Static_assert(GANDEUCH_RENAME_ROOM(LONGEST) == 720896, "rename");
-_Static_assert(GANDEUCH_MERGE_ROOM(LONGEST, LONGEST, LONGEST, LONGEST) == 131072, "merge");
-_Static_assert(GANDEUCH_PUSH_ROOM(LONGEST, LONGEST) == 65536, "push");
-_Static_assert(GANDEUCH_NEGATE_ROOM(LONGEST) == 16408, "negate");
-_Static_assert(GANDEUCH_BINDINGS_ROOM(LONGEST, LONGEST) == 1081344, "bindings");
-_Static_assert(GANDEUCH_FILTERS_ROOM(LONGEST, LONGEST) == 409600, "filters");
+_Static_assert(GANDEUCH_SCOPE_ROOM(LONGEST) == 16391, "scope");
+_Static_assert(GANDEUCH_RENAME_ROOM(LONGEST) == 720910, "rename");
+_Static_assert(GANDEUCH_MERGE_ROOM(LONGEST, LONGEST, LONGEST, LONGEST) == 131156, "merge");
+_Static_assert(GANDEUCH_PUSH_ROOM(LONGEST, LONGEST) == 65578, "push");
+_Static_assert(GANDEUCH_NEGATE_ROOM(LONGEST) == 16422, "negate");
+_Static_assert(GANDEUCH_BINDINGS_ROOM(LONGEST, LONGEST) == 1081358, "bindings");
+_Static_assert(GANDEUCH_FILTERS_ROOM(LONGEST, LONGEST) == 409614, "filters");
 
 /* A text, and a byte more for the zero that ends it while it is made. */
 struct text {
@@ -62,7 +62,7 @@ static void held(const char *label, uint8_t number, size_t size, size_t room, si
 }
 
 static void single(void) {
-    struct text tree = text("bgp\t0\n"), query = text("query\task\t-\t-\nproject\nbgp\t0\n");
+    struct text tree = text(""), query = text("query\task\t-\t-\n");
     size_t size, room = GANDEUCH_SCOPE_ROOM(tree.size);
     uint8_t number = gandeuch_scope(tree.bytes, tree.size, out, room, &size);
     held("scope", number, size, room, room - 1);

@@ -84,9 +84,9 @@ pub fn write_expression(expression: &Expression) -> Result<Vec<u8>, WriteError> 
     written(|writer| writer.expression(expression))
 }
 
-/// The pattern of a text.
+/// The pattern of a text; an empty file is a project without columns over no triples.
 pub fn read_pattern(text: &[u8]) -> Result<GraphPattern, ReadError> {
-    read(text, Reader::pattern)
+    read(text, Reader::tree)
 }
 
 /// The query of a text. A construct comes back without its template.

@@ -6,13 +6,22 @@ use super::{ReadError, read_pattern, read_query, write_pattern, write_query};
 use crate::Refusal;
 use crate::tests::recorded;
 
+/// The text with the two lines that an empty file is read as.
+fn whole(mut text: Vec<u8>) -> Vec<u8> {
+    let lines = text.split_inclusive(|byte| *byte == b'\n').count();
+    if lines == usize::from(is_query(&text)) {
+        text.extend(b"project\nbgp\t0\n");
+    }
+    text
+}
+
 /// The trees and queries of all recorded inputs and answers.
 fn texts() -> Vec<Vec<u8>> {
     let mut texts = Vec::new();
     for (name, cases) in recorded::all() {
         let inputs = if name.starts_with("merge") { 2 } else { 1 };
         for case in cases {
-            texts.extend(case.texts.into_iter().take(inputs));
+            texts.extend(case.texts.into_iter().take(inputs).map(whole));
             if name != "scope" {
                 texts.push(case.answer);
             }
@@ -34,7 +43,7 @@ fn copied(text: &[u8]) -> Result<Vec<u8>, ReadError> {
     let written = if is_query(text.as_bytes()) {
         writer.query(&reader.query()?)
     } else {
-        writer.pattern(&reader.pattern()?)
+        writer.pattern(&reader.tree()?)
     };
     written.expect("what was read");
     reader.end()?;
@@ -129,7 +138,8 @@ fn damaged_texts_are_read_where_the_library_takes_them() {
             };
             match checked {
                 Ok(_) => {
-                    assert_eq!(copied(&text).as_ref(), Ok(&text), "{}", text.escape_ascii());
+                    let given = whole(text.clone());
+                    assert_eq!(copied(&text), Ok(given), "{}", text.escape_ascii());
                     taken += 1;
                 }
                 Err(Refusal::OverBound) => {}

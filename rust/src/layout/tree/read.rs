@@ -106,6 +106,18 @@ impl<'t, L: ReadLeaves<'t>> Reader<'t, L> {
         Ok(parts)
     }
 
+    /// An empty file is a project without columns over no triples.
+    pub fn tree(&mut self) -> Read<GraphPattern> {
+        if !self.rest.is_empty() {
+            return self.pattern();
+        }
+        let patterns = Vec::new();
+        Ok(GraphPattern::Project {
+            inner: Box::new(GraphPattern::Bgp { patterns }),
+            variables: Vec::new(),
+        })
+    }
+
     /// A construct has no template in the layout.
     pub fn query(&mut self) -> Read<Query> {
         let mut line = self.after("query")?;
@@ -123,7 +135,7 @@ impl<'t, L: ReadLeaves<'t>> Reader<'t, L> {
         };
         let bad_kind = line.bad_field();
         line.end()?;
-        let pattern = self.pattern()?;
+        let pattern = self.tree()?;
         match kind {
             "select" => Ok(Query::Select {
                 dataset,
