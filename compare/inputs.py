@@ -4,7 +4,7 @@
     inputs.py PROGRAM COUNT SEED    prints COUNT inputs, each followed by a line ====
 
 Most are well formed, with projects for roots and positions inside. In some a root is something else, a position is outside,
-heads differ, a text is damaged or stands at a bound.
+heads differ, a tree is an empty file, a text is damaged or stands at a bound.
 """
 
 import itertools
@@ -21,8 +21,10 @@ import trees
 import values
 
 # The kinds of text that a call reads, in order.
-TEXTS = {row.name: row.kinds for row in calls.ROWS if row.name not in ("scope", "rename")}
+KINDS = {row.name: row.kinds for row in calls.ROWS}
+TEXTS = {name: kinds for name, kinds in KINDS.items() if name not in ("scope", "rename")}
 BAR = b"--\n"
+EMPTY = b"project\nbgp\t0\n"
 HUGE = 4294967295
 TERMS = trees.IRIS + trees.LITERALS + [b"<k%d>" % number for number in range(trees.COLUMNS)]
 
@@ -42,6 +44,16 @@ def lines(text):
     """The lines of a text with their ends; an unended one too."""
     ended = text.split(b"\n")
     return [line + b"\n" for line in ended[:-1]] + [ended[-1]] * (ended[-1] != b"")
+
+
+def is_empty(kind, text):
+    """Whether a text is a tree of no bytes, or a query of its head line alone."""
+    return kind == "tree" and text == b"" or kind == "query" and text.count(b"\n") == 1 and text.endswith(b"\n")
+
+
+def whole(program, case):
+    """The input with the two lines where it has an empty file: what the Rust is given."""
+    return BAR.join(text + EMPTY * is_empty(kind, text) for kind, text in zip(KINDS[program], parted(case)))
 
 
 def columns(tree):
@@ -207,7 +219,7 @@ class Inputs:
         return self.rng.choice([self.outer, self.outer, self.tree])(trees.name_pool(self.rng))
 
     def width(self, tree, of=columns):
-        found = of(tree)
+        found = of(tree or EMPTY)
         return self.rng.randint(1, 3) if found is None else len(found)
 
     def spoiled(self, kinds, texts):
@@ -220,15 +232,26 @@ class Inputs:
         return texts
 
 
+class WithEmpty(Inputs):
+    """The same, with an empty file for every other tree."""
+
+    def tree(self, pool):
+        return b"" if self.chance(0.5) else super().tree(pool)
+
+    def placed(self):
+        return b"" if self.chance(0.5) else super().placed()
+
+
 def query(head, tree):
     return b"\t".join([b"query", *head]) + b"\n" + tree
 
 
 def cases(program, count, seed):
-    """That many inputs of a program."""
-    make = Inputs(random.Random(f"{program} {seed}"))
+    """That many inputs of a program, one in twenty made with empty files."""
+    make, other = Inputs(random.Random(f"{program} {seed}")), WithEmpty(random.Random(f"{program} {seed}, empty files"))
     for _ in range(count):
-        yield BAR.join(make.spoiled(TEXTS[program], getattr(make, program)()))
+        made = make.spoiled(TEXTS[program], getattr(make, program)())
+        yield BAR.join(getattr(other, program)() if other.chance(0.05) else made)
 
 
 def main():

@@ -19,7 +19,7 @@ def malformed(program, case):
     kinds, texts = inputs.TEXTS[program], inputs.parted(case)
     if len(texts) != len(kinds):
         return 1
-    return next(filter(None, map(second_reader.number, kinds, texts)), 0)
+    return next(filter(None, map(second_reader.given, kinds, texts)), 0)
 
 
 def head_and_tree(query):
@@ -92,7 +92,7 @@ RUST = {3: b"panicked\n", 4: b"none\n", 5: b"none\n", 7: b"panicked\n"}
 
 def number(program, case):
     """The number of an input, 0 if there is to be an answer of whatever length."""
-    return malformed(program, case) or OF[program](*inputs.parted(case))
+    return malformed(program, case) or OF[program](*inputs.parted(inputs.whole(program, case)))
 
 
 class Filter:
@@ -126,5 +126,5 @@ def rust(program, case):
     found = RUST.get(number(program, case))
     if found is None or program != "filters":
         return found
-    tree, filters = inputs.parted(case)
+    tree, filters = inputs.parted(inputs.whole(program, case))
     return found if outside(inputs.outermost(tree), Filter(filters).seen) else None

@@ -1,5 +1,5 @@
 #!/usr/bin/env python3
-"""Random well-formed trees and mappings in the layout, within the bounds. A seed always gives the same texts.
+"""Random well-formed trees and mappings in the layout, within the bounds; some are empty files. A seed always gives the same texts.
 
     trees.py COUNT SEED    prints COUNT cases (a tree, a line --, a mapping), each followed by a line ====
 """
@@ -348,11 +348,12 @@ def entries(pairs):
 
 
 def cases(count, seed):
-    """Pairs of a tree and a mapping."""
-    rng = random.Random(seed)
+    """Pairs of a tree, now and then an empty file, and a mapping."""
+    rng, other = random.Random(seed), random.Random(f"{seed}, empty files")
     for _ in range(count):
         text = tree(rng)
-        yield text, mapping(rng, text)
+        renaming = mapping(rng, text)
+        yield b"" if other.random() < 0.003 else text, renaming
 
 
 def main():

@@ -1,4 +1,4 @@
-//! Reads well-formed texts of trees, queries and lists, and empty files. On any other text it panics.
+//! Reads well-formed texts of trees, queries and lists. On any other text it panics.
 
 use std::collections::HashMap;
 use std::str::SplitTerminator;
@@ -21,12 +21,12 @@ use crate::tree::Reader;
 
 pub fn tree(text: &str) -> GraphPattern {
     let mut reader = Reader::new(text, Opaque::new(cfg!(ordered)));
-    reader.tree().expect("a tree")
+    reader.pattern().expect("a tree")
 }
 
 pub fn tree_and_places(text: &str) -> (GraphPattern, Places<'_>) {
     let mut reader = Reader::new(text, Opaque::new(true));
-    let tree = reader.tree().expect("a tree");
+    let tree = reader.pattern().expect("a tree");
     (tree, reader.leaves.places.expect("was asked for"))
 }
 
