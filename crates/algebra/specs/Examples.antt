@@ -14,6 +14,7 @@ use Rattle.algebra.specs.Reader.{one, kept, rest, times, end, tooMany, s
 use Rattle.algebra.specs.Reading.{expressions, orders, aggregates, patternAfter, expressionAfter, inside}
 use Rattle.algebra.specs.ListReading.{parts, partAfter, filterIn}
 use Rattle.algebra.specs.Texts.{readTree, readQuery, readPairs, readSets, readFilters}
+use Rattle.algebra.specs.Given.{emptyTree, readGivenTree, readGivenQuery}
 use Rattle.algebra.specs.bridge.Table.{patterns, rowIn}
 use Rattle.algebra.specs.bridge.Machine.{want, good, done, lineOf, run, checkText}
 use Rattle.algebra.specs.Bounded.{layoutQuery, layoutPairs, layoutSets, layoutFilters}
@@ -156,3 +157,28 @@ read-filter = refl
 bad-filters : map (λ s. number-of (readFilters s)) (bytes "bin\tEquals\nref\t0\n" ∷ bytes "nary\t\t0\n" ∷ bytes "nary\tAny\t0\nref\t1\n" ∷ []) ≡ 1 ∷ 1 ∷ 0 ∷ []
 unfolding numbered
 bad-filters = refl
+
+-- ---- an empty file
+
+-- the number that a call gives a query's text
+given : Bytes → ℕ
+unfolding readGivenQuery numbered
+given s = number-of (readGivenQuery s)
+
+empty-file : readGivenTree [] ≡ reads emptyTree
+unfolding readGivenTree numbered
+empty-file = refl
+
+head-line-alone : readGivenQuery (bytes "query\task\t-\t-\n") ≡ reads (record { kind = bytes "ask"; dataset = bytes "-"; base = bytes "-"; tree = emptyTree })
+unfolding given numbered
+head-line-alone = refl
+
+-- a line end is no empty file
+line-end : number-of (readGivenTree (bytes "\n")) ≡ 1
+unfolding readGivenTree numbered
+line-end = refl
+
+-- no bytes, a line end, the two lines alone, a head line that isn't ended, one of another form, an empty line behind it
+no-heads : map given ([] ∷ bytes "\n" ∷ bytes "project\nbgp\t0\n" ∷ bytes "query\task\t-\t-" ∷ bytes "query\task\t-\n" ∷ bytes "query\task\t-\t-\n\n" ∷ []) ≡ 1 ∷ 1 ∷ 1 ∷ 1 ∷ 1 ∷ 1 ∷ []
+unfolding given numbered
+no-heads = refl
