@@ -14,4 +14,5 @@ pub mod Decide
 pub mod Needed
 pub mod Once
 pub mod Relays
+pub mod Nothing
 pub mod Empty

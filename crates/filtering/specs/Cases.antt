@@ -83,4 +83,13 @@ cases =
     ∷ refuses (filters "project\t?a\t?b\nbgp\t0\n" "ref\t2\nleaf\tIri\tk\t<x>\n") 1
     ∷ refuses (filters "project\t?a\t?b\nbgp\t0\n" "bin\tEquals\nref\t2\n") 1
     ∷ refuses (filters "project\t?a\t?b\nbgp\t0\nbgp\t0\n" "ref\t2\n") 1
+    -- an empty file: copied, a set of no columns placed, a constant filter placed, no column to bind or to name, a line end
+    ∷ gives (bindings "" "") "project\nbgp\t0\n"
+    ∷ gives (bindings "" "set\t0\t1\nat\nrow\n") "project\njoin\nbgp\t0\nvalues\t0\t1\ncols\nrow\n"
+    ∷ refuses (bindings "" "set\t1\t0\nat\t0\n") 3
+    ∷ refuses (bindings "\n" "") 1
+    ∷ gives (filters "" "leaf\tBoolean\ttrue\t<x>\n") "project\nbgp\t0\n"
+    ∷ gives (filters "" "leaf\tBoolean\tfalse\t<x>\n") "project\nfilter\nbgp\t0\nterm\t\"false\"^^<x>\n"
+    ∷ refuses (filters "" "ref\t0\n") 3
+    ∷ refuses (filters "\n" "") 1
     ∷ []

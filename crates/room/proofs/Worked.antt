@@ -9,16 +9,13 @@ use Rattle.text.specs.Word.{bytes, spelled}
 use Rattle.text.specs.Field.{digitsOf, numberOf, digits, decimal, clean, isVar, isIri, isLiteral, isBlank, isDash, isFlag, isTag, isRegion, isDatatype, isForm, isKind, fits, allFit}
 use Rattle.algebra.specs.Layout.{putTriples, putRows, putArity, put, layout}
 use Rattle.algebra.specs.Valid.{mem}
-use Rattle.algebra.specs.Tally.{notes, noted, headed, within, tallyTriples, tally}
+use Rattle.algebra.specs.Tally.{notes, noted, headed, within}
 use Rattle.algebra.specs.Reader.{one, kept, rest, times, end, tooMany, several, readText}
 use Rattle.algebra.specs.Reading.{expressions, orders, aggregates, patternAfter, expressionAfter, inside}
 use Rattle.algebra.specs.ListReading.{parts, partAfter, filterIn}
 use Rattle.algebra.specs.Given.{readGivenTree}
 use Rattle.algebra.specs.Texts.{readFilters}
 use Rattle.answers.specs.Outcome.{Outcome, refused, written}
-use Rattle.scoping.specs.Sets.{keep, variablesOf, tripleVariables}
-use Rattle.scoping.specs.Variables.{variablesInPattern}
-use Rattle.scoping.specs.Numbering.{byPlace, inScopeByPlace, hiddenByPlace}
 use Rattle.surveying.specs.Scope.{scopeOutcome}
 use Rattle.surveying.proofs.Given.{scope-empty}
 use Rattle.merging.specs.Cases.{Call, mergePatterns, mergeQueries, pushConstants, negate, Case, cases, outcomeOf}
