@@ -71,7 +71,7 @@ uint8_t gandeuch_rename(const uint8_t *tree, size_t tree_size,
                         uint8_t *out, size_t out_size, size_t *size);
 
 /* merge_patterns: two trees whose roots are project, merged into one whose answer joins the columns of `joins`, a line `left right`
- * for each pair of positions; `left_constants` and `right_constants` fix columns, a line `position term` each. Numbers 1, 2, 4, 3, 6. */
+ * for each pair of positions; `left_constants` and `right_constants` fix columns, a line `position term` each. Numbers 1, 2, 4, 3, 10, 6. */
 uint8_t gandeuch_merge_patterns(const uint8_t *left, size_t left_size,
                                 const uint8_t *right, size_t right_size,
                                 const uint8_t *joins, size_t joins_size,
@@ -79,7 +79,7 @@ uint8_t gandeuch_merge_patterns(const uint8_t *left, size_t left_size,
                                 const uint8_t *right_constants, size_t right_constants_size,
                                 uint8_t *out, size_t out_size, size_t *size);
 
-/* merge_queries: the same for two queries with one head, which the answer has too; select and ask can be merged. Numbers 1, 2, 5, 4, 3, 6. */
+/* merge_queries: the same for two queries with one head, which the answer has too; select and ask can be merged. Numbers 1, 2, 5, 4, 3, 10, 6. */
 uint8_t gandeuch_merge_queries(const uint8_t *left, size_t left_size,
                                const uint8_t *right, size_t right_size,
                                const uint8_t *joins, size_t joins_size,
