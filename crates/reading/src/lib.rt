@@ -6,17 +6,25 @@ use checking::check::check_list;
 use checking::check::check_one;
 use checking::check::note_one;
 use lines::fields::Node;
+use cursor::Cursor;
 use lines::fields::Spot;
+use lines::line::Line;
+use lines::line::read_line;
+use lines::wanted::Wanted;
 use names::Entry;
 use names::no_names;
 use words::table::WordRow;
 ghost use mathlib.Core.Path.{_≡_};
-ghost use lib.ListN.{replicate};
+ghost use Prim.Native.Nat.{_+_};
+ghost use mathlib.Core.List.{[]};
+ghost use lib.ListN.{length, replicate};
+ghost use Rattle.text.specs.Text.{First};
 ghost use Rattle.algebra.specs.Texts.{readTree, readQuery, readSets, readFilters};
+ghost use Rattle.algebra.specs.Given.{readGivenQuery};
 ghost use Rattle.names.specs.bridge.Checked.{Checked};
 ghost use Rattle.reading.specs.bridge.Charted.{Charted, treeStart, queryStart};
 ghost use Rattle.reading.specs.bridge.Variables.{treeNames, queryNames, setNames, filterNames};
-ghost use Rattle.names.specs.bridge.Names.{startsOf, sizesOf};
+ghost use Rattle.names.specs.bridge.Names.{startsOf, sizesOf, HoldsIn};
 ghost use Rattle.words.specs.bridge.Words.{Worded};
 
 // A tree: its number, and the table of its distinct variables by first place.
@@ -49,7 +57,46 @@ pub fn note_tree(
     note_one(text, 2, DEPTH, words, table, hints, spots, nodes)
 }
 
-// A query: its head line, then a tree.
+// A query's head line that stands alone.
+fn check_head(
+    text: &[u8],
+    line: Cursor,
+    words: &[WordRow; 56],
+    table: &mut [Entry; 1024],
+    hints: &mut [u16; 2048],
+) -> Answer
+    requires { ⌜ (line .at ≡ 0) × First 10 (now text) 0 (length (now text)) (line .end) × (line .end + 1 ≡ length (now text)) × HoldsIn (now text) (now table) (now hints) 0 [] × Worded (now words) ⌝ }
+    ensures { λ r. ⌜ Checked queryNames (now (text .entry)) (startsOf (now (table .exit))) (sizesOf (now (table .exit))) (now (hints .exit)) (readGivenQuery (now (text .entry))) r ⌝ }
+{
+    if 16384 < text.len() {
+        return Answer::OverBound;
+    }
+    let mut no_spots: [Spot; 1] = [[0, 0, 0]];
+    let w = Wanted {
+        sort: 7,
+        level: DEPTH,
+        width: 0,
+        mark: 0,
+    };
+    match read_line(
+        text,
+        line,
+        w,
+        0,
+        words,
+        table,
+        hints,
+        0,
+        &mut no_spots,
+        0,
+    ) {
+        Line::Asks(a) => Answer::Good(a.names),
+        Line::Malformed => Answer::Malformed,
+        Line::OverBound => Answer::OverBound,
+    }
+}
+
+// A query: its head line, then a tree, or nothing, which is an empty file's tree.
 pub fn check_query(
     text: &[u8],
     words: &[WordRow; 56],
@@ -57,10 +104,14 @@ pub fn check_query(
     hints: &mut [u16; 2048],
 ) -> Answer
     requires { ⌜ Worded (now words) ⌝ }
-    ensures { λ r. ⌜ Checked queryNames (now (text .entry)) (startsOf (now (table .exit))) (sizesOf (now (table .exit))) (now (hints .exit)) (readQuery (now (text .entry))) r ⌝ }
+    ensures { λ r. ⌜ Checked queryNames (now (text .entry)) (startsOf (now (table .exit))) (sizesOf (now (table .exit))) (now (hints .exit)) (readGivenQuery (now (text .entry))) r ⌝ }
 {
     no_names(table, hints);
-    check_one(text, 7, DEPTH, words, table, hints)
+    let line = Cursor::new(0).next_line(text);
+    if text.len() - line.end != 1 {
+        return check_one(text, 7, DEPTH, words, table, hints);
+    }
+    check_head(text, line, words, table, hints)
 }
 
 // The same, and the spots and nodes of its tree.

@@ -1,10 +1,14 @@
 -- `reading::check_query` meets its contract. Assumes nothing.
 use borrow.Author.Needs.{needs}
+use mathlib.Core.Path.{sym, ap, subst, _∙_}
 use native.Mathlib.Omega.{arith}
 use denote.Ref.{now}
 use Rattle.algebra.specs.Tally.{tallyQuery}
+use Rattle.algebra.specs.bridge.Verdict.{checked}
+use Rattle.algebra.proofs.Alone.{not-alone}
 use Rattle.algebra.proofs.CheckReads.{check-query}
 use Rattle.names.proofs.Laws.{holds-none}
+use Rattle.reading.proofs.HeadLaw as H
 use Rattle.reading.proofs.ToldLaw.{told}
 use Rattle.reading.proofs.check_query.Statement.{statement}
 use Rattle.reading.proofs.check_query.Tie as tie
@@ -14,5 +18,10 @@ check-query-spec =
     tie.close
     (tie.spec
     (λ c κs. search needs)
-    (λ c κs. let c2 = c .before .before in (omega arith, holds-none _ _ _ _ (c2 .no-names .ensures .0) (c2 .no-names .ensures .1) (c2 .no-names .ensures .2), c2 .before .before .before .before .pre))
-    (λ c. told tallyQuery _ _ _ _ _ _ _ (check-query (now (c .before .before .before .before .before .before .before .args .text))) (c .check-one .ensures)))
+    (λ c κs. search needs)
+    (λ c κs. let n = c .new .ensures .0 in omega (arith, n))
+    (λ c. let h = c .before .next-line .ensures .1 .high in omega (arith, h))
+    (λ c κs. let c6 = c .before .before .before .before .before .before in (omega arith, holds-none _ _ _ _ (c6 .no-names .ensures .0) (c6 .no-names .ensures .1) (c6 .no-names .ensures .2), c6 .before .before .before .before .pre))
+    (λ c. let c3 = c .before .before .before in let c5 = c3 .before .before in let s = now (c5 .before .before .before .before .before .before .args .text) in told tallyQuery _ _ _ _ _ _ _ (check-query s ∙ ap (checked tallyQuery) (sym (not-alone s _ (H.from-start _ _ _ _ (c5 .before .new .ensures .0) (c5 .next-line .ensures .1)) (λ e. c3 .if1 .taken (omega (arith, e)))))) (c .check-one .ensures))
+    (λ c κs. let c2 = c .before .before in let c4 = c2 .before .before in let c6 = c4 .before .before in let n = c4 .next-line .ensures in let h = n .1 .high in let e = c2 .if1 .left in (ap (λ k. k .at) (n .0) ∙ c4 .before .new .ensures .0, H.from-start _ _ _ _ (c4 .before .new .ensures .0) (n .1), omega (arith, e, h), holds-none _ _ _ _ (c6 .no-names .ensures .0) (c6 .no-names .ensures .1) (c6 .no-names .ensures .2), c6 .before .before .before .before .pre))
+    (λ c. c .check-head .ensures))
