@@ -17,3 +17,4 @@ pub mod CheckReads
 pub mod Lines
 pub mod Roomy
 pub mod Given
+pub mod Alone

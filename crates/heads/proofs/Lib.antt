@@ -2,3 +2,4 @@ pub mod Cut
 pub mod Queries
 pub mod Heads
 pub mod Copied
+pub mod Parts

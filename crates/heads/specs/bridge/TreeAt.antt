@@ -6,7 +6,8 @@ use lib.ListN.{length, take}
 use Rattle.text.specs.Text.{Bytes, Line, ended, linesOf, linesFrom}
 use Rattle.text.specs.Word.{bytes}
 use Rattle.algebra.specs.Query.{Query}
-use Rattle.algebra.specs.Layout.{put}
+use Rattle.algebra.specs.Valid.{Valid}
+use Rattle.algebra.specs.Layout.{put, layout}
 use Rattle.algebra.specs.Reader.{reads}
 use Rattle.algebra.specs.Texts.{readQuery}
 use Rattle.algebra.specs.Given.{emptyTree}
@@ -30,3 +31,9 @@ pub record GivenAt (s : Bytes) (q : Query) (r : ℕ) : Type 0 where
   pub head : HeadOf (take r s) q
   pub stands : r < length s → (readQuery s ≡ reads q) × TreeAt s q r
   pub alone : r ≡ length s → q .tree ≡ emptyTree
+
+-- the head line's text and the tree's, one beside the other
+pub record Parts (head tree : Bytes) (q : Query) : Type 0 where
+  pub of : HeadOf head q
+  pub text : tree ≡ layout (q .tree)
+  pub valid : Valid (q .tree)
