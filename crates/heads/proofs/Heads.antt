@@ -28,7 +28,7 @@ use Rattle.merging.specs.Merge.{isSelectOrAsk, mergeable}
 use Rattle.reader.specs.bridge.Lines.{LineEnd}
 use Rattle.reader.proofs.Laws.{nothing-here}
 use Rattle.walking.proofs.Laws.{line-split, next-field}
-use Rattle.heads.specs.bridge.TreeAt.{headLine, HeadOf, GivenAt}
+use Rattle.heads.specs.bridge.TreeAt.{headLine, HeadOf, GivenAt, Starts}
 
 -- where the head line stands alone, the tree is that of an empty file
 alone-empty : (s : Bytes) (q : Query) (end : ℕ) → First 10 s 0 (length s) end → end + 1 ≡ length s → readGivenQuery s ≡ reads q → q .tree ≡ emptyTree
@@ -90,7 +90,7 @@ module _ (s : Bytes) (end : ℕ) (l : LineEnd s 0 end) (q : Query) (e : readGive
       go (m ∷ ls) k = let n = head-next in let t : put (q .tree) [] ≡ treeLines (linesFrom s (end + 1)) = cc in k ∙ sym (t ∙ ap treeLines k)
 
   -- the tree starts behind it, or nothing does
-  pub tree-behind : GivenAt s q (end + 1)
+  tree-behind : GivenAt s q (end + 1)
   tree-behind =
       let h = head-ends in
       let first = l .ends h in
@@ -101,8 +101,23 @@ module _ (s : Bytes) (end : ℕ) (l : LineEnd s 0 end) (q : Query) (e : readGive
       }
 
   -- where the first line isn't ended, no query is read
-  pub tree-never : (r : ℕ) → end ≡ length s → GivenAt s q r
+  tree-never : (r : ℕ) → end ≡ length s → GivenAt s q r
   tree-never r k = let h = head-ends in absurd (omega arith)
+
+-- where the first line ends, whatever the text says
+module _ (s : Bytes) (end : ℕ) (l : LineEnd s 0 end) where
+  pub starts-behind : (end ≡ length s → ⊥) → Starts s (end + 1)
+  starts-behind n =
+      let h = l .high in
+      let less : end < length s = omega (arith, h, n) in
+      record {
+        high = omega arith;
+        given = λ q e. tree-behind s end l q e;
+        same = λ more. not-alone s end (l .ends less) (λ z. (let w = more in omega (arith, z, w)));
+      }
+
+  pub starts-never : end ≡ length s → Starts s end
+  starts-never k = record { high = l .high; given = λ q e. tree-never s end l q e end k; same = λ more. absurd (omega arith) }
 
 -- ---- a head line's kind is its second field
 

@@ -6,19 +6,15 @@ use reader::line_end;
 use text::equal;
 ghost use mathlib.Core.Path.{_≡_};
 ghost use mathlib.Core.List.{_++_};
-ghost use Prim.Native.Nat.{_≤_};
-ghost use lib.ListN.{length};
 ghost use Rattle.algebra.specs.Query.{Query};
-ghost use Rattle.algebra.specs.Reader.{reads};
-ghost use Rattle.algebra.specs.Given.{readGivenQuery};
 ghost use Rattle.emit.specs.bridge.Emit.{em, puts};
 ghost use Rattle.answers.specs.Outcome.{written, Answered};
 ghost use Rattle.merging.specs.Merge.{isSelectOrAsk, mergeable};
-ghost use Rattle.heads.specs.bridge.TreeAt.{HeadOf, GivenAt};
+ghost use Rattle.heads.specs.bridge.TreeAt.{HeadOf, Starts};
 
 // Where the tree starts: behind the first line.
 pub fn tree_start(query: &[u8]) -> usize
-    ensures { λ r. ⌜ (r ≤ length (now (query .entry))) × ((q : Query) → readGivenQuery (now (query .entry)) ≡ reads q → GivenAt (now (query .entry)) q r) ⌝ }
+    ensures { λ r. ⌜ Starts (now (query .entry)) r ⌝ }
 {
     let end = line_end(query, 0);
     if end == query.len() {

@@ -1,17 +1,25 @@
 -- The calls as a whole: the texts, then heads, roots and positions, in the specification's order. Assumes nothing.
 use Prim.Native.Nat.{ℕ}
 use mathlib.Core.Path.{_≡_, refl, sym, ap, subst, _∙_}
-use mathlib.Core.List.{_++_}
+use mathlib.Core.List.{[], _++_}
 use mathlib.Core.Bool.{Bool, true, false, not}
 use mathlib.Core.Option.{none, some}
 use borrow.Author.Tests.{not-true, not-false}
-use lib.ListN.{take}
-use Rattle.text.specs.Text.{Bytes}
+use native.Mathlib.Omega.{arith}
+use lib.ListN.{length, take, drop, length-drop}
+use lib.Seq.{take-all}
+use Rattle.text.specs.Text.{Bytes, linesFrom}
+use Rattle.text.proofs.Texts.{neat-ended}
 use Rattle.algebra.specs.Tree.{Pattern}
 use Rattle.algebra.specs.Query.{Query}
-use Rattle.algebra.specs.Layout.{layout}
+use Rattle.algebra.specs.Valid.{Valid}
+use Rattle.algebra.specs.Layout.{put, layout}
+use Rattle.algebra.specs.Bounded.{layoutQuery}
+use Rattle.algebra.proofs.Neat.{neat}
+use Rattle.heads.proofs.Cut.{text-from}
 use Rattle.algebra.specs.Reader.{Outcome as Reading, reads, refuses, malformed, overBound}
-use Rattle.algebra.specs.Texts.{readTree, readQuery, readPairs}
+use Rattle.algebra.specs.Texts.{readPairs}
+use Rattle.algebra.specs.Given.{readGivenTree, readGivenQuery}
 use Rattle.algebra.specs.Query as Query
 use Rattle.algebra.specs.declared.Answer.{Answer as Check}
 use Rattle.algebra.specs.declared.Answer.the-variants as C
@@ -22,62 +30,70 @@ use Rattle.answers.specs.declared.Answer.the-variants.{Malformed, OverBound, No
 use Rattle.merging.specs.Request.{Projection, asProject, made, readConstants, joinPositions, byPosition, constantsIn}
 use Rattle.merging.specs.Merge.{lists, isSelectOrAsk, mergeable, mergeTrees, mergePatternsOutcome, mergeQueriesOutcome}
 use Rattle.merging.specs.Push.{pushConstantsInProjectPattern, pushed, pushConstants, pushConstantsOutcome}
-use Rattle.heads.specs.bridge.TreeAt.{TreeAt}
-use Rattle.heads.proofs.Queries.{over-layout, query-layout}
-use Rattle.joining.specs.bridge.Form.{headless, readForm, headOf, mayMerge, mergeOutcome}
+use Rattle.heads.specs.bridge.TreeAt.{HeadOf}
+use Rattle.heads.proofs.Queries.{over-layout}
+use Rattle.joining.specs.bridge.Form.{headless, readForm, headOf, mayMerge, listedBehind, mergeWith, mergeOutcome, pushWith}
 use Rattle.projects.specs.bridge.Joining.{KnownTerms, ListsRead, ListsChecked, pushedBehind, mergedBehind, joinedBehind}
 use Rattle.projects.proofs.Outcomes as O
 
 -- ---- push constants
 
 module _ (query constants out : Bytes) where
-  pub push-malformed : readQuery query ≡ refuses malformed → Answered (pushConstantsOutcome query constants) out out Malformed
+  pub push-malformed : readGivenQuery query ≡ refuses malformed → Answered (pushConstantsOutcome query constants) out out Malformed
   unfolding pushConstantsOutcome Reported
   push-malformed e = rw e (refl, refl, refl)
 
-  pub push-over : readQuery query ≡ refuses overBound → Answered (pushConstantsOutcome query constants) out out OverBound
+  pub push-over : readGivenQuery query ≡ refuses overBound → Answered (pushConstantsOutcome query constants) out out OverBound
   unfolding pushConstantsOutcome Reported
   push-over e = rw e (refl, refl, refl)
 
-  module _ (q : Query) (read : readQuery query ≡ reads q) where
-    pub terms-malformed : readPairs Query.constants constants ≡ refuses malformed → Answered (pushConstantsOutcome query constants) out out Malformed
-    unfolding pushConstantsOutcome readConstants Reported
-    terms-malformed e = rw (read, e) (refl, refl, refl)
+  pub push-read : (q : Query) → readGivenQuery query ≡ reads q → pushConstantsOutcome query constants ≡ pushWith q constants
+  unfolding pushConstantsOutcome pushWith
+  push-read q e = rw e
 
-    pub terms-over : readPairs Query.constants constants ≡ refuses overBound → Answered (pushConstantsOutcome query constants) out out OverBound
-    unfolding pushConstantsOutcome readConstants Reported
-    terms-over e = rw (read, e) (refl, refl, refl)
+module _ (q : Query) (constants out : Bytes) where
+  pub terms-malformed : readPairs Query.constants constants ≡ refuses malformed → Answered (pushWith q constants) out out Malformed
+  unfolding pushWith readConstants Reported
+  terms-malformed e = rw e (refl, refl, refl)
 
-module _ (query constants : Bytes) (q : Query) (read : readQuery query ≡ reads q) (t : KnownTerms constants) where
-  asks : pushConstantsOutcome query constants ≡ pushConstants q (byPosition (constantsIn (t .list)))
-  unfolding pushConstantsOutcome
-  asks = rw (read, t .read)
+  pub terms-over : readPairs Query.constants constants ≡ refuses overBound → Answered (pushWith q constants) out out OverBound
+  unfolding pushWith readConstants Reported
+  terms-over e = rw e (refl, refl, refl)
 
-  -- a query of another kind is copied
-  pub other-kind : (b : Bool) → b ≡ isSelectOrAsk (q .kind) → not b ≡ true → pushConstantsOutcome query constants ≡ written query
-  unfolding pushConstants
-  other-kind b e h = asks ∙ rw (sym e ∙ not-true b h) (ap written (query-layout query q read))
+-- a query's text is its head and its tree's
+query-text : (q : Query) (head text : Bytes) (from : ℕ) (piece : Bytes) → HeadOf head q → linesFrom text from ≡ put (q .tree) [] → Valid (q .tree) → piece ≡ take (length text) (drop from text) → layoutQuery q ≡ head ++ piece
+unfolding layout
+query-text q head text from piece h l v e =
+    over-layout q (q .tree)
+    ∙ ap (λ (b : Bytes). b ++ layout (q .tree)) (sym (h .text))
+    ∙ ap (λ (b : Bytes). head ++ b) (sym (e ∙ take-all (length text) (drop from text) (simp length-drop (omega arith)) ∙ text-from text from (put (q .tree) []) l (neat-ended (put (q .tree) []) (neat (q .tree) [] v tt))))
 
-  module _ (b : Bool) (e : b ≡ isSelectOrAsk (q .kind)) (yes : not b ≡ false) where
-    rooted : pushConstantsOutcome query constants ≡ pushed q (byPosition (constantsIn (t .list))) (asProject (q .tree))
+module _ (q : Query) (constants : Bytes) (t : KnownTerms constants) (head : Bytes) (h : HeadOf head q) where
+  asks : pushWith q constants ≡ pushConstants q (byPosition (constantsIn (t .list)))
+  unfolding pushWith
+  asks = rw (t .read)
+
+  module _ (text : Bytes) (from : ℕ) (piece : Bytes) (l : linesFrom text from ≡ put (q .tree) []) (v : Valid (q .tree)) (is : piece ≡ take (length text) (drop from text)) where
+    -- a query of another kind is copied
+    pub other-kind : (b : Bool) → b ≡ isSelectOrAsk (q .kind) → not b ≡ true → pushWith q constants ≡ written (head ++ piece)
     unfolding pushConstants
-    rooted = asks ∙ rw (sym e ∙ not-false b yes)
+    other-kind b e n = asks ∙ rw (sym e ∙ not-true b n) (ap written (query-text q head text from piece h l v is))
 
     -- and so is one whose root is no project
-    pub other-root : asProject (q .tree) ≡ none → pushConstantsOutcome query constants ≡ written query
-    unfolding pushed
-    other-root h = rooted ∙ rw h (ap written (query-layout query q read))
+    pub other-root : (b : Bool) → b ≡ isSelectOrAsk (q .kind) → not b ≡ false → asProject (q .tree) ≡ none → pushWith q constants ≡ written (head ++ piece)
+    unfolding pushConstants pushed
+    other-root b e is-so n = asks ∙ rw (sym e ∙ not-false b is-so, n) (ap written (query-text q head text from piece h l v is))
 
-    pub pushes : (head : Bytes) (from : ℕ) (x : Projection) → head ≡ take from query → TreeAt query q from → asProject (q .tree) ≡ some x → pushConstantsOutcome query constants ≡ pushedBehind head x (t .list)
-    unfolding pushed
-    pushes head from x p w h = rooted ∙ rw (h, over-layout q (pushConstantsInProjectPattern x (byPosition (constantsIn (t .list)))), p, w .head)
+  pub pushes : (b : Bool) → b ≡ isSelectOrAsk (q .kind) → not b ≡ false → (x : Projection) → asProject (q .tree) ≡ some x → pushWith q constants ≡ pushedBehind head x (t .list)
+  unfolding pushConstants pushed
+  pushes b e is-so x n = asks ∙ rw (sym e ∙ not-false b is-so, n, over-layout q (pushConstantsInProjectPattern x (byPosition (constantsIn (t .list)))), h .text)
 
 -- ---- merge patterns and merge queries
 
 -- the outcome over a form is that of its call
 pub of-trees : (left right pairs leftConstants rightConstants : Bytes) → mergeOutcome false left right pairs leftConstants rightConstants ≡ mergePatternsOutcome left right pairs leftConstants rightConstants
-unfolding mergeOutcome mergePatternsOutcome
-of-trees left right pairs leftConstants rightConstants = go (readTree left) (readTree right)
+unfolding mergeOutcome mergeWith listedBehind mergePatternsOutcome
+of-trees left right pairs leftConstants rightConstants = go (readGivenTree left) (readGivenTree right)
   where
     go : (o o′ : Reading Pattern) → (then (made headless o) λ a. then (made headless o′) λ b. lists pairs leftConstants rightConstants λ js ks ls. mergeTrees (a .tree) (b .tree) js ks ls λ t. written (layout t))
         ≡ (then o λ p. then o′ λ q. lists pairs leftConstants rightConstants λ js ks ls. mergeTrees p q js ks ls λ t. written (layout t))
@@ -86,10 +102,10 @@ of-trees left right pairs leftConstants rightConstants = go (readTree left) (rea
     go (refuses n) o′ = refl
 
 pub of-queries : (left right pairs leftConstants rightConstants : Bytes) → mergeOutcome true left right pairs leftConstants rightConstants ≡ mergeQueriesOutcome left right pairs leftConstants rightConstants
-unfolding mergeOutcome mergeQueriesOutcome
+unfolding mergeOutcome mergeWith listedBehind mergeQueriesOutcome
 of-queries left right pairs leftConstants rightConstants i =
-    then (readQuery left) λ a.
-    then (readQuery right) λ b.
+    then (readGivenQuery left) λ a.
+    then (readGivenQuery right) λ b.
     lists pairs leftConstants rightConstants λ js ks ls.
     refusedUnless 5 (mergeable a b) (mergeTrees (a .tree) (b .tree) js ks ls λ t. written (sym (over-layout a t) i))
 
@@ -102,51 +118,63 @@ module _ (query : Bool) (left right pairs leftConstants rightConstants out : Byt
   unfolding mergeOutcome Reported
   left-over e = rw e (refl, refl, refl)
 
-  module _ (p : Query) (read : readForm query left ≡ reads p) where
-    pub right-malformed : readForm query right ≡ refuses malformed → Answered (mergeOutcome query left right pairs leftConstants rightConstants) out out Malformed
-    unfolding mergeOutcome Reported
-    right-malformed e = rw (read, e) (refl, refl, refl)
+  pub left-read : (a : Query) → readForm query left ≡ reads a → mergeOutcome query left right pairs leftConstants rightConstants ≡ mergeWith query a right pairs leftConstants rightConstants
+  unfolding mergeOutcome
+  left-read a e = rw e
 
-    pub right-over : readForm query right ≡ refuses overBound → Answered (mergeOutcome query left right pairs leftConstants rightConstants) out out OverBound
-    unfolding mergeOutcome Reported
-    right-over e = rw (read, e) (refl, refl, refl)
+  module _ (a : Query) where
+    pub right-malformed : readForm query right ≡ refuses malformed → Answered (mergeWith query a right pairs leftConstants rightConstants) out out Malformed
+    unfolding mergeWith Reported
+    right-malformed e = rw e (refl, refl, refl)
 
-    module _ (q : Query) (read′ : readForm query right ≡ reads q) where
-      pub lists-malformed : (r : Check) → ListsChecked pairs leftConstants rightConstants r → r ≡ C.Malformed → Answered (mergeOutcome query left right pairs leftConstants rightConstants) out out Malformed
-      unfolding mergeOutcome ListsChecked Reported
-      lists-malformed r c e = rw (read, read′, subst (ListsChecked pairs leftConstants rightConstants) e c _) (refl, refl, refl)
+    pub right-over : readForm query right ≡ refuses overBound → Answered (mergeWith query a right pairs leftConstants rightConstants) out out OverBound
+    unfolding mergeWith Reported
+    right-over e = rw e (refl, refl, refl)
 
-      pub lists-over : (r : Check) → ListsChecked pairs leftConstants rightConstants r → r ≡ C.OverBound → Answered (mergeOutcome query left right pairs leftConstants rightConstants) out out OverBound
-      unfolding mergeOutcome ListsChecked Reported
-      lists-over r c e = rw (read, read′, subst (ListsChecked pairs leftConstants rightConstants) e c _) (refl, refl, refl)
+    pub right-read : (b : Query) → readForm query right ≡ reads b → (may : Bool) → may ≡ mayMerge query a b → (head : Bytes) → head ≡ headOf query a
+        → mergeWith query a right pairs leftConstants rightConstants ≡ listedBehind may head (a .tree) (b .tree) pairs leftConstants rightConstants
+    unfolding mergeWith
+    right-read b e may is head h = rw (e, is, h)
 
 pub lists-good : (pairs a b : Bytes) (r : Check) (n : ℕ) → ListsChecked pairs a b r → r ≡ C.Good n → ListsRead pairs a b
 unfolding ListsChecked
 lists-good pairs a b r n c e = subst (ListsChecked pairs a b) e c
 
--- both texts and the lists are read
-module _ (query : Bool) (left right pairs leftConstants rightConstants : Bytes) (r : ListsRead pairs leftConstants rightConstants) (p q : Query) (read : readForm query left ≡ reads p) (read′ : readForm query right ≡ reads q) (b : Bool) (e : b ≡ mayMerge query p q) where
-  pub not-mergeable : (out : Bytes) → not b ≡ true → Answered (mergeOutcome query left right pairs leftConstants rightConstants) out out NotMergeable
-  unfolding mergeOutcome Reported
-  not-mergeable out h = rw (read, read′, r .joins-read, r .left .read, r .right .read, sym e ∙ not-true b h) (refl, refl, refl)
+-- both trees are there
+module _ (may : Bool) (head : Bytes) (p q : Pattern) (pairs leftConstants rightConstants : Bytes) where
+  abbrev outcome : Outcome
+  outcome = listedBehind may head p q pairs leftConstants rightConstants
 
-  merge-asks : (head : Bytes) → head ≡ headOf query p → not b ≡ false → mergeOutcome query left right pairs leftConstants rightConstants ≡ mergedBehind head (p .tree) (q .tree) (r .js) (r .left .list) (r .right .list)
-  unfolding mergeOutcome
-  merge-asks head w h = rw (read, read′, r .joins-read, r .left .read, r .right .read, sym e ∙ not-false b h)
-      (λ i. mergeTrees (p .tree) (q .tree) (joinPositions (r .js)) (byPosition (constantsIn (r .left .list))) (byPosition (constantsIn (r .right .list))) (λ t. written (sym w i ++ layout t)))
+  pub lists-malformed : (out : Bytes) (r : Check) → ListsChecked pairs leftConstants rightConstants r → r ≡ C.Malformed → Answered outcome out out Malformed
+  unfolding listedBehind ListsChecked Reported
+  lists-malformed out r c e = rw (subst (ListsChecked pairs leftConstants rightConstants) e c _) (refl, refl, refl)
 
-  abbrev behind : Bytes → Outcome
-  behind head = mergedBehind head (p .tree) (q .tree) (r .js) (r .left .list) (r .right .list)
+  pub lists-over : (out : Bytes) (r : Check) → ListsChecked pairs leftConstants rightConstants r → r ≡ C.OverBound → Answered outcome out out OverBound
+  unfolding listedBehind ListsChecked Reported
+  lists-over out r c e = rw (subst (ListsChecked pairs leftConstants rightConstants) e c _) (refl, refl, refl)
 
-  -- their heads are one
-  module _ (may : not b ≡ false) where
-    pub left-no-project : (out : Bytes) → asProject (p .tree) ≡ none → Answered (mergeOutcome query left right pairs leftConstants rightConstants) out out NotProject
-    left-no-project out z = answered (behind (headOf query p)) _ out out NotProject (merge-asks (headOf query p) refl may) (O.left-no-project (headOf query p) (p .tree) (q .tree) (r .js) (r .left .list) (r .right .list) out z)
+  -- and the lists
+  module _ (r : ListsRead pairs leftConstants rightConstants) where
+    pub not-mergeable : (out : Bytes) → not may ≡ true → Answered outcome out out NotMergeable
+    unfolding listedBehind Reported
+    not-mergeable out h = rw (r .joins-read, r .left .read, r .right .read, not-true may h) (refl, refl, refl)
 
-    pub right-no-project : (out : Bytes) (x : Projection) → asProject (p .tree) ≡ some x → asProject (q .tree) ≡ none → Answered (mergeOutcome query left right pairs leftConstants rightConstants) out out NotProject
-    right-no-project out x e z = answered (behind (headOf query p)) _ out out NotProject (merge-asks (headOf query p) refl may) (O.right-no-project (headOf query p) (p .tree) (q .tree) (r .js) (r .left .list) (r .right .list) out x e z)
+    abbrev behind : Outcome
+    behind = mergedBehind head p q (r .js) (r .left .list) (r .right .list)
 
-    -- both trees are projects
-    pub projects-answer : (head : Bytes) → head ≡ headOf query p → (x y : Projection) → asProject (p .tree) ≡ some x → asProject (q .tree) ≡ some y → (out out′ : Bytes) (a : Answer)
-        → Answered (joinedBehind head x y (r .js) (r .left .list) (r .right .list)) out out′ a → Answered (mergeOutcome query left right pairs leftConstants rightConstants) out out′ a
-    projects-answer head w x y e f out out′ a z = answered (joinedBehind head x y (r .js) (r .left .list) (r .right .list)) _ out out′ a (merge-asks head w may ∙ O.merged-as head (p .tree) (q .tree) (r .js) (r .left .list) (r .right .list) x y e f) z
+    -- the heads are one
+    module _ (ok : not may ≡ false) where
+      merge-asks : outcome ≡ behind
+      unfolding listedBehind
+      merge-asks = rw (r .joins-read, r .left .read, r .right .read, not-false may ok)
+
+      pub left-no-project : (out : Bytes) → asProject p ≡ none → Answered outcome out out NotProject
+      left-no-project out z = answered behind _ out out NotProject merge-asks (O.left-no-project head p q (r .js) (r .left .list) (r .right .list) out z)
+
+      pub right-no-project : (out : Bytes) (x : Projection) → asProject p ≡ some x → asProject q ≡ none → Answered outcome out out NotProject
+      right-no-project out x e z = answered behind _ out out NotProject merge-asks (O.right-no-project head p q (r .js) (r .left .list) (r .right .list) out x e z)
+
+      -- both trees are projects
+      pub projects-answer : (x y : Projection) → asProject p ≡ some x → asProject q ≡ some y → (out out′ : Bytes) (a : Answer)
+          → Answered (joinedBehind head x y (r .js) (r .left .list) (r .right .list)) out out′ a → Answered outcome out out′ a
+      projects-answer x y e f out out′ a z = answered (joinedBehind head x y (r .js) (r .left .list) (r .right .list)) _ out out′ a (merge-asks ∙ O.merged-as head p q (r .js) (r .left .list) (r .right .list) x y e f) z

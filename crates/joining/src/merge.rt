@@ -1,8 +1,11 @@
 // A merge of trees or of queries: the five texts checked, then two trees joined into one.
 use crate::forms::may_merge;
 use crate::forms::note_form;
+use crate::forms::place_of;
 use crate::forms::start_of;
+use crate::forms::text_of;
 use algebra::Answer as Check;
+use algebra::EMPTY_TREE;
 use algebra::ENTRIES;
 use answers::Answer;
 use checking::check::Noting;
@@ -22,10 +25,12 @@ ghost use mathlib.Core.Path.{_≡_};
 ghost use Prim.Native.Nat.{_≤_};
 ghost use lib.ListN.{length, take};
 ghost use Rattle.answers.specs.Outcome.{Answered};
-ghost use Rattle.projects.specs.bridge.Joining.{HalfRoom, HalfNodes, rest, BothShaped, HasRoom, HasNodes, ListsRead, TermsChecked, ListsChecked};
+ghost use Rattle.algebra.specs.Tree.{Pattern};
+ghost use Rattle.algebra.specs.Query.{Query};
+ghost use Rattle.projects.specs.bridge.Joining.{StandsAt, rest, BothShaped, ListsRead, TermsChecked, ListsChecked};
 ghost use Rattle.words.specs.bridge.Words.{Worded};
 ghost use Rattle.descending.specs.bridge.Renamed.{Shaped};
-ghost use Rattle.joining.specs.bridge.Form.{mergeOutcome, KnownAt};
+ghost use Rattle.joining.specs.bridge.Form.{HeadIs, listedBehind, mergeWith, mergeOutcome, RoomFor, HalvesFor};
 
 // The check of two constant lists, in the specification's order.
 fn check_terms(left_constants: &[u8], right_constants: &[u8]) -> Check
@@ -61,13 +66,19 @@ fn longer(a: usize, b: usize) -> usize
     a
 }
 
-// A merge for two texts and lists that were checked: 5 unless their heads are one, 4 unless their trees are projects.
+// Two trees that were checked, and whether the heads that they stand behind let them be merged.
+struct Both {
+    texts: Texts,
+    mergeable: bool,
+}
+
+// A merge for two trees and lists that were checked: 5 unless their heads are one, 4 unless they are projects.
 fn merge_checked(
-    query: bool,
     words: &[WordRow; 56],
+    head: &[u8],
     left: &[u8],
     right: &[u8],
-    texts: Texts,
+    both: Both,
     tables: &[[Entry; 1024]; 2],
     nodes: &[Node],
     spots: &mut [Spot],
@@ -76,12 +87,13 @@ fn merge_checked(
     right_constants: &[u8],
     out: &mut [u8],
 ) -> Answer
-    requires { ⌜ KnownAt 0 query (now left) (texts .left) (now tables) (take (texts .spots) (now spots)) × KnownAt 1 query (now right) (texts .right) (now tables) (rest (texts .spots) (now spots)) × ListsRead (now pairs) (now «left_constants») (now «right_constants») × Worded (now words) × BothShaped (now words) (now nodes) (texts .nodes) (now spots) (texts .spots) ⌝ }
-    ensures { λ r. ⌜ Answered (mergeOutcome query (now (left .entry)) (now (right .entry)) (now (pairs .entry)) (now («left_constants» .entry)) (now («right_constants» .entry))) (now (out .entry)) (now (out .exit)) r ⌝ }
+    requires { ⌜ ((p : Pattern) × StandsAt 0 (now left) (both .texts .left) (now tables) (take (both .texts .spots) (now spots)) p) × ((q : Pattern) × StandsAt 1 (now right) (both .texts .right) (now tables) (rest (both .texts .spots) (now spots)) q) × ListsRead (now pairs) (now «left_constants») (now «right_constants») × Worded (now words) × BothShaped (now words) (now nodes) (both .texts .nodes) (now spots) (both .texts .spots) ⌝ }
+    ensures { λ r. ⌜ ((p q : Pattern) → StandsAt 0 (now (left .entry)) (both .texts .left) (now (tables .entry)) (take (both .texts .spots) (now (spots .entry))) p → StandsAt 1 (now (right .entry)) (both .texts .right) (now (tables .entry)) (rest (both .texts .spots) (now (spots .entry))) q → Answered (listedBehind (both .mergeable) (now (head .entry)) p q (now (pairs .entry)) (now («left_constants» .entry)) (now («right_constants» .entry))) (now (out .entry)) (now (out .exit)) r) ⌝ }
 {
-    if !may_merge(query, left, texts.left.from, right, texts.right.from) {
+    if !both.mergeable {
         return Answer::NotMergeable;
     }
+    let texts = both.texts;
     if !is_project(left, texts.left.from) {
         return Answer::NotProject;
     }
@@ -90,7 +102,7 @@ fn merge_checked(
     }
     merge_projects(
         words,
-        piece(left, 0, texts.left.from),
+        head,
         left,
         right,
         texts,
@@ -104,13 +116,13 @@ fn merge_checked(
     )
 }
 
-// The same for two texts that were checked and any lists.
+// The same for two trees that were checked and any lists.
 fn merge_listed(
-    query: bool,
     words: &[WordRow; 56],
+    head: &[u8],
     left: &[u8],
     right: &[u8],
-    texts: Texts,
+    both: Both,
     tables: &[[Entry; 1024]; 2],
     nodes: &[Node],
     spots: &mut [Spot],
@@ -119,16 +131,16 @@ fn merge_listed(
     right_constants: &[u8],
     out: &mut [u8],
 ) -> Answer
-    requires { ⌜ KnownAt 0 query (now left) (texts .left) (now tables) (take (texts .spots) (now spots)) × KnownAt 1 query (now right) (texts .right) (now tables) (rest (texts .spots) (now spots)) × Worded (now words) × BothShaped (now words) (now nodes) (texts .nodes) (now spots) (texts .spots) ⌝ }
-    ensures { λ r. ⌜ Answered (mergeOutcome query (now (left .entry)) (now (right .entry)) (now (pairs .entry)) (now («left_constants» .entry)) (now («right_constants» .entry))) (now (out .entry)) (now (out .exit)) r ⌝ }
+    requires { ⌜ ((p : Pattern) × StandsAt 0 (now left) (both .texts .left) (now tables) (take (both .texts .spots) (now spots)) p) × ((q : Pattern) × StandsAt 1 (now right) (both .texts .right) (now tables) (rest (both .texts .spots) (now spots)) q) × Worded (now words) × BothShaped (now words) (now nodes) (both .texts .nodes) (now spots) (both .texts .spots) ⌝ }
+    ensures { λ r. ⌜ ((p q : Pattern) → StandsAt 0 (now (left .entry)) (both .texts .left) (now (tables .entry)) (take (both .texts .spots) (now (spots .entry))) p → StandsAt 1 (now (right .entry)) (both .texts .right) (now (tables .entry)) (rest (both .texts .spots) (now (spots .entry))) q → Answered (listedBehind (both .mergeable) (now (head .entry)) p q (now (pairs .entry)) (now («left_constants» .entry)) (now («right_constants» .entry))) (now (out .entry)) (now (out .exit)) r) ⌝ }
 {
     match check_lists(pairs, left_constants, right_constants) {
         Check::Good(_) => merge_checked(
-            query,
             words,
+            head,
             left,
             right,
-            texts,
+            both,
             tables,
             nodes,
             spots,
@@ -142,17 +154,18 @@ fn merge_listed(
     }
 }
 
-// A left text that was checked, and how many spots and nodes it has.
+// A left tree that was checked, how many spots and nodes it has, and the form of both texts.
 struct Noted {
+    query: bool,
     standing: Standing,
     spots: usize,
     nodes: usize,
 }
 
-// The same for a left text that was checked and any right one.
+// The same for a left tree that was checked, behind its head, and any right text.
 fn merge_right(
-    query: bool,
     words: &[WordRow; 56],
+    head: &[u8],
     left: &[u8],
     right: &[u8],
     noted: Noted,
@@ -164,36 +177,45 @@ fn merge_right(
     right_constants: &[u8],
     out: &mut [u8],
 ) -> Answer
-    requires { ⌜ KnownAt 0 query (now left) (noted .standing) (now tables) (take (noted .spots) (now spots)) × HasRoom (now right) (rest (noted .spots) (now spots)) × Worded (now words) × Shaped (now words) (take (noted .nodes) (now nodes)) (length (take (noted .nodes) (now nodes))) (length (take (noted .spots) (now spots))) × HasNodes (now right) (rest (noted .nodes) (now nodes)) × (length (now tables) ≡ 2) × (noted .spots ≤ length (now spots)) × (noted .nodes ≤ length (now nodes)) ⌝ }
-    ensures { λ r. ⌜ Answered (mergeOutcome query (now (left .entry)) (now (right .entry)) (now (pairs .entry)) (now («left_constants» .entry)) (now («right_constants» .entry))) (now (out .entry)) (now (out .exit)) r ⌝ }
+    requires { ⌜ ((a : Query) × StandsAt 0 (now left) (noted .standing) (now tables) (take (noted .spots) (now spots)) (a .tree) × HeadIs (noted .query) (now head) a) × RoomFor (now right) (rest (noted .spots) (now spots)) (rest (noted .nodes) (now nodes)) × Worded (now words) × Shaped (now words) (take (noted .nodes) (now nodes)) (length (take (noted .nodes) (now nodes))) (length (take (noted .spots) (now spots))) × (length (now tables) ≡ 2) × (noted .spots ≤ length (now spots)) × (noted .nodes ≤ length (now nodes)) ⌝ }
+    ensures { λ r. ⌜ ((a : Query) → StandsAt 0 (now (left .entry)) (noted .standing) (now (tables .entry)) (take (noted .spots) (now (spots .entry))) (a .tree) → HeadIs (noted .query) (now (head .entry)) a → Answered (mergeWith (noted .query) a (now (right .entry)) (now (pairs .entry)) (now («left_constants» .entry)) (now («right_constants» .entry))) (now (out .entry)) (now (out .exit)) r) ⌝ }
 {
     let standing = noted.standing;
+    let empty = EMPTY_TREE;
+    let start = start_of(noted.query, right);
+    let stands = text_of(right, start, &empty);
     let k = noted.spots;
     let m = noted.nodes;
     let mut hints = [0u16; 2048];
     match note_form(
-        query,
+        noted.query,
         words,
         right,
+        start,
+        stands,
         &mut tables[1],
         &mut hints,
         &mut spots[k..],
         &mut nodes[m..],
     ) {
         Noting::Good(n, more_spots, more_nodes) => {
-            let from = start_of(query, right);
+            let mergeable = may_merge(noted.query, head, piece(right, 0, start));
+            let from = place_of(right, start);
             let i = k + more_spots;
             let j = m + more_nodes;
             merge_listed(
-                query,
                 words,
+                head,
                 left,
-                right,
-                Texts {
-                    left: standing,
-                    right: Standing { from, n },
-                    spots: k,
-                    nodes: m,
+                stands,
+                Both {
+                    texts: Texts {
+                        left: standing,
+                        right: Standing { from, n },
+                        spots: k,
+                        nodes: m,
+                    },
+                    mergeable,
                 },
                 tables,
                 &nodes[..j],
@@ -222,10 +244,13 @@ fn merge_left(
     right_constants: &[u8],
     out: &mut [u8],
 ) -> Answer
-    requires { ⌜ HalfRoom (now left) (now spots) × HalfRoom (now right) (now spots) × HalfNodes (now left) (now nodes) × HalfNodes (now right) (now nodes) ⌝ }
+    requires { ⌜ HalvesFor (now left) (now spots) (now nodes) × HalvesFor (now right) (now spots) (now nodes) ⌝ }
     ensures { λ r. ⌜ Answered (mergeOutcome query (now (left .entry)) (now (right .entry)) (now (pairs .entry)) (now («left_constants» .entry)) (now («right_constants» .entry))) (now (out .entry)) (now (out .exit)) r ⌝ }
 {
     let words = all_words();
+    let empty = EMPTY_TREE;
+    let start = start_of(query, left);
+    let stands = text_of(left, start, &empty);
     let i = spots.len() / 2;
     let j = nodes.len() / 2;
     let mut tables = [[[0u16; 2]; 1024]; 2];
@@ -234,19 +259,22 @@ fn merge_left(
         query,
         &words,
         left,
+        start,
+        stands,
         &mut tables[0],
         &mut hints,
         &mut spots[..i],
         &mut nodes[..j],
     ) {
         Noting::Good(n, k, m) => {
-            let from = start_of(query, left);
+            let from = place_of(left, start);
             merge_right(
-                query,
                 &words,
-                left,
+                piece(left, 0, start),
+                stands,
                 right,
                 Noted {
+                    query,
                     standing: Standing { from, n },
                     spots: k,
                     nodes: m,

@@ -1,18 +1,21 @@
 // The call push constants: a query whose columns at some positions are held to constants.
+use crate::forms::note_form;
+use crate::forms::place_of;
+use crate::forms::start_of;
+use crate::forms::text_of;
 use algebra::Answer as Check;
+use algebra::EMPTY_TREE;
 use algebra::ENTRIES;
 use answers::Answer;
 use checking::check::Noting;
-use heads::copy;
+use heads::copy_behind;
 use heads::is_select_or_ask;
-use heads::tree_start;
 use lines::fields::Node;
 use lines::fields::Spot;
 use lists::check_constants;
 use names::Entry;
 use names::new_table;
 use projects::push::push_in_project;
-use reading::note_query;
 use sides::project::is_project;
 use sides::side::Standing;
 use text::piece;
@@ -20,38 +23,42 @@ use words::table::WordRow;
 use words::table::all_words;
 ghost use Rattle.answers.specs.Outcome.{Answered};
 ghost use Rattle.merging.specs.Push.{pushConstantsOutcome};
-ghost use Rattle.projects.specs.bridge.Joining.{HasRoom, HasNodes, KnownText, KnownTerms};
+ghost use Rattle.algebra.specs.Query.{Query};
+ghost use Rattle.heads.specs.bridge.TreeAt.{HeadOf};
+ghost use Rattle.sides.specs.bridge.Side.{Stands};
+ghost use Rattle.projects.specs.bridge.Joining.{KnownTerms};
+ghost use Rattle.joining.specs.bridge.Form.{RoomFor, pushWith};
 ghost use lib.ListN.{length};
 ghost use Rattle.names.specs.bridge.Names.{startsOf, sizesOf};
 ghost use Rattle.words.specs.bridge.Words.{Worded};
 ghost use Rattle.descending.specs.bridge.Renamed.{Shaped};
 
-// push_constants, for a query and constants that were checked.
+// push_constants, for the head and the tree of a query and for constants that were checked.
 fn push_of(
     words: &[WordRow; 56],
-    query: &[u8],
+    head: &[u8],
+    text: &[u8],
+    standing: Standing,
     table: &[Entry; 1024],
-    n: usize,
     nodes: &[Node],
     spots: &mut [Spot],
     constants: &[u8],
     out: &mut [u8],
 ) -> Answer
-    requires { ⌜ KnownText (now query) (startsOf (now table)) (sizesOf (now table)) n (now spots) × KnownTerms (now constants) × Worded (now words) × Shaped (now words) (now nodes) (length (now nodes)) (length (now spots)) ⌝ }
-    ensures { λ r. ⌜ Answered (pushConstantsOutcome (now (query .entry)) (now (constants .entry))) (now (out .entry)) (now (out .exit)) r ⌝ }
+    requires { ⌜ ((q : Query) × Stands (now text) (standing .from) (startsOf (now table)) (sizesOf (now table)) (standing .n) (now spots) (q .tree) × HeadOf (now head) q) × KnownTerms (now constants) × Worded (now words) × Shaped (now words) (now nodes) (length (now nodes)) (length (now spots)) ⌝ }
+    ensures { λ r. ⌜ ((q : Query) → Stands (now (text .entry)) (standing .from) (startsOf (now (table .entry))) (sizesOf (now (table .entry))) (standing .n) (now (spots .entry)) (q .tree) → HeadOf (now (head .entry)) q → Answered (pushWith q (now (constants .entry))) (now (out .entry)) (now (out .exit)) r) ⌝ }
 {
-    if !is_select_or_ask(query) {
-        return copy(query, out);
+    if !is_select_or_ask(head) {
+        return copy_behind(head, piece(text, standing.from, text.len()), out);
     }
-    let from = tree_start(query);
-    if !is_project(query, from) {
-        return copy(query, out);
+    if !is_project(text, standing.from) {
+        return copy_behind(head, piece(text, standing.from, text.len()), out);
     }
     push_in_project(
         words,
-        piece(query, 0, from),
-        query,
-        Standing { from, n },
+        head,
+        text,
+        standing,
         table,
         nodes,
         spots,
@@ -63,20 +70,31 @@ fn push_of(
 // The same for a query that was checked and any constants.
 fn push_by(
     words: &[WordRow; 56],
-    query: &[u8],
+    head: &[u8],
+    text: &[u8],
+    standing: Standing,
     table: &[Entry; 1024],
-    n: usize,
     nodes: &[Node],
     spots: &mut [Spot],
     constants: &[u8],
     out: &mut [u8],
 ) -> Answer
-    requires { ⌜ KnownText (now query) (startsOf (now table)) (sizesOf (now table)) n (now spots) × Worded (now words) × Shaped (now words) (now nodes) (length (now nodes)) (length (now spots)) ⌝ }
-    ensures { λ r. ⌜ Answered (pushConstantsOutcome (now (query .entry)) (now (constants .entry))) (now (out .entry)) (now (out .exit)) r ⌝ }
+    requires { ⌜ ((q : Query) × Stands (now text) (standing .from) (startsOf (now table)) (sizesOf (now table)) (standing .n) (now spots) (q .tree) × HeadOf (now head) q) × Worded (now words) × Shaped (now words) (now nodes) (length (now nodes)) (length (now spots)) ⌝ }
+    ensures { λ r. ⌜ ((q : Query) → Stands (now (text .entry)) (standing .from) (startsOf (now (table .entry))) (sizesOf (now (table .entry))) (standing .n) (now (spots .entry)) (q .tree) → HeadOf (now (head .entry)) q → Answered (pushWith q (now (constants .entry))) (now (out .entry)) (now (out .exit)) r) ⌝ }
 {
     let mut keys = [[0u16; 4]; ENTRIES];
     match check_constants(constants, &mut keys) {
-        Check::Good(_) => push_of(words, query, table, n, nodes, spots, constants, out),
+        Check::Good(_) => push_of(
+            words,
+            head,
+            text,
+            standing,
+            table,
+            nodes,
+            spots,
+            constants,
+            out,
+        ),
         Check::Malformed => Answer::Malformed,
         Check::OverBound => Answer::OverBound,
     }
@@ -91,22 +109,39 @@ fn push_with(
     constants: &[u8],
     out: &mut [u8],
 ) -> Answer
-    requires { ⌜ HasRoom (now query) (now spots) × Worded (now words) × HasNodes (now query) (now nodes) ⌝ }
+    requires { ⌜ RoomFor (now query) (now spots) (now nodes) × Worded (now words) ⌝ }
     ensures { λ r. ⌜ Answered (pushConstantsOutcome (now (query .entry)) (now (constants .entry))) (now (out .entry)) (now (out .exit)) r ⌝ }
 {
+    let empty = EMPTY_TREE;
+    let start = start_of(true, query);
+    let stands = text_of(query, start, &empty);
     let mut table = new_table();
     let mut hints = [0u16; 2048];
-    match note_query(query, words, &mut table, &mut hints, spots, nodes) {
-        Noting::Good(n, k, m) => push_by(
-            words,
-            query,
-            &table,
-            n,
-            &nodes[..m],
-            &mut spots[..k],
-            constants,
-            out,
-        ),
+    match note_form(
+        true,
+        words,
+        query,
+        start,
+        stands,
+        &mut table,
+        &mut hints,
+        spots,
+        nodes,
+    ) {
+        Noting::Good(n, k, m) => {
+            let from = place_of(query, start);
+            push_by(
+                words,
+                piece(query, 0, start),
+                stands,
+                Standing { from, n },
+                &table,
+                &nodes[..m],
+                &mut spots[..k],
+                constants,
+                out,
+            )
+        }
         Noting::Malformed => Answer::Malformed,
         Noting::OverBound => Answer::OverBound,
     }

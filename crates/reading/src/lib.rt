@@ -5,8 +5,8 @@ use checking::check::Noting;
 use checking::check::check_list;
 use checking::check::check_one;
 use checking::check::note_one;
-use lines::fields::Node;
 use cursor::Cursor;
+use lines::fields::Node;
 use lines::fields::Spot;
 use lines::line::Line;
 use lines::line::read_line;
@@ -78,18 +78,7 @@ fn check_head(
         width: 0,
         mark: 0,
     };
-    match read_line(
-        text,
-        line,
-        w,
-        0,
-        words,
-        table,
-        hints,
-        0,
-        &mut no_spots,
-        0,
-    ) {
+    match read_line(text, line, w, 0, words, table, hints, 0, &mut no_spots, 0) {
         Line::Asks(a) => Answer::Good(a.names),
         Line::Malformed => Answer::Malformed,
         Line::OverBound => Answer::OverBound,

@@ -10,5 +10,5 @@ may-merge-spec =
     tie.close
     (tie.spec
     (λ c κs. search needs)
-    (λ c. F.may-query _ _ _ _ _ _ (c .before .if1 .taken) (c .is-mergeable .ensures))
-    (λ c. F.may-tree _ _ _ _ _ _ (c .if1 .left) refl))
+    (λ c. let c1 = c .before in F.may-query _ _ _ _ (c1 .if1 .taken) (c .is-mergeable .ensures))
+    (λ c. F.may-tree _ _ _ _ (c .if1 .left) refl))

@@ -10,5 +10,5 @@ start-of-spec =
     tie.close
     (tie.spec
     (λ c κs. search needs)
-    (λ c. F.starts-query _ _ _ (c .before .if1 .taken) (c .tree-start .ensures))
+    (λ c. let c1 = c .before in F.starts-query _ _ _ (c1 .if1 .taken) (c .tree-start .ensures))
     (λ c. F.starts-tree _ _ _ (c .if1 .left) refl))
