@@ -19,7 +19,7 @@ def malformed(program, case):
     kinds, texts = inputs.TEXTS[program], inputs.parted(case)
     if len(texts) != len(kinds):
         return 1
-    return next(filter(None, map(second_reader.given, kinds, texts)), 0)
+    return next(filter(None, map(second_reader.number, kinds, texts)), 0)
 
 
 def head_and_tree(query):

@@ -287,7 +287,7 @@ def places():
 
 
 def cut_and_left_over():
-    """Every start of a form lacks lines; what follows a whole one is left over, or the next entry."""
+    """Every start of a form lacks lines, but a query's head; what follows a whole one is left over, or the next entry."""
     for kind, family, frame in [("tree", "pattern", "@"), ("tree", "expression", "filter/bgp 0/@"),
                                 ("query", "pattern", "query select - -/@"), ("bindings", "set", "@"),
                                 ("filters", "part", "@")]:
@@ -297,7 +297,8 @@ def cut_and_left_over():
             label = "%s-%s-%d" % (kind, family, i)
             lines = whole.split("/")
             for n in range(1, len(lines)):
-                case(1, kind, "cut-%s-%d" % (label, n), "/".join(lines[:n]))
+                alone = kind == "query" and n == 1
+                case(0 if alone else 1, kind, "cut-%s-%d" % (label, n), "/".join(lines[:n]))
             case(1, kind, "unended-" + label, text(whole)[:-1])
             case(1, kind, "over-%s-empty" % label, whole + "/")
             case(1, kind, "over-%s-bgp" % label, whole + "/bgp 0")

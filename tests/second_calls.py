@@ -10,7 +10,7 @@ with the nodes below it, and every rule is told as its section tells it.
 import sys
 
 import calls
-from second_reader import given
+from second_reader import number
 
 ROOM = 65536
 TEXTS = {row.name: row.kinds for row in calls.ROWS}  # what each call reads
@@ -348,8 +348,8 @@ def answer(program, data):
         if len(texts) != len(kinds):
             raise Refused(1)
         for kind, text in zip(kinds, texts):
-            if given(kind, text):
-                raise Refused(given(kind, text))
+            if number(kind, text):
+                raise Refused(number(kind, text))
         written = rewritten(program, texts)
         if len(written) > ROOM:
             raise Refused(6)

@@ -3,8 +3,8 @@
 
 number(kind, data) is 0 for a text that is well formed and within the bounds,
 1 for a malformed one and 2 for one over a bound. The kinds are tree, query,
-joins, constants, mapping, bindings and filters. given(kind, data) is the number
-that a call gives the text, where a tree may be an empty file.
+joins, constants, mapping, bindings and filters. A tree may be an
+empty file, and so may what follows a query's head line.
 
 Written from the rules alone, and
 sharing no code with the product: here each function takes its own line, checks
@@ -90,11 +90,10 @@ def value(domain, lexical, extra):
 
 
 class Text:
-    """A text that is read from the top, and the names met so far; given to a call, its tree may have no lines."""
+    """A text that is read from the top, and the names met so far."""
 
-    def __init__(self, data, given):
+    def __init__(self, data):
         self.data = data
-        self.given = given
         self.place = 0
         self.lines = 0
         self.names = set()
@@ -258,7 +257,7 @@ class Text:
     # Whole texts
 
     def tree(self):
-        if self.given and not self.more():
+        if not self.more():
             return
         self.pattern()
         if self.more():
@@ -363,24 +362,19 @@ def number(kind, data):
     return explained(kind, data)[0]
 
 
-def given(kind, data):
-    return explained(kind, data, True)[0]
-
-
-def explained(kind, data, to_call=False):
+def explained(kind, data):
     """The number, and where and why the text was refused."""
     if kind not in KINDS:
         raise ValueError("no such kind of text: " + kind)
     if len(data) > 16384:
         return 2, "the text has more than 16384 bytes"
-    text = Text(data, to_call)
+    text = Text(data)
     try:
         getattr(text, kind)()
     except Malformed as wanted:
         line = text.lines + (str(wanted) in ("a line end", "one more line", "the end of the text"))
         found = data.split(b"\n")[line - 1].decode("utf-8", "replace").replace("\t", " ")
-        taken = "" if to_call or given(kind, data) else "; a call reads no tree here as the lines `project` and `bgp 0`"
-        return 1, "line %d: wanted %s, found: %s%s" % (line, wanted, found or "nothing", taken)
+        return 1, "line %d: wanted %s, found: %s" % (line, wanted, found or "nothing")
     except OverBound as bound:
         return 2, "line %d: over the bound of %s" % (text.lines, bound)
     return 0, None

@@ -10,7 +10,8 @@ use lib.Dec.{leb, eqb}
 use Rattle.text.specs.Text.{Bytes}
 use Rattle.parted.specs.Parted.{texts}
 use Rattle.algebra.specs.Query.{Query, mapping}
-use Rattle.algebra.specs.Texts.{readTree, readQuery, readPairs, readSets, readFilters}
+use Rattle.algebra.specs.Texts.{readPairs, readSets, readFilters}
+use Rattle.algebra.specs.Given.{readGivenTree, readGivenQuery}
 use Rattle.answers.specs.declared.Answer.{Answer}
 use Rattle.answers.specs.Outcome.{Outcome, refused, Answered}
 use Rattle.answers.proofs.Numbered.{Numbered, written-numbered, then-numbered, test-numbered, not-zero}
@@ -36,11 +37,11 @@ use Rattle.answering.proofs.Laws.{by-number}
 
 scope-numbered : (tree : Bytes) → Numbered (scopeOutcome tree)
 unfolding scopeOutcome
-scope-numbered tree = then-numbered (readTree tree) _ λ p. written-numbered _
+scope-numbered tree = then-numbered (readGivenTree tree) _ λ p. written-numbered _
 
 rename-numbered : (tree pairs : Bytes) → Numbered (renameOutcome tree pairs)
 unfolding renameOutcome
-rename-numbered tree pairs = then-numbered (readTree tree) _ λ p. then-numbered (readPairs mapping pairs) _ λ xs. written-numbered _
+rename-numbered tree pairs = then-numbered (readGivenTree tree) _ λ p. then-numbered (readPairs mapping pairs) _ λ xs. written-numbered _
 
 pushed-numbered : (q : Query) (ks : List Constant) (o : Option Projection) → Numbered (pushed q ks o)
 unfolding pushed
@@ -54,24 +55,24 @@ either-numbered false o p a b = b
 push-numbered : (query constants : Bytes) → Numbered (pushConstantsOutcome query constants)
 unfolding pushConstantsOutcome pushConstants
 push-numbered query constants =
-    then-numbered (readQuery query) _ λ q. then-numbered (readConstants constants) _ λ ks.
+    then-numbered (readGivenQuery query) _ λ q. then-numbered (readConstants constants) _ λ ks.
     either-numbered (isSelectOrAsk (q .kind)) _ _ (pushed-numbered q ks (asProject (q .tree))) (written-numbered _)
 
 negate-numbered : (query : Bytes) → Numbered (negateOutcome query)
 unfolding negateOutcome
-negate-numbered query = then-numbered (readQuery query) _ λ q. written-numbered _
+negate-numbered query = then-numbered (readGivenQuery query) _ λ q. written-numbered _
 
 bindings-numbered : (tree sets : Bytes) → Numbered (bindingsOutcome tree sets)
 unfolding bindingsOutcome
 bindings-numbered tree sets =
-    then-numbered (readTree tree) _ λ p. then-numbered (readSets sets) _ λ xs.
+    then-numbered (readGivenTree tree) _ λ p. then-numbered (readSets sets) _ λ xs.
     test-numbered 3 (ifFound (outermostProjection p) λ cs. positionsInside cs xs) _ (λ z. omega arith)
     (test-numbered 7 (ifFound (outermostProjection p) λ cs. valuesUsable xs) _ (λ z. omega arith) (written-numbered _))
 
 filters-numbered : (tree filters : Bytes) → Numbered (filtersOutcome tree filters)
 unfolding filtersOutcome
 filters-numbered tree filters =
-    then-numbered (readTree tree) _ λ p. then-numbered (readFilters filters) _ λ fs.
+    then-numbered (readGivenTree tree) _ λ p. then-numbered (readFilters filters) _ λ fs.
     test-numbered 3 (ifFound (outermostProjection p) λ cs. all (referencesInside cs) fs) _ (λ z. omega arith) (written-numbered _)
 
 -- ---- programs

@@ -1,6 +1,7 @@
 // The numbers of the checks: for each record of the file `texts` a line of its label and the number of its text.
 // The kinds are 0 tree, 1 query, 2 join list, 3 constant list, 4 mapping, 5 binding sets and 6 filters.
 use algebra::Answer;
+use algebra::EMPTY_TREE;
 use algebra::ENTRIES;
 use algebra::number;
 use libc::STDOUT_FILENO;
@@ -21,6 +22,21 @@ use words::table::all_words;
 ghost use Prim.Native.Nat.{_<_};
 ghost use Rattle.words.specs.bridge.Words.{Worded};
 
+// A tree's text: an empty file is read as its two lines.
+fn check_given(
+    text: &[u8],
+    words: &[WordRow; 56],
+    table: &mut [[u16; 2]; 1024],
+    hints: &mut [u16; 2048],
+) -> Answer
+    requires { ⌜ Worded (now words) ⌝ }
+{
+    if text.len() == 0 {
+        return check_tree(&EMPTY_TREE, words, table, hints);
+    }
+    check_tree(text, words, table, hints)
+}
+
 // Where the next record starts, and where the output goes on.
 struct Step {
     at: u64,
@@ -38,7 +54,7 @@ fn check(
 {
     clear(table);
     match kind {
-        0 => check_tree(text, words, table, hints),
+        0 => check_given(text, words, table, hints),
         1 => check_query(text, words, table, hints),
         2 => check_joins(text, &mut [[0u16; 4]; ENTRIES]),
         3 => check_constants(text, &mut [[0u16; 4]; ENTRIES]),
