@@ -4,7 +4,6 @@ use mathlib.Core.List.{List, []}
 use Rattle.text.specs.Text.{Bytes}
 use Rattle.algebra.specs.Tree.{NOT, Pattern, bgp, path, join, union, minus, leftjoin, filter, graph, extend, values, orderby, project, distinct, reduced, slice, group, service, exists, apply, eend, econs}
 use Rattle.algebra.specs.Query.{Query}
-use Rattle.algebra.specs.Reader.{Outcome as Reading}
 use Rattle.algebra.specs.Given.{readGivenQuery}
 use Rattle.algebra.specs.Bounded.{layoutQuery}
 use Rattle.answers.specs.Outcome.{Outcome, written, then}
@@ -40,11 +39,7 @@ unfoldable pub negateQuery : Query → Query
 unfolding isSelectOrAsk negateProjectPattern
 negateQuery q = cond (isSelectOrAsk (q .kind)) (over q (negateProjectPattern (q .tree))) q
 
--- of a query as it was read
-abbrev pub negateRead : Reading Query → Outcome
-negateRead query = then query λ q. written (layoutQuery (negateQuery q))
-
--- docs/SPECIFICATION.md, "Operation by operation", negate, of a given text
+-- docs/SPECIFICATION.md, "Operation by operation", negate
 unfoldable pub negateOutcome : Bytes → Outcome
 unfolding readGivenQuery negateQuery layoutQuery
-negateOutcome query = negateRead (readGivenQuery query)
+negateOutcome query = then (readGivenQuery query) λ q. written (layoutQuery (negateQuery q))

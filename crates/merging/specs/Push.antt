@@ -5,7 +5,6 @@ use mathlib.Core.Option.{Option, none, some}
 use Rattle.text.specs.Text.{Bytes}
 use Rattle.algebra.specs.Tree.{Pattern, project}
 use Rattle.algebra.specs.Query.{Query}
-use Rattle.algebra.specs.Reader.{Outcome as Reading}
 use Rattle.algebra.specs.Given.{readGivenQuery}
 use Rattle.algebra.specs.Bounded.{layoutQuery}
 use Rattle.answers.specs.Outcome.{Outcome, written, then, refusedUnless}
@@ -35,14 +34,10 @@ unfoldable pub pushConstants : Query → List Constant → Outcome
 unfolding pushed asProject isSelectOrAsk
 pushConstants q ks = cond (isSelectOrAsk (q .kind)) (pushed q ks (asProject (q .tree))) (written (layoutQuery q))
 
--- of a query as it was read
-abbrev pub pushConstantsRead : Reading Query → Bytes → Outcome
-pushConstantsRead query constants =
-    then query λ q.
-    then (readConstants constants) λ ks.
-    pushConstants q ks
-
--- docs/SPECIFICATION.md, "Operation by operation", push constants, of given texts
+-- docs/SPECIFICATION.md, "Operation by operation", push constants
 unfoldable pub pushConstantsOutcome : Bytes → Bytes → Outcome
 unfolding readGivenQuery readConstants pushConstants
-pushConstantsOutcome query constants = pushConstantsRead (readGivenQuery query) constants
+pushConstantsOutcome query constants =
+    then (readGivenQuery query) λ q.
+    then (readConstants constants) λ ks.
+    pushConstants q ks
