@@ -1,6 +1,7 @@
-pub mod Line
 pub mod Masks
 pub mod Places
+pub mod New
 pub mod Picked
+pub mod Counted
 pub mod Gone
 pub mod Positions

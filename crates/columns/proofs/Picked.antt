@@ -1,19 +1,17 @@
--- Columns picked by a mask, one after the other along their line. Assumes nothing.
-use Prim.Native.Nat.{ℕ, suc, _+_, _-_, _/_, _%_, _≤_, _<_}
-use mathlib.Core.Path.{_≡_, refl, sym, ap, ap₂, _∙_}
-use mathlib.Core.List.{List, [], _∷_, _++_, append-nil}
+-- Columns picked by a mask, one after the other. Assumes nothing.
+use Prim.Native.Nat.{ℕ, _-_, _/_, _%_, _≤_, _<_}
+use mathlib.Core.Path.{_≡_, refl, sym, ap, _∙_}
+use mathlib.Core.List.{List, [], _∷_, append-nil}
 use mathlib.Core.Bool.{Bool, true, false, cond, not, _||_, false≢true}
+use native.Mathlib.Decide.{decLe}
 use native.Mathlib.Omega.{arith}
 use native.Mathlib.Nat.{mod-lt}
-use native.Mathlib.Decide.{decLe}
 use lib.ListN.{length}
 use lib.Dec.{eqb}
 use borrow.Author.Tests.{ne-eqb, not-true, not-false}
-use Rattle.text.specs.Text.{Bytes, same, part, First}
-use Rattle.cursor.specs.bridge.Cursor.{left}
-use Rattle.cursor.proofs.Laws.{left-none, left-next}
-use Rattle.emit.specs.bridge.Emit.{Em, em, puts}
-use Rattle.emit.proofs.Laws.{puts-append, puts-nil}
+use Rattle.text.specs.Text.{Bytes, same}
+use Rattle.emit.specs.bridge.Emit.{Em, puts}
+use Rattle.emit.proofs.Laws.{puts-append}
 use Rattle.walking.specs.bridge.Walk.{tabbed}
 use Rattle.algebra.specs.Valid.{mem}
 use Rattle.columns.specs.bridge.Columns.{picked}
@@ -37,69 +35,64 @@ pub tabbed-nil : (fs : List Bytes) (e : Em) → puts (tabbed fs) (puts (tabbed [
 unfolding tabbed puts
 tabbed-nil fs e = refl
 
--- ---- along the line
+-- ---- one after the other
 
-module _ (bit bits : ℕ) (line : Bytes) (next end e : ℕ) (k : end ≤ length line) (h : next ≤ end) (f : First 9 line next end e) where
-  pub picked-next : picked bit bits (left line next end) ≡ cond (eqb (bits % 2) bit) (part next e line ∷ picked bit (bits / 2) (left line (e + 1) end)) (picked bit (bits / 2) (left line (e + 1) end))
+module _ (bit bits : ℕ) (f : Bytes) (fs gs : List Bytes) (are : gs ≡ f ∷ fs) where
+  pub picked-next : picked bit bits gs ≡ cond (eqb (bits % 2) bit) (f ∷ picked bit (bits / 2) fs) (picked bit (bits / 2) fs)
   unfolding picked
-  picked-next = ap (picked bit bits) (left-next line next end e k h f)
+  picked-next = ap (picked bit bits) are
 
   -- a turn: what is left does what was left before it
-  pub columns-next : (b : Bool) (x x′ : Em) → b ≡ eqb (bits % 2) bit → x′ ≡ puts (tabbed (cond b (part next e line ∷ []) [])) x
-      → puts (tabbed (picked bit (bits / 2) (left line (e + 1) end))) x′ ≡ puts (tabbed (picked bit bits (left line next end))) x
-  columns-next b x x′ p q = ap (puts (tabbed rest)) q ∙ go b ∙ ap (λ (t : Bool). puts (tabbed (cond t (part next e line ∷ rest) rest)) x) p ∙ ap (λ (l : List Bytes). puts (tabbed l) x) (sym picked-next)
+  pub columns-next : (b : Bool) (x x′ : Em) → b ≡ eqb (bits % 2) bit → x′ ≡ puts (tabbed (cond b (f ∷ []) [])) x → puts (tabbed (picked bit (bits / 2) fs)) x′ ≡ puts (tabbed (picked bit bits gs)) x
+  columns-next b x x′ p q = ap (puts (tabbed rest)) q ∙ go b ∙ ap (λ (t : Bool). puts (tabbed (cond t (f ∷ rest) rest)) x) p ∙ ap (λ (l : List Bytes). puts (tabbed l) x) (sym picked-next)
     where
       rest : List Bytes
-      rest = picked bit (bits / 2) (left line (e + 1) end)
+      rest = picked bit (bits / 2) fs
 
-      go : (t : Bool) → puts (tabbed rest) (puts (tabbed (cond t (part next e line ∷ []) [])) x) ≡ puts (tabbed (cond t (part next e line ∷ rest) rest)) x
-      go true = tabbed-cons (part next e line) rest x
+      go : (t : Bool) → puts (tabbed rest) (puts (tabbed (cond t (f ∷ []) [])) x) ≡ puts (tabbed (cond t (f ∷ rest) rest)) x
+      go true = tabbed-cons f rest x
       go false = tabbed-nil rest x
 
   -- one less is left to be written
-  pub columns-less : (b : Bool) (n m : ℕ) → b ≡ eqb (bits % 2) bit → n ≡ length (picked bit bits (left line next end)) → m ≡ cond b (n - 1) n → m ≡ length (picked bit (bits / 2) (left line (e + 1) end))
-  columns-less b n m p q r = r ∙ go b (q ∙ ap length picked-next ∙ ap (λ (t : Bool). length (cond t (part next e line ∷ rest) rest)) (sym p))
+  pub columns-less : (b : Bool) (n m : ℕ) → b ≡ eqb (bits % 2) bit → n ≡ length (picked bit bits gs) → m ≡ cond b (n - 1) n → m ≡ length (picked bit (bits / 2) fs)
+  columns-less b n m p q r = r ∙ go b (q ∙ ap length picked-next ∙ ap (λ (t : Bool). length (cond t (f ∷ picked bit (bits / 2) fs) (picked bit (bits / 2) fs))) (sym p))
     where
-      rest : List Bytes
-      rest = picked bit (bits / 2) (left line (e + 1) end)
-
-      go : (t : Bool) → n ≡ length (cond t (part next e line ∷ rest) rest) → cond t (n - 1) n ≡ length rest
+      go : (t : Bool) → n ≡ length (cond t (f ∷ picked bit (bits / 2) fs) (picked bit (bits / 2) fs)) → cond t (n - 1) n ≡ length (picked bit (bits / 2) fs)
       go true w = omega arith
       go false w = w
 
 -- a name among the columns whose bit is 1
-module _ (bits : ℕ) (line : Bytes) (next end e : ℕ) (k : end ≤ length line) (h : next ≤ end) (f : First 9 line next end e) (v : Bytes) (b : Bool) (is : b ≡ cond (eqb (bits % 2) 1) (same v (part next e line)) false) where
+module _ (bits : ℕ) (f : Bytes) (fs gs : List Bytes) (are : gs ≡ f ∷ fs) (v : Bytes) (b : Bool) (is : b ≡ cond (eqb (bits % 2) 1) (same v f) false) where
   abbrev rest : List Bytes
-  rest = picked 1 (bits / 2) (left line (e + 1) end)
+  rest = picked 1 (bits / 2) fs
 
-  pub marked-here : b ≡ true → true ≡ mem v (picked 1 bits (left line next end))
+  pub marked-here : b ≡ true → true ≡ mem v (picked 1 bits gs)
   unfolding mem
-  marked-here q = go (eqb (bits % 2) 1) (sym is ∙ q) ∙ ap (mem v) (sym (picked-next 1 bits line next end e k h f))
+  marked-here q = go (eqb (bits % 2) 1) (sym is ∙ q) ∙ ap (mem v) (sym (picked-next 1 bits f fs gs are))
     where
-      go : (t : Bool) → cond t (same v (part next e line)) false ≡ true → true ≡ mem v (cond t (part next e line ∷ rest) rest)
+      go : (t : Bool) → cond t (same v f) false ≡ true → true ≡ mem v (cond t (f ∷ rest) rest)
       go true w = ap (λ (z : Bool). z || mem v rest) (sym w)
       go false w = absurd (false≢true w)
 
-  pub marked-next : b ≡ false → mem v (picked 1 (bits / 2) (left line (e + 1) end)) ≡ mem v (picked 1 bits (left line next end))
+  pub marked-next : b ≡ false → mem v (picked 1 (bits / 2) fs) ≡ mem v (picked 1 bits gs)
   unfolding mem
-  marked-next q = go (eqb (bits % 2) 1) (sym is ∙ q) ∙ ap (mem v) (sym (picked-next 1 bits line next end e k h f))
+  marked-next q = go (eqb (bits % 2) 1) (sym is ∙ q) ∙ ap (mem v) (sym (picked-next 1 bits f fs gs are))
     where
-      go : (t : Bool) → cond t (same v (part next e line)) false ≡ false → mem v rest ≡ mem v (cond t (part next e line ∷ rest) rest)
+      go : (t : Bool) → cond t (same v f) false ≡ false → mem v rest ≡ mem v (cond t (f ∷ rest) rest)
       go true w = ap (λ (z : Bool). z || mem v rest) (sym w)
       go false w = refl
 
-module _ (bit bits : ℕ) (line : Bytes) (next end : ℕ) where
-  pub picked-done : end < next → picked bit bits (left line next end) ≡ []
-  unfolding picked
-  picked-done h = ap (picked bit bits) (left-none line next end h)
+pub picked-none : (bit bits : ℕ) (gs : List Bytes) → gs ≡ [] → picked bit bits gs ≡ []
+unfolding picked
+picked-none bit bits gs e = ap (picked bit bits) e
 
-  -- there is a column where one is to be written
-  pub columns-more : (n : ℕ) → n ≡ length (picked bit bits (left line next end)) → 0 < n → next ≤ end
-  columns-more n p q = go (decLe next end)
-    where
-      go : Dec (next ≤ end) → next ≤ end
-      go (yes h) = h
-      go (no h) = absurd (let z = ap length (picked-done (omega arith)) in omega arith)
+-- there is a column where one is to be written
+pub columns-more : (bit bits n : ℕ) (gs : List Bytes) (i c : ℕ) → (c ≤ i → gs ≡ []) → n ≡ length (picked bit bits gs) → 0 < n → i < c
+columns-more bit bits n gs i c over e h = go (decLe c i)
+  where
+    go : Dec (c ≤ i) → i < c
+    go (yes l) = absurd (let z = ap length (picked-none bit bits gs (over l)) in omega arith)
+    go (no l) = omega arith
 
 pub nothing-left : (fs : List Bytes) (n : ℕ) (x y : Em) → n ≡ length fs → n ≤ 0 → puts (tabbed fs) x ≡ y → x ≡ y
 unfolding tabbed puts
@@ -117,5 +110,5 @@ bit-odd b s t h e = let l : b % 2 < 2 = mod-lt b (omega arith) in let o : b % 2 
 pub goes-odd : (b : ℕ) (s : Bool) → b % 2 ≡ 1 → true ≡ (eqb (b % 2) 1 || s)
 goes-odd b s h = rw h
 
-pub goes-even : (b : ℕ) (s t : Bool) → (b % 2 ≡ 1 → ⊥) → t ≡ s → t ≡ (eqb (b % 2) 1 || s)
-goes-even b s t h e = rw (ne-eqb (b % 2) 1 h) e
+pub goes-even : (b : ℕ) (f g : Bytes) (js : List Bytes) (t : Bool) → (b % 2 ≡ 1 → ⊥) → t ≡ mem f js → g ≡ f → t ≡ (eqb (b % 2) 1 || mem g js)
+goes-even b f g js t h e q = rw (ne-eqb (b % 2) 1 h) (e ∙ ap (λ (x : Bytes). mem x js) (sym q))

@@ -1,24 +1,23 @@
 -- The positions of a list of pairs, read line by line. Assumes nothing.
 use Prim.Native.Nat.{ℕ, zero, suc, _+_, _-_, _≤_, _<_}
-use mathlib.Core.Path.{_≡_, refl, sym, ap, ap₂, subst, _∙_}
-use mathlib.Core.List.{List, [], _∷_, _++_, map}
+use mathlib.Core.Path.{_≡_, refl, sym, ap, ap₂, _∙_}
+use mathlib.Core.List.{List, [], _∷_, _++_}
 use mathlib.Core.Bool.{Bool, true, false, cond, not, _&&_}
-use mathlib.Core.Logic.{_⊎_, inl, inr, ⊎-elim}
+use mathlib.Core.Logic.{⊎-elim}
 use native.Mathlib.Nat.{eq-or-lt-of-le}
 use native.Mathlib.Omega.{arith}
 use native.Mathlib.Numerals.{add-one}
 use native.Mathlib.Decide.{decLt}
-use lib.ListN.{length, getD, take, drop, set, length-drop}
-use lib.Seq.{drop-cons, take-suc-set, getD-set-same, getD-set-other}
+use lib.ListN.{length, getD, take, drop, set}
+use lib.Seq.{take-suc-set, getD-set-same, getD-set-other}
 use lib.Dec.{ltb}
 use borrow.Author.Tests.{lt-ltb, le-ltb, not-true, not-false}
-use Rattle.text.specs.Text.{Bytes, Line, split, part, linesOf, linesFrom, First}
+use Rattle.text.specs.Text.{Bytes, Line, split, part, linesFrom, First}
 use Rattle.text.proofs.Places.{lines-start, lines-end, lines-open, lines-next}
 use Rattle.text.proofs.Texts.{glue, glue-split}
 use Rattle.cursor.specs.bridge.Cursor.{left}
 use Rattle.cursor.proofs.Laws.{left-none, left-next, left-all}
-use Rattle.emit.specs.bridge.Emit.{Em, em, puts}
-use Rattle.emit.proofs.Laws.{puts-nil}
+use Rattle.emit.specs.bridge.Emit.{Em, puts}
 use Rattle.algebra.specs.Query.{Pair}
 use Rattle.algebra.specs.Layout.{putPairs}
 use Rattle.algebra.specs.Tally.{bounds}

@@ -1,39 +1,70 @@
-// A project's line and which of its columns go: a mask has one bit a column, the lowest for the first.
+// A project's columns under their new names, and which of them go: a mask has one bit a column, the lowest for the first. The columns
+// are the first variables of a project's tree.
 use algebra::PerEntry;
-use cursor::field_end;
 use emit::put;
 use emit::put_all;
+use lines::fields::Spot;
+use names::Entry;
 use names::wide;
+use naming::numbers::put_name;
 use text::equal;
+use text::piece;
 ghost use mathlib.Core.Path.{_≡_};
 ghost use Prim.Native.Nat.{_+_, _*_, _-_, _%_, _^_, _≤_, _<_};
 ghost use mathlib.Core.List.{[], _∷_, map};
 ghost use mathlib.Core.Bool.{true, false, cond, _||_};
-ghost use lib.ListN.{length, take};
+ghost use lib.ListN.{length, take, getD};
 ghost use lib.Dec.{eqb, ltb};
 ghost use lib.Count.{ones};
-ghost use Rattle.text.specs.Text.{same, part};
+ghost use Rattle.text.specs.Text.{same};
 ghost use Rattle.emit.specs.bridge.Emit.{em, puts};
 ghost use Rattle.walking.specs.bridge.Walk.{tabbed};
+ghost use Rattle.walking.specs.bridge.Code.{Inside};
+ghost use Rattle.naming.specs.bridge.New.{named};
 ghost use Rattle.scoping.specs.Sets.{all};
 ghost use Rattle.algebra.specs.Valid.{mem};
 ghost use Rattle.algebra.specs.Tally.{bounds};
 ghost use Rattle.merging.specs.Names.{from as countFrom, isAt, placeIn};
-ghost use Rattle.columns.specs.bridge.Columns.{columnsIn, bitOf, maskOf, picked, goneBits};
+ghost use Rattle.columns.specs.bridge.Columns.{newIn, columnsOf, bitOf, maskOf, picked, goneBits};
 
-// Where the columns of a line `project` start: behind the word and a tab.
-const FIRST: usize = 8;
+// What the name at an entry becomes: a generated name, or itself.
+fn put_new(
+    text: &[u8],
+    table: &[Entry; 1024],
+    news: &[Entry; 1024],
+    entry: usize,
+    out: &mut [u8],
+    at: usize,
+) -> usize
+    requires { ⌜ entry < 1024 ⌝ }
+    ensures { λ r. ⌜ em r (now (out .exit)) ≡ puts (newIn (now (text .entry)) (now (table .entry)) (now (news .entry)) entry) (em at (now (out .entry))) ⌝ }
+{
+    let e = news[entry];
+    if e[1] == 0 {
+        let f = table[entry];
+        return put_all(out, at, piece(text, wide(f[0]), wide(f[1])));
+    }
+    put_name(out, at, e)
+}
 
 // A column that was chosen, after a tab.
-fn put_column(line: &[u8], from: usize, to: usize, chosen: bool, out: &mut [u8], at: usize) -> usize
-    requires { ⌜ (from ≤ to) × (to ≤ length (now line)) ⌝ }
-    ensures { λ r. ⌜ em r (now (out .exit)) ≡ puts (tabbed (cond chosen (part from to (now (line .entry)) ∷ []) [])) (em at (now (out .entry))) ⌝ }
+fn put_column(
+    text: &[u8],
+    table: &[Entry; 1024],
+    news: &[Entry; 1024],
+    entry: usize,
+    chosen: bool,
+    out: &mut [u8],
+    at: usize,
+) -> usize
+    requires { ⌜ entry < 1024 ⌝ }
+    ensures { λ r. ⌜ em r (now (out .exit)) ≡ puts (tabbed (cond chosen (newIn (now (text .entry)) (now (table .entry)) (now (news .entry)) entry ∷ []) [])) (em at (now (out .entry))) ⌝ }
 {
     if !chosen {
         return at;
     }
     let a = put(out, at, 9);
-    put_all(out, a, &line[from..to])
+    put_new(text, table, news, entry, out, a)
 }
 
 // One less where a column was chosen.
@@ -47,35 +78,38 @@ fn less(left: usize, chosen: bool) -> usize
     left
 }
 
-// The columns whose bits are `bit`, of which there are so many, each after a tab.
+// The columns whose bits are `bit`, of which there are so many, each after a tab. All columns are the first so many variables.
 pub fn put_columns(
-    line: &[u8],
-    end: usize,
+    text: &[u8],
+    table: &[Entry; 1024],
+    news: &[Entry; 1024],
+    spots: &[Spot],
+    columns: usize,
     mask: u64,
     bit: u64,
     count: usize,
     out: &mut [u8],
     at: usize,
 ) -> usize
-    requires { ⌜ (end ≤ length (now line)) × (count ≡ length (picked bit mask (columnsIn (now line) end))) ⌝ }
-    ensures { λ r. ⌜ em r (now (out .exit)) ≡ puts (tabbed (picked bit mask (columnsIn (now (line .entry)) end))) (em at (now (out .entry))) ⌝ }
+    requires { ⌜ Inside 1024 (now spots) columns × (count ≡ length (picked bit mask (columnsOf (now text) (now table) (now news) (now spots) columns))) ⌝ }
+    ensures { λ r. ⌜ em r (now (out .exit)) ≡ puts (tabbed (picked bit mask (columnsOf (now (text .entry)) (now (table .entry)) (now (news .entry)) (now (spots .entry)) columns))) (em at (now (out .entry))) ⌝ }
 {
     let mut to = at;
-    let mut next = FIRST;
     let mut bits = mask;
     let mut left = count;
+    let mut i = 0;
     while 0 < left {
-        let e = field_end(line, next, end);
+        let s = spots[i];
         let chosen = bits % 2 == bit;
-        to = put_column(line, next, e, chosen, out, to);
+        to = put_column(text, table, news, wide(s[1]), chosen, out, to);
         left = less(left, chosen);
         bits /= 2;
-        next = e + 1;
+        i += 1;
     }
     to
 }
 
-// How many columns stay: as many as there are, less the mask's ones.
+// The header's width: as many columns as there are, less the mask's ones.
 pub fn width(c: usize, mask: u64) -> usize
     requires { ⌜ ones mask ≤ c ⌝ }
     ensures { λ r. ⌜ r ≡ c - ones mask ⌝ }
@@ -123,75 +157,148 @@ pub fn position_mask(at: &PerEntry, m: usize, c: usize) -> u64
     mask
 }
 
-// The name is this column's, and its bit is 1.
-fn is_column(line: &[u8], from: usize, to: usize, bits: u64, name: &[u8]) -> bool
-    requires { ⌜ (from ≤ to) × (to ≤ length (now line)) ⌝ }
-    ensures { λ r. ⌜ r ≡ cond (eqb (bits % 2) 1) (same (now (name .entry)) (part from to (now (line .entry)))) false ⌝ }
+// A generated name is this one.
+fn is_generated(e: Entry, name: &[u8]) -> bool
+    ensures { λ r. ⌜ r ≡ same (now (name .entry)) (named (getD e 0 0) (getD e 1 0)) ⌝ }
+{
+    let mut room = [0u8; 12];
+    let size = put_name(&mut room, 0, e);
+    equal(name, &room[..size])
+}
+
+// The name is what the name at an entry becomes, and its column's bit is 1.
+fn is_column(
+    text: &[u8],
+    table: &[Entry; 1024],
+    news: &[Entry; 1024],
+    entry: usize,
+    bits: u64,
+    name: &[u8],
+) -> bool
+    requires { ⌜ entry < 1024 ⌝ }
+    ensures { λ r. ⌜ r ≡ cond (eqb (bits % 2) 1) (same (now (name .entry)) (newIn (now (text .entry)) (now (table .entry)) (now (news .entry)) entry)) false ⌝ }
 {
     if bits % 2 == 0 {
         return false;
     }
-    equal(name, &line[from..to])
+    let e = news[entry];
+    if e[1] == 0 {
+        let f = table[entry];
+        return equal(name, piece(text, wide(f[0]), wide(f[1])));
+    }
+    is_generated(e, name)
 }
 
 // The name is that of a column whose bit is 1.
-fn is_marked(line: &[u8], end: usize, mask: u64, name: &[u8]) -> bool
-    requires { ⌜ end ≤ length (now line) ⌝ }
-    ensures { λ r. ⌜ r ≡ mem (now (name .entry)) (picked 1 mask (columnsIn (now (line .entry)) end)) ⌝ }
+fn is_marked(
+    text: &[u8],
+    table: &[Entry; 1024],
+    news: &[Entry; 1024],
+    spots: &[Spot],
+    columns: usize,
+    mask: u64,
+    name: &[u8],
+) -> bool
+    requires { ⌜ Inside 1024 (now spots) columns ⌝ }
+    ensures { λ r. ⌜ r ≡ mem (now (name .entry)) (picked 1 mask (columnsOf (now (text .entry)) (now (table .entry)) (now (news .entry)) (now (spots .entry)) columns)) ⌝ }
 {
-    let mut next = FIRST;
     let mut bits = mask;
-    while next <= end {
-        let e = field_end(line, next, end);
-        if is_column(line, next, e, bits, name) {
+    let mut i = 0;
+    while i < columns {
+        let s = spots[i];
+        if is_column(text, table, news, wide(s[1]), bits, name) {
             return true;
         }
         bits /= 2;
-        next = e + 1;
+        i += 1;
     }
     false
 }
 
-// The bit is 1, or the column's name is that of a column of the other line whose bit is 1.
+// The bit is 1, or what the name at an entry becomes is the name of a column of the other side whose bit is 1.
 fn goes(
-    line: &[u8],
-    from: usize,
-    to: usize,
+    text: &[u8],
+    table: &[Entry; 1024],
+    news: &[Entry; 1024],
+    entry: usize,
     bits: u64,
     other: &[u8],
-    limit: usize,
+    other_table: &[Entry; 1024],
+    other_news: &[Entry; 1024],
+    other_spots: &[Spot],
+    other_columns: usize,
     marks: u64,
 ) -> bool
-    requires { ⌜ (from ≤ to) × (to ≤ length (now line)) × (limit ≤ length (now other)) ⌝ }
-    ensures { λ r. ⌜ r ≡ (eqb (bits % 2) 1 || mem (part from to (now (line .entry))) (picked 1 marks (columnsIn (now (other .entry)) limit))) ⌝ }
+    requires { ⌜ (entry < 1024) × Inside 1024 (now «other_spots») «other_columns» ⌝ }
+    ensures { λ r. ⌜ r ≡ (eqb (bits % 2) 1 || mem (newIn (now (text .entry)) (now (table .entry)) (now (news .entry)) entry) (picked 1 marks (columnsOf (now (other .entry)) (now («other_table» .entry)) (now («other_news» .entry)) (now («other_spots» .entry)) «other_columns»))) ⌝ }
 {
     if bits % 2 == 1 {
         return true;
     }
-    is_marked(other, limit, marks, &line[from..to])
+    let e = news[entry];
+    if e[1] == 0 {
+        let f = table[entry];
+        return is_marked(
+            other,
+            other_table,
+            other_news,
+            other_spots,
+            other_columns,
+            marks,
+            piece(text, wide(f[0]), wide(f[1])),
+        );
+    }
+    let mut room = [0u8; 12];
+    let size = put_name(&mut room, 0, e);
+    is_marked(
+        other,
+        other_table,
+        other_news,
+        other_spots,
+        other_columns,
+        marks,
+        &room[..size],
+    )
 }
 
-// The mask with a bit more for each column whose name is that of a column of the other line that its mask has.
+// The mask with a bit more for each column whose name is that of a column of the other side that its mask has.
 pub fn joined_mask(
-    line: &[u8],
-    end: usize,
+    text: &[u8],
+    table: &[Entry; 1024],
+    news: &[Entry; 1024],
+    spots: &[Spot],
+    columns: usize,
     mask: u64,
     other: &[u8],
-    limit: usize,
+    other_table: &[Entry; 1024],
+    other_news: &[Entry; 1024],
+    other_spots: &[Spot],
+    other_columns: usize,
     marks: u64,
 ) -> u64
-    requires { ⌜ (end ≤ length (now line)) × (length (columnsIn (now line) end) ≤ bounds .columns) × (limit ≤ length (now other)) ⌝ }
-    ensures { λ r. ⌜ r ≡ maskOf (goneBits mask (picked 1 marks (columnsIn (now (other .entry)) limit)) (columnsIn (now (line .entry)) end)) ⌝ }
+    requires { ⌜ Inside 1024 (now spots) columns × (columns ≤ bounds .columns) × Inside 1024 (now «other_spots») «other_columns» ⌝ }
+    ensures { λ r. ⌜ r ≡ maskOf (goneBits mask (picked 1 marks (columnsOf (now (other .entry)) (now («other_table» .entry)) (now («other_news» .entry)) (now («other_spots» .entry)) «other_columns»)) (columnsOf (now (text .entry)) (now (table .entry)) (now (news .entry)) (now (spots .entry)) columns)) ⌝ }
 {
     let mut gone = 0;
-    let mut i = 0;
-    let mut next = FIRST;
     let mut bits = mask;
-    while next <= end {
-        let e = field_end(line, next, end);
-        gone = with_bit(gone, i, goes(line, next, e, bits, other, limit, marks));
+    let mut i = 0;
+    while i < columns {
+        let s = spots[i];
+        let go = goes(
+            text,
+            table,
+            news,
+            wide(s[1]),
+            bits,
+            other,
+            other_table,
+            other_news,
+            other_spots,
+            other_columns,
+            marks,
+        );
+        gone = with_bit(gone, i, go);
         bits /= 2;
-        next = e + 1;
         i += 1;
     }
     gone

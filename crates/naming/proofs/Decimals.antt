@@ -1,6 +1,6 @@
 -- Laws of writing a number in base ten, and a generated name. Assumes nothing.
 use mathlib.Core.Path.{_≡_, refl, sym, ap, _∙_}
-use mathlib.Core.List.{[], _∷_, _++_}
+use mathlib.Core.List.{[], _∷_, _++_, append-assoc}
 use Prim.Native.Nat.{ℕ, zero, suc, _+_, _/_, _%_, _≤_, _<_}
 use native.Mathlib.Omega.{arith}
 use native.Mathlib.Decide.{decLt}
@@ -32,6 +32,20 @@ unfolding decimal
 decimal-big n h =
     digits-big n n h
     ∙ ap (λ (d : Bytes). d ++ ((n % 10 + 48) ∷ [])) (fuel n (suc (n / 10)) (n / 10) (omega arith) (omega arith))
+
+-- two digits at a time
+pub decimal-two : (n : ℕ) → 10 ≤ n → n < 100 → decimal n ≡ (n / 10 + 48) ∷ (n % 10 + 48) ∷ []
+decimal-two n h l = decimal-big n h ∙ ap (λ (d : Bytes). d ++ ((n % 10 + 48) ∷ [])) (decimal-small (n / 10) (omega arith))
+
+pub decimal-hundreds : (n : ℕ) → 100 ≤ n → decimal n ≡ decimal (n / 100) ++ ((n % 100 / 10 + 48) ∷ (n % 100 % 10 + 48) ∷ [])
+decimal-hundreds n h =
+    let a : n / 10 / 10 ≡ n / 100 = omega arith in
+    let b : n / 10 % 10 ≡ n % 100 / 10 = omega arith in
+    let c : n % 10 ≡ n % 100 % 10 = omega arith in
+    decimal-big n (omega arith)
+    ∙ ap (λ (d : Bytes). d ++ ((n % 10 + 48) ∷ [])) (decimal-big (n / 10) (omega arith))
+    ∙ append-assoc (decimal (n / 10 / 10)) ((n / 10 % 10 + 48) ∷ []) ((n % 10 + 48) ∷ [])
+    ∙ (λ i. decimal (a i) ++ ((b i + 48) ∷ (c i + 48) ∷ []))
 
 pub generated-puts : (prefix n : ℕ) (e : Em) → puts (generated prefix n) e ≡ puts (decimal n) (puts (prefix ∷ []) (puts (63 ∷ []) e))
 unfolding puts generated

@@ -4,4 +4,4 @@ pub mod Room
 pub mod Lookup
 pub mod Book
 pub mod Numbered
-pub mod Written
+pub mod Settled

@@ -18,7 +18,7 @@ use Rattle.names.proofs.Laws.{listing-long, listed}
 use Rattle.names.proofs.Laws.{listing-at}
 use Rattle.scoping.specs.Label.{base}
 use Rattle.scoping.specs.bridge.Pushes.{Push, aPush, contains, pushed, pushes, allPushes}
-use Rattle.scoping.specs.bridge.Becomes.{chosen}
+use Rattle.scoping.specs.bridge.Flagged.{chosen}
 use Rattle.naming.specs.bridge.Code.{book, Room, numberedBy, namesAt}
 use Rattle.naming.proofs.Book.{book-long}
 use Rattle.naming.proofs.Room.{Among, room-none, room-new, room-pushes}

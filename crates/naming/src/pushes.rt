@@ -18,7 +18,7 @@ ghost use Rattle.algebra.specs.Tally.{bounds};
 ghost use Rattle.names.specs.bridge.Names.{Hinted, startsOf, sizesOf, namesIn, nameIn};
 ghost use Rattle.scoping.specs.Label.{base as baseOf};
 ghost use Rattle.scoping.specs.bridge.Pushes.{contains, pushed, pushes};
-ghost use Rattle.scoping.specs.bridge.Becomes.{chosen};
+ghost use Rattle.scoping.specs.bridge.Flagged.{chosen};
 ghost use Rattle.naming.specs.bridge.Code.{bookOf, StoredIn, LabelAt, Room, numberedBy, namesAt};
 
 // The entry of the base of which a name is the Label, or m.

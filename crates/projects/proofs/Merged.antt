@@ -2,13 +2,13 @@
 use Prim.Native.Nat.{ℕ, zero, suc, _+_, _-_, _/_, _≤_, _<_}
 use mathlib.Core.Path.{_≡_, refl, sym, ap, ap₂, _∙_}
 use mathlib.Core.List.{List, [], _∷_, _++_, map}
-use mathlib.Core.Bool.{Bool, true, false, not, _&&_}
+use mathlib.Core.Bool.{true, false, not}
 use native.Mathlib.Omega.{arith}
 use lib.ListN.{length, getD}
 use lib.Count.{ones}
 use lib.Dec.{ltb}
 use borrow.Author.Tests.{ltb-true}
-use Rattle.text.specs.Text.{Bytes, Line, same}
+use Rattle.text.specs.Text.{Bytes, Line}
 use Rattle.text.specs.Word.{bytes}
 use Rattle.text.proofs.Basics.{and-left, and-right}
 use Rattle.algebra.specs.Query as Query
@@ -22,12 +22,14 @@ use Rattle.merging.specs.Request.{Projection, position, joinPositions, byPositi
 use Rattle.merging.specs.Merge.{mergeProjectPatterns}
 use Rattle.merging.proofs.Lines.{merge-lines}
 use Rattle.merging.proofs.Lists.{map-length}
-use Rattle.columns.specs.bridge.Columns.{columnsIn, maskOf, picked, goneBits}
-use Rattle.columns.specs.bridge.Listed.{positionsIn}
-use Rattle.sides.specs.bridge.Side.{maskAt, newNames, SideIs}
-use Rattle.sides.specs.declared.side.Side.{Side as FoundSide}
+use Rattle.columns.specs.bridge.Columns.{maskOf, picked, goneBits}
 use Rattle.columns.proofs.Masks.{mask-ones, countOf}
-use Rattle.projects.proofs.Picks.{picked-gone, picked-count}
+use Rattle.columns.proofs.Counted.{picked-count}
+use Rattle.columns.specs.bridge.Listed.{positionsIn}
+use Rattle.sides.specs.bridge.Side.{maskAt, newNames, OutlineIs}
+use Rattle.sides.specs.declared.side.Outline.{Outline}
+use Rattle.projects.specs.bridge.Pair.{goneMask}
+use Rattle.projects.proofs.Picks.{picked-gone}
 use Rattle.projects.proofs.Among.{picked-mem}
 use Rattle.projects.proofs.SideLines.{side, side-free}
 
@@ -60,80 +62,62 @@ unfolding goneBits
 gone-long m js [] = refl
 gone-long m js (d ∷ ds) = ap suc (gone-long (m / 2) js ds)
 
+-- how many columns stay where others go
+pub gone-width : (m : ℕ) (js ds : List Bytes) (gone c : ℕ) → gone ≡ maskOf (goneBits m js ds) → c ≡ length ds → (ones gone ≤ c) × (c - ones gone ≡ length (picked 0 gone ds))
+gone-width m js ds gone c e w =
+    let o : ones gone ≡ countOf (goneBits m js ds) = ap ones e ∙ mask-ones (goneBits m js ds) in
+    let q : length (picked 0 gone ds) + countOf (goneBits m js ds) ≡ length ds = ap (λ (k : ℕ). length (picked 0 k ds) + countOf (goneBits m js ds)) e ∙ picked-count (goneBits m js ds) ds (gone-long m js ds) .1 in
+    (omega arith, omega arith)
+
 -- ---- both sides
 
-module _ (left right leftConstants rightConstants : Bytes) (la ll ra rl : List ℕ) (ln rn : ℕ) (x y : Projection) (js ks ls : List Query.Pair)
-    (lpool ltargets lspans lline lat llines rpool rtargets rspans rline rat rlines : List ℕ) (l r : FoundSide)
-    (left-is : SideIs left la ll ln prefixL false leftConstants x js ks lpool ltargets lspans lline lat llines l)
-    (right-is : SideIs right ra rl rn prefixR true rightConstants y js ls rpool rtargets rspans rline rat rlines r)
-    (low : inside (x .columns) (positionsIn false js) ≡ true)
-    (gone : ℕ) (gone-is : gone ≡ maskOf (goneBits (r .constant) (picked 1 (l .joined) (columnsIn lline (l .end))) (columnsIn rline (r .end)))) where
+module _ (left right leftConstants rightConstants : Bytes) (x y : Projection) (js ks ls : List Query.Pair) (ljoins lat llines rjoins rat rlines : List ℕ) (l r : Outline)
+    (left-is : OutlineIs left false leftConstants x js ks ljoins lat llines l) (right-is : OutlineIs right true rightConstants y js ls rjoins rat rlines r)
+    (cs ds : List Bytes) (left-named : cs ≡ map (newNames prefixL false x js) (x .columns)) (right-named : ds ≡ map (newNames prefixR true y js) (y .columns))
+    (low : inside (x .columns) (positionsIn false js) ≡ true) where
   -- what the texts ask for
   abbrev pub asked : Request
   asked = request x y (joinPositions js) (byPosition (constantsIn ks)) (byPosition (constantsIn ls))
 
   abbrev lside : Side
-  lside = side left la ll ln prefixL false leftConstants x js ks lpool ltargets lspans lline lat llines l left-is
+  lside = side left false leftConstants x js ks ljoins lat llines l left-is prefixL cs left-named
 
   abbrev rside : Side
-  rside = side right ra rl rn prefixR true rightConstants y js ls rpool rtargets rspans rline rat rlines r right-is
+  rside = side right true rightConstants y js ls rjoins rat rlines r right-is prefixR ds right-named
 
-  pub left-side : lside ≡ leftSide asked
+  left-side : lside ≡ leftSide asked
   left-side = ap (λ (is : List ℕ). standardized prefixL (x .columns) (x .inner) is (byPosition (constantsIn ks))) (sym (lefts-are js))
 
-  pub right-side : rside ≡ rightSide asked
+  right-side : rside ≡ rightSide asked
   right-side = ap (λ (is : List ℕ). standardized prefixR (y .columns) (y .inner) is (byPosition (constantsIn ls))) (sym (rights-are js))
 
-  -- ---- how many right columns stay
-
-  abbrev joined : List Bytes
-  joined = picked 1 (l .joined) (columnsIn lline (l .end))
-
-  abbrev bits : List Bool
-  bits = goneBits (r .constant) joined (columnsIn rline (r .end))
-
-  gone-count : (ones gone ≡ countOf bits) × (length (picked 0 gone (columnsIn rline (r .end))) + countOf bits ≡ length (columnsIn rline (r .end)))
-  gone-count = (
-    ap ones gone-is ∙ mask-ones bits,
-    ap (λ (m : ℕ). length (picked 0 m (columnsIn rline (r .end))) + countOf bits) gone-is ∙ picked-count bits (columnsIn rline (r .end)) (gone-long (r .constant) joined (columnsIn rline (r .end))) .1,
-  )
-
-  right-long : r .columns ≡ length (columnsIn rline (r .end))
-  right-long = right-is .width ∙ sym (ap length (right-is .columns) ∙ map-length (newNames prefixR true y js) (y .columns))
-
-  pub gone-room : ones gone ≤ r .columns
-  gone-room = let a = gone-count in let b = right-long in let d = a .0 in let e = a .1 in omega arith
-
-  pub gone-width : r .columns - ones gone ≡ length (picked 0 gone (columnsIn rline (r .end)))
-  gone-width = let a = gone-count in let b = right-long in let d = a .0 in let e = a .1 in omega arith
-
-  -- ---- which stay
+  -- ---- which right columns stay
 
   left-long : length (map (newNames prefixL false x js) (x .columns)) ≡ length (x .columns)
   left-long = map-length (newNames prefixL false x js) (x .columns)
 
-  joined-are : (c : Bytes) → mem c joined ≡ mem c (map (leftSide asked .name) (leftJoinVariables (leftSide asked) (joinPositions js)))
+  joined-are : (c : Bytes) → mem c (picked 1 (l .joined) cs) ≡ mem c (map (leftSide asked .name) (leftJoinVariables (leftSide asked) (joinPositions js)))
   unfolding inside
   joined-are c =
-      ap (mem c) (ap₂ (picked 1) (left-is .joined ∙ ap (maskAt (positionsIn false js)) (sym left-long)) (left-is .columns))
+      ap (mem c) (ap₂ (picked 1) (left-is .joined ∙ ap (maskAt (positionsIn false js)) (sym left-long)) left-named)
       ∙ picked-mem c (positionsIn false js) (map (newNames prefixL false x js) (x .columns)) (ap (λ (k : ℕ). all (λ i. ltb i k) (positionsIn false js)) left-long ∙ low)
       ∙ ap (mem c) (join-names (newNames prefixL false x js) (x .columns) js low)
       ∙ ap (λ (z : Side). mem c (map (z .name) (leftJoinVariables z (joinPositions js)))) left-side
 
-  pub merged-are : picked 0 (l .constant) (columnsIn lline (l .end)) ++ picked 0 gone (columnsIn rline (r .end)) ≡ mergedColumns (leftSide asked) (rightSide asked) (joinPositions js)
-  unfolding mergedColumns
-  merged-are = ap₂ _++_
-      (side-free left la ll ln prefixL false leftConstants x js ks lpool ltargets lspans lline lat llines l left-is ∙ ap freeColumns left-side)
-      (ap (λ (m : ℕ). picked 0 m (columnsIn rline (r .end))) gone-is
-      ∙ picked-gone joined (columnsIn rline (r .end)) (r .constant)
-      ∙ (λ i. keep (λ c. not (joined-are c i)) (picked 0 (r .constant) (columnsIn rline (r .end))))
-      ∙ ap (keep (λ c. not (mem c (map (leftSide asked .name) (leftJoinVariables (leftSide asked) (joinPositions js))))))
-      (side-free right ra rl rn prefixR true rightConstants y js ls rpool rtargets rspans rline rat rlines r right-is ∙ ap freeColumns right-side))
+  module _ (gone : ℕ) (gone-is : gone ≡ goneMask l cs r ds) where
+    merged-are : picked 0 (l .constant) cs ++ picked 0 gone ds ≡ mergedColumns (leftSide asked) (rightSide asked) (joinPositions js)
+    unfolding mergedColumns
+    merged-are = ap₂ _++_
+        (side-free left false leftConstants x js ks ljoins lat llines l left-is prefixL cs left-named ∙ ap freeColumns left-side)
+        (ap (λ (m : ℕ). picked 0 m ds) gone-is
+        ∙ picked-gone (picked 1 (l .joined) cs) ds (r .constant)
+        ∙ (λ i. keep (λ c. not (joined-are c i)) (picked 0 (r .constant) ds))
+        ∙ ap (keep (λ c. not (mem c (map (leftSide asked .name) (leftJoinVariables (leftSide asked) (joinPositions js))))))
+        (side-free right true rightConstants y js ls rjoins rat rlines r right-is prefixR ds right-named ∙ ap freeColumns right-side))
 
-  -- the lines of both, under the merged columns, are the merged tree's
-  pub merged-lines : (t : List Line) → (bytes "project" ∷ (picked 0 (l .constant) (columnsIn lline (l .end)) ++ picked 0 gone (columnsIn rline (r .end)))) ∷ (bytes "join" ∷ []) ∷ put (renamedPattern lside) (put (renamedPattern rside) t)
-      ≡ put (mergeProjectPatterns asked) t
-  merged-lines t =
-      ap (λ (cs : List Bytes). (bytes "project" ∷ cs) ∷ (bytes "join" ∷ []) ∷ put (renamedPattern lside) (put (renamedPattern rside) t)) merged-are
-      ∙ ap₂ (λ (a b : Side). (bytes "project" ∷ mergedColumns (leftSide asked) (rightSide asked) (joinPositions js)) ∷ (bytes "join" ∷ []) ∷ put (renamedPattern a) (put (renamedPattern b) t)) left-side right-side
-      ∙ sym (merge-lines asked t)
+    -- the lines of both, under the merged columns, are the merged tree's
+    pub merged-lines : (t : List Line) → (bytes "project" ∷ (picked 0 (l .constant) cs ++ picked 0 gone ds)) ∷ (bytes "join" ∷ []) ∷ put (renamedPattern lside) (put (renamedPattern rside) t) ≡ put (mergeProjectPatterns asked) t
+    merged-lines t =
+        ap (λ (es : List Bytes). (bytes "project" ∷ es) ∷ (bytes "join" ∷ []) ∷ put (renamedPattern lside) (put (renamedPattern rside) t)) merged-are
+        ∙ ap₂ (λ (a b : Side). (bytes "project" ∷ mergedColumns (leftSide asked) (rightSide asked) (joinPositions js)) ∷ (bytes "join" ∷ []) ∷ put (renamedPattern a) (put (renamedPattern b) t)) left-side right-side
+        ∙ sym (merge-lines asked t)

@@ -1,10 +1,10 @@
 -- The ways out of the calls that join: refusals in the specification's order, and what is written. Assumes nothing.
-use Prim.Native.Nat.{ℕ, _≤_, _<_}
-use mathlib.Core.Path.{_≡_, refl, sym, ap, ap₂, subst, _∙_}
-use mathlib.Core.List.{List, [], _∷_, _++_, map}
+use Prim.Native.Nat.{ℕ}
+use mathlib.Core.Path.{_≡_, refl, sym, ap, ap₂, _∙_}
+use mathlib.Core.List.{List, [], _∷_, _++_}
 use mathlib.Core.Bool.{Bool, true, false, not, _&&_, true≢false, false≢true}
 use mathlib.Core.Option.{Option, none, some}
-use lib.ListN.{length, getD, take}
+use lib.ListN.{length, getD}
 use lib.Dec.{ltb}
 use borrow.Author.Tests.{not-true, not-false}
 use Rattle.text.specs.Text.{Bytes, Line, same, linesFrom}
@@ -13,31 +13,29 @@ use Rattle.text.specs.Field.{given}
 use Rattle.algebra.specs.Tree.{Pattern}
 use Rattle.algebra.specs.Query.{Pair, joins, constants}
 use Rattle.algebra.specs.Layout.{put, layout}
-use Rattle.algebra.specs.Reader.{reads, refuses, malformed, overBound}
+use Rattle.algebra.specs.Reader.{refuses, malformed, overBound}
 use Rattle.algebra.specs.Texts.{readPairs}
 use Rattle.algebra.specs.declared.Answer.{Answer as Check}
 use Rattle.algebra.specs.declared.Answer.the-variants as C
-use Rattle.answers.specs.Outcome.{Outcome, refused, written, Reported, Answered, orRefused, refusedUnless}
-use Rattle.answers.specs.declared.Answer.{Answer}
+use Rattle.answers.specs.Outcome.{written, Reported, Answered, refusedUnless}
 use Rattle.answers.specs.declared.Answer.the-variants.{Outside, NotProject, Repeated}
 use Rattle.lists.specs.bridge.Pairs.{PairsChecked}
 use Rattle.lists.proofs.Said.{said-malformed, said-over}
 use Rattle.scoping.specs.Sets.{all}
 use Rattle.scoping.specs.Premises.{inside, differentPositions}
 use Rattle.merging.specs.Sides.{Constant}
-use Rattle.merging.specs.Request.{Projection, tree, asProject, made, readJoins, readConstants, joinPositions, byPosition, constantsIn, positions, request, allInside}
+use Rattle.merging.specs.Request.{Projection, tree, asProject, readJoins, readConstants, joinPositions, byPosition, constantsIn, positions, request, allInside}
 use Rattle.merging.specs.Merge.{lists, mergeProjectPatterns, mergeTrees}
-use Rattle.merging.specs.Push.{pushConstantsInProjectPattern}
 use Rattle.merging.specs.bridge.Twice.{noneTwice}
 use Rattle.merging.proofs.Given.{project-of, sides-merged}
 use Rattle.merging.proofs.Lines.{root-word}
 use Rattle.merging.proofs.Lists.{sorted-test}
 use Rattle.columns.specs.bridge.Listed.{positionsIn}
 use Rattle.sides.proofs.Sides.{first-false, neither}
-use Rattle.projects.specs.bridge.Joining.{KnownTerms, ListsRead, bothTerms, TermsChecked, ListsChecked, pushedBehind, mergedBehind, joinedBehind}
+use Rattle.projects.specs.bridge.Joining.{KnownTerms, TermsChecked, ListsChecked, mergedBehind, joinedBehind}
 use Rattle.projects.proofs.Picks.{positions-are}
 use Rattle.projects.proofs.Merged.{lefts-are, rights-are}
-use Rattle.projects.proofs.Known.{good-terms, KnownJoins, good-joins}
+use Rattle.projects.proofs.Known.{good-terms, KnownJoins}
 
 -- ---- the checks of lists
 

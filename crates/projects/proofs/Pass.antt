@@ -1,87 +1,104 @@
 -- A pass of a push or a merge: the head and the sides, written one after the other, are the tree's text; measured first, then written. Assumes nothing.
-use Prim.Native.Nat.{ℕ, _-_, _≤_, _<_}
-use mathlib.Core.Path.{_≡_, refl}
-use mathlib.Core.List.{List, [], _∷_, _++_}
+use Prim.Native.Nat.{ℕ, _≤_, _<_}
+use mathlib.Core.Path.{_≡_, refl, sym, ap, _∙_}
+use mathlib.Core.List.{List, [], _∷_, _++_, map}
 use mathlib.Core.Bool.{true, false}
-use lib.ListN.{length}
-use lib.Count.{ones}
+use native.Mathlib.Omega.{arith}
+use lib.ListN.{length, getD, take}
 use Rattle.text.specs.Text.{Bytes, Line, textOf}
 use Rattle.text.specs.Word.{bytes}
 use Rattle.algebra.specs.Query.{Pair}
 use Rattle.algebra.specs.Layout.{layout}
+use Rattle.algebra.specs.Tally.{bounds}
 use Rattle.emit.specs.bridge.Emit.{Em, em, last, puts}
 use Rattle.answers.specs.Outcome.{written, Answered}
 use Rattle.answers.specs.declared.Answer.the-variants.{TooShort, Written}
 use Rattle.answers.proofs.Answers.{answered, too-short, all-written}
 use Rattle.scoping.specs.Label.{prefixL, prefixR, prefixV}
 use Rattle.merging.specs.Request.{Projection}
-use Rattle.columns.specs.bridge.Columns.{columnsIn, picked}
-use Rattle.sides.specs.declared.side.Side.{Side}
-use Rattle.sides.specs.bridge.Side.{Sided, SideWritten}
-use Rattle.projects.specs.bridge.Joining.{pushedTree, pushedBehind, goneMask, mergedTree, joinedBehind}
+use Rattle.merging.proofs.Lists.{map-length}
+use Rattle.walking.specs.bridge.Code.{Inside}
+use Rattle.columns.specs.bridge.Columns.{columnsOf, picked}
+use Rattle.sides.specs.declared.side.FoundSide.{FoundSide}
+use Rattle.sides.specs.bridge.Side.{newNames, IsNamed, SideWritten}
+use Rattle.sides.proofs.Sides.{side-inside, side-columns, side-ones, side-room, side-width}
+use Rattle.projects.specs.declared.merge.FoundPair.{FoundPair}
+use Rattle.projects.specs.bridge.Joining.{pushedTree, pushedBehind, mergedTree, joinedBehind, rest}
+use Rattle.projects.specs.bridge.Pair.{leftColumns, rightColumns, LeftNamed, RightNamed, goneMask, HeaderFits}
 use Rattle.projects.proofs.SideLines.{side-is}
-use Rattle.projects.proofs.Merged.{gone-room, gone-width, merged-lines}
+use Rattle.projects.proofs.Merged.{gone-width, merged-lines}
 use Rattle.projects.proofs.Whole.{pass-one, pass-two, pushed-lines, pushed-is}
 use Rattle.projects.proofs.Outcomes.{joined-is}
-use Rattle.projects.proofs.OneSide.{placed, head-needs}
 
 -- ---- one side: a push
 
-module _ (text : Bytes) (from : ℕ) (starts sizes : List ℕ) (n : ℕ) (spots : List (List ℕ)) (constants : Bytes) (pool targets spans line at lines : List ℕ) (s : Side) (x : Projection) (ks : List Pair)
-    (d : Sided text from starts sizes n spots prefixV false constants pool targets spans line at lines s x [] ks) (head : Bytes) where
-  pub push-pass : (e e₁ e₂ : Em) → ((t : List Line) → puts (textOf t) e₁ ≡ puts (head ++ textOf ((bytes "project" ∷ picked 0 (s .constant) (columnsIn line (s .end))) ∷ t)) e)
-      → SideWritten text starts sizes n spots pool targets spans s line constants at lines e₁ e₂ → e₂ ≡ puts (head ++ layout (pushedTree x ks)) e
+module _ (text : Bytes) (table spots : List (List ℕ)) (constants : Bytes) (news : List (List ℕ)) (f : FoundSide) (x : Projection) (ks : List Pair) (d : IsNamed text table spots prefixV false constants news f x [] ks) (head : Bytes) where
+  abbrev columns : List Bytes
+  columns = columnsOf text table news spots (f .outline .columns)
+
+  columns-are : columns ≡ map (newNames prefixV false x []) (x .columns)
+  columns-are = side-columns _ _ _ _ _ _ _ _ _ _ _ _ _ _ _ _ _ _ d
+
+  pub push-pass : (e e₁ e₂ : Em) → ((t : List Line) → puts (textOf t) e₁ ≡ puts (head ++ textOf ((bytes "project" ∷ picked 0 (f .outline .constant) columns) ∷ t)) e) → SideWritten text table spots constants news f e₁ e₂ → e₂ ≡ puts (head ++ layout (pushedTree x ks)) e
   push-pass e e₁ e₂ h w =
-      pass-one head e e₁ e₂ (λ t. (bytes "project" ∷ picked 0 (s .constant) (columnsIn line (s .end))) ∷ t) _ _ (pushedTree x ks) h
-      (w from x _ _ ks (placed text from starts sizes n spots prefixV false constants pool targets spans line at lines s x [] ks d) (d .renamed) (d .is .renames) (d .is .kept))
-      (side-is text starts sizes n prefixV false constants x [] ks pool targets spans line at lines s (d .is) (d .stands .narrow x refl) (d .terms .different) (d .terms-inside))
-      (pushed-lines text starts sizes n constants x ks pool targets spans line at lines s (d .is))
+      pass-one head e e₁ e₂ (λ t. (bytes "project" ∷ picked 0 (f .outline .constant) columns) ∷ t) _ _ (pushedTree x ks) h (w prefixV false x [] ks d)
+      (side-is text false constants x [] ks _ _ _ _ (d .found .is) prefixV columns columns-are (side-ones _ _ _ _ _ _ _ _ _ _ _ _ _ _ _ _ _ _ d) (d .found .stands .narrow x refl) (d .found .terms .different) (d .found .terms-inside))
+      (pushed-lines text constants x ks _ _ _ _ (d .found .is) columns columns-are)
 
   -- measured on one buffer, written on another
   module _ (none none′ out : Bytes) (size : ℕ) (m : em size none′ ≡ puts (head ++ layout (pushedTree x ks)) (em 0 none)) where
     pub push-short : length out < size → Answered (pushedBehind head x ks) out out TooShort
-    push-short k = answered _ _ out out TooShort (pushed-is head x ks (d .terms-inside)) (too-short (head ++ layout (pushedTree x ks)) out size none none′ m k)
+    push-short k = answered _ _ out out TooShort (pushed-is head x ks (d .found .terms-inside)) (too-short (head ++ layout (pushedTree x ks)) out size none none′ m k)
 
     pub push-put : (put : ℕ) (out′ : Bytes) → em put out′ ≡ puts (head ++ layout (pushedTree x ks)) (em 0 out) → size ≤ length out → length out < last → Answered (pushedBehind head x ks) out out′ (Written put)
-    push-put put out′ w k j = answered _ _ out out′ (Written put) (pushed-is head x ks (d .terms-inside)) (all-written (head ++ layout (pushedTree x ks)) out size none none′ m put out′ k j w)
+    push-put put out′ w k j = answered _ _ out out′ (Written put) (pushed-is head x ks (d .found .terms-inside)) (all-written (head ++ layout (pushedTree x ks)) out size none none′ m put out′ k j w)
 
 -- ---- two sides: a merge
 
-module _ (left : Bytes) (lf : ℕ) (la ll : List ℕ) (ln : ℕ) (lv : List (List ℕ)) (leftConstants : Bytes) (lpool ltargets lspans lline lat llines : List ℕ) (l : Side)
-    (right : Bytes) (rf : ℕ) (ra rl : List ℕ) (rn : ℕ) (rv : List (List ℕ)) (rightConstants : Bytes) (rpool rtargets rspans rline rat rlines : List ℕ) (r : Side) (x y : Projection) (js ks ls : List Pair)
-    (ld : Sided left lf la ll ln lv prefixL false leftConstants lpool ltargets lspans lline lat llines l x js ks)
-    (rd : Sided right rf ra rl rn rv prefixR true rightConstants rpool rtargets rspans rline rat rlines r y js ls) where
-  module _ (gone : ℕ) (gone-is : gone ≡ goneMask lline l rline r) where
-    -- what put_head asks for
-    pub heads-need : (l .end ≤ length lline) × (ones (l .constant) ≤ l .columns) × (l .columns - ones (l .constant) ≡ length (picked 0 (l .constant) (columnsIn lline (l .end))))
-        × (r .end ≤ length rline) × (ones gone ≤ r .columns) × (r .columns - ones gone ≡ length (picked 0 gone (columnsIn rline (r .end))))
-    heads-need =
-        let h = head-needs left lf la ll ln lv prefixL false leftConstants lpool ltargets lspans lline lat llines l x js ks ld in (
-          h .0,
-          h .1,
-          h .2,
-          rd .is .end,
-          gone-room left right leftConstants rightConstants la ll ra rl ln rn x y js ks ls lpool ltargets lspans lline lat llines rpool rtargets rspans rline rat rlines l r (ld .is) (rd .is) (ld .joins-inside) gone gone-is,
-          gone-width left right leftConstants rightConstants la ll ra rl ln rn x y js ks ls lpool ltargets lspans lline lat llines rpool rtargets rspans rline rat rlines l r (ld .is) (rd .is) (ld .joins-inside) gone gone-is,
-        )
+module _ (left right : Bytes) (p : FoundPair) (tables : List (List (List ℕ))) (spots : List (List ℕ)) (news : List (List (List ℕ))) (leftConstants rightConstants : Bytes) (x y : Projection) (js ks ls : List Pair)
+    (ld : LeftNamed left leftConstants p tables spots news x js ks) (rd : RightNamed right rightConstants p tables spots news y js ls) where
+  -- what the columns ask for
+  pub heads-need : Inside 1024 (take (p .spots) spots) (p .left .outline .columns) × Inside 1024 (rest (p .spots) spots) (p .right .outline .columns)
+  heads-need = (side-inside _ _ _ _ _ _ _ _ _ _ _ _ _ _ _ _ _ _ ld, side-inside _ _ _ _ _ _ _ _ _ _ _ _ _ _ _ _ _ _ rd)
 
-    pub merge-pass : (head : Bytes) (e e₁ e₂ e₃ : Em)
-        → ((t : List Line) → puts (textOf t) e₁ ≡ puts (head ++ textOf ((bytes "project" ∷ (picked 0 (l .constant) (columnsIn lline (l .end)) ++ picked 0 gone (columnsIn rline (r .end)))) ∷ (bytes "join" ∷ []) ∷ t)) e)
-        → SideWritten left la ll ln lv lpool ltargets lspans l lline leftConstants lat llines e₁ e₂ → SideWritten right ra rl rn rv rpool rtargets rspans r rline rightConstants rat rlines e₂ e₃
-        → e₃ ≡ puts (head ++ layout (mergedTree x y js ks ls)) e
-    merge-pass head e e₁ e₂ e₃ h w v =
-        pass-two head e e₁ e₂ e₃
-        (λ t. (bytes "project" ∷ (picked 0 (l .constant) (columnsIn lline (l .end)) ++ picked 0 gone (columnsIn rline (r .end)))) ∷ (bytes "join" ∷ []) ∷ t)
-        _ _ _ _ (mergedTree x y js ks ls) h
-        (w lf x _ _ ks (placed left lf la ll ln lv prefixL false leftConstants lpool ltargets lspans lline lat llines l x js ks ld) (ld .renamed) (ld .is .renames) (ld .is .kept))
-        (v rf y _ _ ls (placed right rf ra rl rn rv prefixR true rightConstants rpool rtargets rspans rline rat rlines r y js ls rd) (rd .renamed) (rd .is .renames) (rd .is .kept))
-        (side-is left la ll ln prefixL false leftConstants x js ks lpool ltargets lspans lline lat llines l (ld .is) (ld .stands .narrow x refl) (ld .terms .different) (ld .terms-inside))
-        (side-is right ra rl rn prefixR true rightConstants y js ls rpool rtargets rspans rline rat rlines r (rd .is) (rd .stands .narrow y refl) (rd .terms .different) (rd .terms-inside))
-        (merged-lines left right leftConstants rightConstants la ll ra rl ln rn x y js ks ls lpool ltargets lspans lline lat llines rpool rtargets rspans rline rat rlines l r (ld .is) (rd .is) (ld .joins-inside) gone gone-is [])
+  pub right-narrow : p .right .outline .columns ≤ bounds .columns
+  right-narrow = let w = rd .found .is .width in let n = rd .found .stands .narrow y refl in omega arith
+
+  abbrev lcolumns : List Bytes
+  lcolumns = leftColumns left p tables spots news
+
+  abbrev rcolumns : List Bytes
+  rcolumns = rightColumns right p tables spots news
+
+  lcolumns-are : lcolumns ≡ map (newNames prefixL false x js) (x .columns)
+  lcolumns-are = side-columns _ _ _ _ _ _ _ _ _ _ _ _ _ _ _ _ _ _ ld
+
+  rcolumns-are : rcolumns ≡ map (newNames prefixR true y js) (y .columns)
+  rcolumns-are = side-columns _ _ _ _ _ _ _ _ _ _ _ _ _ _ _ _ _ _ rd
+
+  rcolumns-long : p .right .outline .columns ≡ length rcolumns
+  rcolumns-long = rd .found .is .width ∙ sym (ap length rcolumns-are ∙ map-length (newNames prefixR true y js) (y .columns))
+
+  pub header-fits : (gone : ℕ) → gone ≡ goneMask (p .left .outline) lcolumns (p .right .outline) rcolumns → HeaderFits (p .left .outline) lcolumns gone (p .right .outline) rcolumns
+  header-fits gone e =
+      let w = gone-width (p .right .outline .constant) (picked 1 (p .left .outline .joined) lcolumns) rcolumns gone (p .right .outline .columns) e rcolumns-long in
+      record { left-room = side-room _ _ _ _ _ _ _ _ _ _ _ _ _ _ _ _ _ _ ld; left = side-width _ _ _ _ _ _ _ _ _ _ _ _ _ _ _ _ _ _ ld; right-room = w .0; right = w .1 }
+
+  pub merge-pass : (gone : ℕ) → gone ≡ goneMask (p .left .outline) lcolumns (p .right .outline) rcolumns → (head : Bytes) (e e₁ e₂ e₃ : Em)
+      → ((t : List Line) → puts (textOf t) e₁ ≡ puts (head ++ textOf ((bytes "project" ∷ (picked 0 (p .left .outline .constant) lcolumns ++ picked 0 gone rcolumns)) ∷ (bytes "join" ∷ []) ∷ t)) e)
+      → SideWritten left (getD tables 0 []) (take (p .spots) spots) leftConstants (getD news 0 []) (p .left) e₁ e₂ → SideWritten right (getD tables 1 []) (rest (p .spots) spots) rightConstants (getD news 1 []) (p .right) e₂ e₃
+      → e₃ ≡ puts (head ++ layout (mergedTree x y js ks ls)) e
+  merge-pass gone gone-is head e e₁ e₂ e₃ h w v =
+      pass-two head e e₁ e₂ e₃
+      (λ t. (bytes "project" ∷ (picked 0 (p .left .outline .constant) lcolumns ++ picked 0 gone rcolumns)) ∷ (bytes "join" ∷ []) ∷ t)
+      _ _ _ _ (mergedTree x y js ks ls) h (w prefixL false x js ks ld) (v prefixR true y js ls rd)
+      (side-is left false leftConstants x js ks _ _ _ _ (ld .found .is) prefixL lcolumns lcolumns-are (side-ones _ _ _ _ _ _ _ _ _ _ _ _ _ _ _ _ _ _ ld) (ld .found .stands .narrow x refl) (ld .found .terms .different) (ld .found .terms-inside))
+      (side-is right true rightConstants y js ls _ _ _ _ (rd .found .is) prefixR rcolumns rcolumns-are (side-ones _ _ _ _ _ _ _ _ _ _ _ _ _ _ _ _ _ _ rd) (rd .found .stands .narrow y refl) (rd .found .terms .different) (rd .found .terms-inside))
+      (merged-lines left right leftConstants rightConstants x y js ks ls _ _ _ _ _ _ _ _ (ld .found .is) (rd .found .is) lcolumns rcolumns lcolumns-are rcolumns-are (ld .found .joins-inside) gone gone-is [])
 
   module _ (head : Bytes) where
     asked-for : joinedBehind head x y js ks ls ≡ written (head ++ layout (mergedTree x y js ks ls))
-    asked-for = joined-is head x y js ks ls (ld .joins-inside) (rd .joins-inside) (ld .terms-inside) (rd .terms-inside) (ld .joins-once) (rd .joins-once)
+    asked-for = joined-is head x y js ks ls (ld .found .joins-inside) (rd .found .joins-inside) (ld .found .terms-inside) (rd .found .terms-inside) (ld .joins-once) (rd .joins-once)
 
     -- measured on one buffer, written on another
     module _ (none none′ out : Bytes) (size : ℕ) (m : em size none′ ≡ puts (head ++ layout (mergedTree x y js ks ls)) (em 0 none)) where

@@ -1,84 +1,31 @@
 -- Columns and terms that masks and positions pick are those that the merge's definitions name. Assumes nothing.
-use Prim.Native.Nat.{ℕ, zero, suc, _+_, _-_, _*_, _/_, _%_, _≤_, _<_}
+use Prim.Native.Nat.{ℕ, zero, suc, _+_, _/_, _%_, _≤_, _<_}
 use mathlib.Core.Path.{_≡_, refl, sym, ap, ap₂, _∙_}
 use mathlib.Core.List.{List, [], _∷_, _++_, map}
-use mathlib.Core.Bool.{Bool, true, false, cond, not, _&&_, _||_, false≢true, true≢false}
+use mathlib.Core.Bool.{Bool, true, false, cond, not, _&&_, _||_, true≢false}
 use native.Mathlib.Nat.{mod-lt}
 use native.Mathlib.Omega.{arith}
 use lib.ListN.{length, getD, drop}
-use lib.Count.{ones}
 use lib.Dec.{eqb, ltb}
-use borrow.Author.Tests.{eq-eqb, ne-eqb, eqb-true, lt-ltb, ltb-true}
-use Rattle.text.specs.Text.{Bytes, same}
-use Rattle.text.proofs.Basics.{and-left, and-right, same-eq, same-refl}
+use borrow.Author.Tests.{eq-eqb, eqb-true, lt-ltb, ltb-true}
+use Rattle.text.specs.Text.{Bytes}
+use Rattle.text.proofs.Basics.{and-left, and-right}
 use Rattle.algebra.specs.Query as Query
 use Rattle.algebra.specs.Valid.{mem}
 use Rattle.algebra.specs.Tally.{bounds}
 use Rattle.scoping.specs.Sets.{all, any, keep}
 use Rattle.scoping.specs.Premises.{differentPositions}
-use Rattle.merging.specs.Sides.{Constant, columnAt, constantColumns, constantTerms, withoutConstants}
+use Rattle.merging.specs.Sides.{Constant, constantColumns, constantTerms, withoutConstants}
 use Rattle.merging.specs.Request.{position, positions, byPosition, constantsIn}
 use Rattle.merging.specs.Names.{from, isAt, placeIn}
 use Rattle.merging.proofs.Lists.{sorted-any}
 use Rattle.merging.proofs.Positions.{at-sym}
 use Rattle.merging.proofs.Rising.{termAt, constantAt, rising}
-use Rattle.columns.specs.bridge.Columns.{bitOf, maskOf, picked, goneBits}
+use Rattle.columns.specs.bridge.Columns.{maskOf, picked, goneBits}
 use Rattle.columns.specs.bridge.Listed.{positionsIn, secondOf, termsFrom}
 use Rattle.sides.specs.bridge.Side.{maskAt}
-use Rattle.columns.proofs.Masks.{mask-low, mask-high, mask-ones, countOf, count-few}
-
--- ---- one bit at a time
-
-picked-one : (b : Bool) (bs : List Bool) (d : Bytes) (ds : List Bytes) → picked 1 (maskOf (b ∷ bs)) (d ∷ ds) ≡ cond b (d ∷ picked 1 (maskOf bs) ds) (picked 1 (maskOf bs) ds)
-unfolding picked
-picked-one true bs d ds = rw (mask-low true bs, mask-high true bs)
-picked-one false bs d ds = rw (mask-low false bs, mask-high false bs)
-
-picked-zero : (b : Bool) (bs : List Bool) (d : Bytes) (ds : List Bytes) → picked 0 (maskOf (b ∷ bs)) (d ∷ ds) ≡ cond b (picked 0 (maskOf bs) ds) (d ∷ picked 0 (maskOf bs) ds)
-unfolding picked
-picked-zero true bs d ds = rw (mask-low true bs, mask-high true bs)
-picked-zero false bs d ds = rw (mask-low false bs, mask-high false bs)
-
-picked-none : (bit m : ℕ) → picked bit m [] ≡ []
-unfolding picked
-picked-none bit m = refl
-
--- how many are picked, and how many are not
-pub picked-count : (bs : List Bool) (ds : List Bytes) → length bs ≡ length ds → (length (picked 1 (maskOf bs) ds) ≡ countOf bs) × (length (picked 0 (maskOf bs) ds) + countOf bs ≡ length ds)
-picked-count [] [] e = (ap length (picked-none 1 (maskOf [])), ap (λ (l : List Bytes). length l + 0) (picked-none 0 (maskOf [])))
-picked-count [] (d ∷ ds) e = absurd (omega arith)
-picked-count (b ∷ bs) [] e = absurd (omega arith)
-picked-count (b ∷ bs) (d ∷ ds) e =
-    let r = picked-count bs ds (omega arith) in
-    (ap length (picked-one b bs d ds) ∙ one b (r .0), ap (λ (l : List Bytes). length l + countOf (b ∷ bs)) (picked-zero b bs d ds) ∙ zeros b (r .1))
-  where
-    one : (t : Bool) → length (picked 1 (maskOf bs) ds) ≡ countOf bs → length (cond t (d ∷ picked 1 (maskOf bs) ds) (picked 1 (maskOf bs) ds)) ≡ bitOf t + countOf bs
-    one true h = omega arith
-    one false h = omega arith
-
-    zeros : (t : Bool) → length (picked 0 (maskOf bs) ds) + countOf bs ≡ length ds → length (cond t (picked 0 (maskOf bs) ds) (d ∷ picked 0 (maskOf bs) ds)) + (bitOf t + countOf bs) ≡ suc (length ds)
-    zeros true h = omega arith
-    zeros false h = omega arith
-
-from-length : (i n : ℕ) → length (from i n) ≡ n
-unfolding from
-from-length i zero = refl
-from-length i (suc n) = ap suc (from-length (suc i) n)
-
-map-length : {A B : Type 0} (f : A → B) (xs : List A) → length (map f xs) ≡ length xs
-map-length f [] = refl
-map-length f (x ∷ xs) = ap suc (map-length f xs)
-
--- the ones of a mask of positions are the columns picked, and the others are not
-pub mask-picks : (ps : List ℕ) (ds : List Bytes) (m : ℕ) → m ≡ maskAt ps (length ds) → (ones m ≡ length (picked 1 m ds)) × (ones m ≤ length ds) × (length ds - ones m ≡ length (picked 0 m ds))
-mask-picks ps ds m e =
-    let bs : List Bool = map (λ i. isAt i ps) (from 0 (length ds)) in
-    let n : length bs ≡ length ds = map-length (λ i. isAt i ps) (from 0 (length ds)) ∙ from-length 0 (length ds) in
-    let c = picked-count bs ds n in
-    let o : ones m ≡ countOf bs = ap ones e ∙ mask-ones bs in
-    let p : length (picked 1 m ds) ≡ countOf bs = ap (λ (k : ℕ). length (picked 1 k ds)) e ∙ c .0 in
-    let q : length (picked 0 m ds) + countOf bs ≡ length ds = ap (λ (k : ℕ). length (picked 0 k ds) + countOf bs) e ∙ c .1 in
-    (omega arith, omega arith, omega arith)
+use Rattle.columns.proofs.Picked.{picked-none}
+use Rattle.columns.proofs.Counted.{picked-one, picked-zero}
 
 -- ---- columns at positions
 
@@ -88,7 +35,7 @@ module _ (t : ℕ → Bool) (g : ℕ → Bytes) where
 
   picked-at : (ds : List Bytes) (k : ℕ) → Agree ds k → picked 1 (maskOf (map t (from k (length ds)))) ds ≡ map g (keep t (from k (length ds)))
   unfolding from keep
-  picked-at [] k h = picked-none 1 _
+  picked-at [] k h = picked-none 1 _ [] refl
   picked-at (d ∷ ds) k h =
       picked-one (t k) (map t (from (suc k) (length ds))) d ds
       ∙ go (t k) (let z : k + 0 ≡ k = omega arith in h 0 (omega arith) ∙ ap g z) (picked-at ds (suc k) (λ i l. let z : k + suc i ≡ suc k + i = omega arith in h (suc i) (omega arith) ∙ ap g z))
@@ -105,7 +52,7 @@ picked-positions ps ds = picked-at (λ i. isAt i ps) (λ i. getD ds i []) ds 0 (
 free-at : (ps : List ℕ) (ks : List Constant) → ((i : ℕ) → any (λ k. eqb (k .position) i) ks ≡ isAt i ps) → (ds : List Bytes) (k : ℕ)
     → picked 0 (maskOf (map (λ i. isAt i ps) (from k (length ds)))) ds ≡ withoutConstants k ds ks
 unfolding from withoutConstants
-free-at ps ks h [] k = picked-none 0 _
+free-at ps ks h [] k = picked-none 0 _ [] refl
 free-at ps ks h (d ∷ ds) k =
     picked-zero (isAt k ps) (map (λ i. isAt i ps) (from (suc k) (length ds))) d ds
     ∙ ap₂ (λ (b : Bool) (l : List Bytes). cond b l (d ∷ l)) (sym (h k)) (free-at ps ks h ds (suc k))

@@ -1,9 +1,8 @@
 -- What a pass of the code writes: a head, the line of columns, the lines of each side. Assumes nothing.
-use Prim.Native.Nat.{ℕ, _≤_}
+use Prim.Native.Nat.{ℕ}
 use mathlib.Core.Path.{_≡_, refl, sym, ap, _∙_}
-use mathlib.Core.List.{List, [], _∷_, _++_, append-assoc}
-use mathlib.Core.Bool.{Bool, true, false, _&&_}
-use lib.ListN.{length}
+use mathlib.Core.List.{List, [], _∷_, _++_, map, append-assoc}
+use mathlib.Core.Bool.{true, false, _&&_}
 use Rattle.text.specs.Text.{Bytes, Line, ended, textOf}
 use Rattle.text.specs.Word.{bytes}
 use Rattle.algebra.specs.Tree.{Pattern}
@@ -14,26 +13,22 @@ use Rattle.emit.proofs.Laws.{puts-append, puts-nil}
 use Rattle.walking.specs.bridge.Walk.{tabbed}
 use Rattle.walking.proofs.Written.{puts-ended}
 use Rattle.merging.specs.Request.{Projection}
-use Rattle.sides.specs.declared.side.Side.{Side}
+use Rattle.sides.specs.declared.side.Outline.{Outline}
 use Rattle.scoping.specs.Premises.{inside}
 use Rattle.columns.specs.bridge.Listed.{Listed, positionsIn}
-use Rattle.sides.specs.bridge.Side.{newNames, SideIs}
+use Rattle.sides.specs.bridge.Side.{newNames, OutlineIs}
 use Rattle.text.specs.Text.{split, linesIn, linesOf}
 use native.Mathlib.Omega.{arith}
 use Rattle.algebra.specs.Layout.{putPairs}
-use Rattle.algebra.specs.Tally.{bounds}
 use Rattle.answers.specs.Outcome.{written, Reported, Answered}
 use Rattle.answers.specs.declared.Answer.the-variants.{Outside as AnswerOutside}
-use Rattle.text.specs.Field.{clean}
-use Rattle.scoping.specs.Label.{prefixL, prefixR, prefixV}
-use Rattle.merging.proofs.Names.{Letter}
+use Rattle.scoping.specs.Label.{prefixV}
 use Rattle.scoping.specs.Sets.{all}
 use Rattle.merging.specs.Sides.{renamedPattern}
 use Rattle.merging.specs.Request.{byPosition, constantsIn}
-use Rattle.merging.proofs.Lists.{map-length}
 use Rattle.merging.specs.Push.{onlySide}
 use Rattle.merging.proofs.Lines.{push-lines}
-use Rattle.columns.specs.bridge.Columns.{columnsIn, picked}
+use Rattle.columns.specs.bridge.Columns.{picked}
 use Rattle.projects.specs.bridge.Joining.{Lists, ListsRead, pushedTree, pushedBehind}
 use Rattle.projects.proofs.SideLines.{side, side-free}
 use Rattle.projects.proofs.Outcomes.{inside-sorted}
@@ -91,10 +86,9 @@ pub none-listed : Listed [] []
 unfolding putPairs linesOf linesIn split
 none-listed = record { lines = refl; few = omega arith; short = omega arith }
 
-module _ (text : Bytes) (starts sizes : List ℕ) (n : ℕ) (constants : Bytes) (x : Projection) (ks : List Pair) (pool targets spans line at lines : List ℕ) (s : Side)
-    (is : SideIs text starts sizes n prefixV false constants x [] ks pool targets spans line at lines s) where
-  pub pushed-lines : (bytes "project" ∷ picked 0 (s .constant) (columnsIn line (s .end))) ∷ put (renamedPattern (side text starts sizes n prefixV false constants x [] ks pool targets spans line at lines s is)) [] ≡ put (pushedTree x ks) []
-  pushed-lines = ap (λ (cs : List Bytes). (bytes "project" ∷ cs) ∷ put (renamedPattern (onlySide x (byPosition (constantsIn ks)))) []) (side-free text starts sizes n prefixV false constants x [] ks pool targets spans line at lines s is) ∙ sym (push-lines x (byPosition (constantsIn ks)) [])
+module _ (text constants : Bytes) (x : Projection) (ks : List Pair) (joins at lines : List ℕ) (o : Outline) (is : OutlineIs text false constants x [] ks joins at lines o) (cs : List Bytes) (named : cs ≡ map (newNames prefixV false x []) (x .columns)) where
+  pub pushed-lines : (bytes "project" ∷ picked 0 (o .constant) cs) ∷ put (renamedPattern (side text false constants x [] ks joins at lines o is prefixV cs named)) [] ≡ put (pushedTree x ks) []
+  pushed-lines = ap (λ (fs : List Bytes). (bytes "project" ∷ fs) ∷ put (renamedPattern (onlySide x (byPosition (constantsIn ks)))) []) (side-free text false constants x [] ks joins at lines o is prefixV cs named) ∙ sym (push-lines x (byPosition (constantsIn ks)) [])
 
 module _ (head : Bytes) (x : Projection) (ks : List Pair) where
   pub pushed-outside : (out : Bytes) → (inside (x .columns) (positionsIn false []) && inside (x .columns) (positionsIn false ks)) ≡ false → Answered (pushedBehind head x ks) out out AnswerOutside
@@ -104,17 +98,7 @@ module _ (head : Bytes) (x : Projection) (ks : List Pair) where
   pub pushed-is : inside (x .columns) (positionsIn false ks) ≡ true → pushedBehind head x ks ≡ written (head ++ layout (pushedTree x ks))
   pushed-is e = rw (inside-sorted (x .columns) ks ∙ e)
 
--- the prefixes may stand in a field
-pub letters : Letter prefixL × Letter prefixR × Letter prefixV
-unfolding clean
-letters = (refl, refl, refl)
-
 -- ---- two sides: a merge
 
 pub lists-are : (pairs a b : Bytes) (r : ListsRead pairs a b) → Lists pairs a b (r .js) (r .left .list) (r .right .list)
 lists-are pairs a b r = record { joins = r .joins; left-terms = r .left .terms; right-terms = r .right .terms }
-
--- a side's line has no more columns than a project may
-pub columns-few : (text : Bytes) (starts sizes : List ℕ) (n prefix : ℕ) (second : Bool) (constants : Bytes) (x : Projection) (js ks : List Pair) (pool targets spans line at lines : List ℕ) (s : Side)
-    → SideIs text starts sizes n prefix second constants x js ks pool targets spans line at lines s → length (x .columns) ≤ bounds .columns → length (columnsIn line (s .end)) ≤ bounds .columns
-columns-few text starts sizes n prefix second constants x js ks pool targets spans line at lines s is h = let e = ap length (is .columns) ∙ map-length (newNames prefix second x js) (x .columns) in omega arith

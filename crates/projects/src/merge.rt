@@ -1,6 +1,5 @@
 // merge_project_patterns for two projects. Tables of both texts are arrays of two, the left text's first; spots and nodes of
 // both stand in one array each, the right text's behind the left text's.
-use algebra::ENTRIES;
 use answers::Answer;
 use columns::columns::joined_mask;
 use columns::columns::put_columns;
@@ -9,24 +8,17 @@ use emit::put_all;
 use lines::fields::Node;
 use lines::fields::Spot;
 use names::Entry;
-use sides::side::Finding;
 use sides::side::FoundSide;
-use sides::side::NamedSide;
-use sides::side::Naming;
-use sides::side::Places;
-use sides::side::Side;
 use sides::side::Standing;
 use sides::side::find_side;
 use sides::side::name_found;
-use sides::side::with_names;
 use sides::writing::put_side;
 use words::table::WordRow;
 ghost use mathlib.Core.Path.{_≡_};
-ghost use Prim.Native.Nat.{_-_, _≤_};
+ghost use Prim.Native.Nat.{_≤_};
 ghost use mathlib.Core.List.{List, [], _∷_, _++_};
 ghost use mathlib.Core.Bool.{true, false};
 ghost use lib.ListN.{length, getD, take};
-ghost use lib.Count.{ones};
 ghost use Rattle.text.specs.Text.{Line, textOf};
 ghost use Rattle.text.specs.Word.{bytes};
 ghost use Rattle.emit.specs.bridge.Emit.{em, puts};
@@ -34,11 +26,12 @@ ghost use Rattle.algebra.specs.Query.{Pair};
 ghost use Rattle.algebra.specs.Layout.{layout};
 ghost use Rattle.algebra.specs.Tally.{bounds};
 ghost use Rattle.answers.specs.Outcome.{Answered};
-ghost use Rattle.scoping.specs.Label.{prefixL, prefixR};
 ghost use Rattle.merging.specs.Request.{Projection, tree};
-ghost use Rattle.columns.specs.bridge.Columns.{columnsIn, picked};
-ghost use Rattle.sides.specs.bridge.Side.{IsFound, IsNamed};
-ghost use Rattle.projects.specs.bridge.Joining.{StandsAt, goneMask, mergedTree, Lists, joinedBehind, ListsRead, rest, BothShaped};
+ghost use Rattle.walking.specs.bridge.Code.{Inside};
+ghost use Rattle.columns.specs.bridge.Columns.{picked};
+ghost use Rattle.sides.specs.bridge.Side.{IsFound};
+ghost use Rattle.projects.specs.bridge.Joining.{StandsAt, mergedTree, Lists, joinedBehind, ListsRead, rest, BothShaped};
+ghost use Rattle.projects.specs.bridge.Pair.{leftColumns, rightColumns, LeftNamed, RightNamed, goneMask, HeaderFits};
 ghost use Rattle.words.specs.bridge.Words.{Worded};
 
 const PROJECT: [u8; 7] = *b"project";
@@ -61,44 +54,81 @@ struct FoundPair {
     nodes: usize,
 }
 
-// Two sides that are ready, how many spots are the left one's, and which right columns go.
-struct NamedPair {
-    left: NamedSide,
-    right: NamedSide,
-    spots: usize,
-    gone: u64,
-}
-
 // The right columns that go: those with a constant, and those whose new names are joined columns' on the left.
-fn gone_of(lines: &[[u8; 8336]; 2], l: Side, r: Side) -> u64
-    requires { ⌜ (r .end ≤ length (getD (now lines) 1 [])) × (length (columnsIn (getD (now lines) 1 []) (r .end)) ≤ bounds .columns) × (l .end ≤ length (getD (now lines) 0 [])) ⌝ }
-    ensures { λ gone. ⌜ gone ≡ goneMask (getD (now (lines .entry)) 0 []) l (getD (now (lines .entry)) 1 []) r ⌝ }
+fn gone_of(
+    left: &[u8],
+    right: &[u8],
+    pair: FoundPair,
+    tables: &[[Entry; 1024]; 2],
+    spots: &[Spot],
+    news: &[[Entry; 1024]; 2],
+) -> u64
+    requires { ⌜ Inside 1024 (take (pair .spots) (now spots)) (pair .left .outline .columns) × Inside 1024 (rest (pair .spots) (now spots)) (pair .right .outline .columns) × (pair .right .outline .columns ≤ bounds .columns) × (pair .spots ≤ length (now spots)) ⌝ }
+    ensures { λ gone. ⌜ gone ≡ goneMask (pair .left .outline) (leftColumns (now (left .entry)) pair (now (tables .entry)) (now (spots .entry)) (now (news .entry))) (pair .right .outline) (rightColumns (now (right .entry)) pair (now (tables .entry)) (now (spots .entry)) (now (news .entry))) ⌝ }
 {
-    joined_mask(&lines[1], r.end, r.constant, &lines[0], l.end, l.joined)
+    let k = pair.spots;
+    let l = pair.left.outline;
+    let r = pair.right.outline;
+    joined_mask(
+        right,
+        &tables[1],
+        &news[1],
+        &spots[k..],
+        r.columns,
+        r.constant,
+        left,
+        &tables[0],
+        &news[0],
+        &spots[..k],
+        l.columns,
+        l.joined,
+    )
 }
 
 // The head, the merged columns, and the join's line.
-fn put_head(head: &[u8], lines: &[[u8; 8336]; 2], sides: NamedPair, out: &mut [u8]) -> usize
-    requires { ⌜ (sides .left .side .end ≤ length (getD (now lines) 0 [])) × (ones (sides .left .side .constant) ≤ sides .left .side .columns) × (sides .left .side .columns - ones (sides .left .side .constant) ≡ length (picked 0 (sides .left .side .constant) (columnsIn (getD (now lines) 0 []) (sides .left .side .end)))) × (sides .right .side .end ≤ length (getD (now lines) 1 [])) × (ones (sides .gone) ≤ sides .right .side .columns) × (sides .right .side .columns - ones (sides .gone) ≡ length (picked 0 (sides .gone) (columnsIn (getD (now lines) 1 []) (sides .right .side .end)))) ⌝ }
-    ensures { λ result. ⌜ ((t : List Line) → puts (textOf t) (em result (now (out .exit))) ≡ puts (now (head .entry) ++ textOf ((bytes "project" ∷ (picked 0 (sides .left .side .constant) (columnsIn (getD (now (lines .entry)) 0 []) (sides .left .side .end)) ++ picked 0 (sides .gone) (columnsIn (getD (now (lines .entry)) 1 []) (sides .right .side .end)))) ∷ (bytes "join" ∷ []) ∷ t)) (em 0 (now (out .entry)))) ⌝ }
+fn put_head(
+    head: &[u8],
+    left: &[u8],
+    right: &[u8],
+    pair: FoundPair,
+    gone: u64,
+    tables: &[[Entry; 1024]; 2],
+    spots: &[Spot],
+    news: &[[Entry; 1024]; 2],
+    out: &mut [u8],
+) -> usize
+    requires { ⌜ Inside 1024 (take (pair .spots) (now spots)) (pair .left .outline .columns) × Inside 1024 (rest (pair .spots) (now spots)) (pair .right .outline .columns) × (pair .spots ≤ length (now spots)) × HeaderFits (pair .left .outline) (leftColumns (now left) pair (now tables) (now spots) (now news)) gone (pair .right .outline) (rightColumns (now right) pair (now tables) (now spots) (now news)) ⌝ }
+    ensures { λ result. ⌜ ((t : List Line) → puts (textOf t) (em result (now (out .exit))) ≡ puts (now (head .entry) ++ textOf ((bytes "project" ∷ (picked 0 (pair .left .outline .constant) (leftColumns (now (left .entry)) pair (now (tables .entry)) (now (spots .entry)) (now (news .entry))) ++ picked 0 gone (rightColumns (now (right .entry)) pair (now (tables .entry)) (now (spots .entry)) (now (news .entry))))) ∷ (bytes "join" ∷ []) ∷ t)) (em 0 (now (out .entry)))) ⌝ }
 {
-    let left = sides.left;
-    let right = sides.right;
-    let l = left.side;
-    let r = right.side;
-    let gone = sides.gone;
+    let k = pair.spots;
+    let l = pair.left.outline;
+    let columns = pair.right.outline.columns;
     let a = put_all(out, 0, head);
     let b = put_all(out, a, &PROJECT);
     let c = put_columns(
-        &lines[0],
-        l.end,
+        left,
+        &tables[0],
+        &news[0],
+        &spots[..k],
+        l.columns,
         l.constant,
         0,
         width(l.columns, l.constant),
         out,
         b,
     );
-    let d = put_columns(&lines[1], r.end, gone, 0, width(r.columns, gone), out, c);
+    let d = put_columns(
+        right,
+        &tables[1],
+        &news[1],
+        &spots[k..],
+        columns,
+        gone,
+        0,
+        width(columns, gone),
+        out,
+        c,
+    );
     put_all(out, d, &JOIN)
 }
 
@@ -107,30 +137,27 @@ fn put_merged(
     head: &[u8],
     left: &[u8],
     right: &[u8],
-    sides: NamedPair,
+    pair: FoundPair,
+    gone: u64,
     tables: &[[Entry; 1024]; 2],
     spots: &[Spot],
-    pools: &[[u8; 16384]; 2],
     news: &[[Entry; 1024]; 2],
-    lines: &[[u8; 8336]; 2],
     left_constants: &[u8],
     right_constants: &[u8],
     out: &mut [u8],
 ) -> usize
-    requires { ⌜ ((x : Projection) × (y : Projection) × (js : List Pair) × (ks : List Pair) × (ls : List Pair) × IsNamed (now left) (getD (now tables) 0 []) (take (sides .spots) (now spots)) prefixL false (now «left_constants») (getD (now pools) 0 []) (getD (now news) 0 []) (getD (now lines) 0 []) (sides .left) x js ks × IsNamed (now right) (getD (now tables) 1 []) (rest (sides .spots) (now spots)) prefixR true (now «right_constants») (getD (now pools) 1 []) (getD (now news) 1 []) (getD (now lines) 1 []) (sides .right) y js ls) × (sides .gone ≡ goneMask (getD (now lines) 0 []) (sides .left .side) (getD (now lines) 1 []) (sides .right .side)) × (sides .spots ≤ length (now spots)) ⌝ }
-    ensures { λ result. ⌜ ((x y : Projection) (js ks ls : List Pair) → IsNamed (now (left .entry)) (getD (now (tables .entry)) 0 []) (take (sides .spots) (now (spots .entry))) prefixL false (now («left_constants» .entry)) (getD (now (pools .entry)) 0 []) (getD (now (news .entry)) 0 []) (getD (now (lines .entry)) 0 []) (sides .left) x js ks → IsNamed (now (right .entry)) (getD (now (tables .entry)) 1 []) (rest (sides .spots) (now (spots .entry))) prefixR true (now («right_constants» .entry)) (getD (now (pools .entry)) 1 []) (getD (now (news .entry)) 1 []) (getD (now (lines .entry)) 1 []) (sides .right) y js ls → em result (now (out .exit)) ≡ puts (now (head .entry) ++ layout (mergedTree x y js ks ls)) (em 0 (now (out .entry)))) ⌝ }
+    requires { ⌜ ((x : Projection) × (y : Projection) × (js : List Pair) × (ks : List Pair) × (ls : List Pair) × LeftNamed (now left) (now «left_constants») pair (now tables) (now spots) (now news) x js ks × RightNamed (now right) (now «right_constants») pair (now tables) (now spots) (now news) y js ls) × (gone ≡ goneMask (pair .left .outline) (leftColumns (now left) pair (now tables) (now spots) (now news)) (pair .right .outline) (rightColumns (now right) pair (now tables) (now spots) (now news))) × (pair .spots ≤ length (now spots)) ⌝ }
+    ensures { λ result. ⌜ ((x y : Projection) (js ks ls : List Pair) → LeftNamed (now (left .entry)) (now («left_constants» .entry)) pair (now (tables .entry)) (now (spots .entry)) (now (news .entry)) x js ks → RightNamed (now (right .entry)) (now («right_constants» .entry)) pair (now (tables .entry)) (now (spots .entry)) (now (news .entry)) y js ls → em result (now (out .exit)) ≡ puts (now (head .entry) ++ layout (mergedTree x y js ks ls)) (em 0 (now (out .entry)))) ⌝ }
 {
-    let k = sides.spots;
-    let a = put_head(head, lines, sides, out);
+    let k = pair.spots;
+    let a = put_head(head, left, right, pair, gone, tables, spots, news, out);
     let b = put_side(
         left,
         &tables[0],
         &spots[..k],
-        &pools[0],
         &news[0],
-        &lines[0],
         left_constants,
-        sides.left,
+        pair.left,
         out,
         a,
     );
@@ -138,11 +165,9 @@ fn put_merged(
         right,
         &tables[1],
         &spots[k..],
-        &pools[1],
         &news[1],
-        &lines[1],
         right_constants,
-        sides.right,
+        pair.right,
         out,
         b,
     )
@@ -153,30 +178,28 @@ fn merge_ready(
     head: &[u8],
     left: &[u8],
     right: &[u8],
-    sides: NamedPair,
+    pair: FoundPair,
     tables: &[[Entry; 1024]; 2],
     spots: &[Spot],
-    pools: &[[u8; 16384]; 2],
     news: &[[Entry; 1024]; 2],
-    lines: &[[u8; 8336]; 2],
     left_constants: &[u8],
     right_constants: &[u8],
     out: &mut [u8],
 ) -> Answer
-    requires { ⌜ ((x : Projection) × (y : Projection) × (js : List Pair) × (ks : List Pair) × (ls : List Pair) × IsNamed (now left) (getD (now tables) 0 []) (take (sides .spots) (now spots)) prefixL false (now «left_constants») (getD (now pools) 0 []) (getD (now news) 0 []) (getD (now lines) 0 []) (sides .left) x js ks × IsNamed (now right) (getD (now tables) 1 []) (rest (sides .spots) (now spots)) prefixR true (now «right_constants») (getD (now pools) 1 []) (getD (now news) 1 []) (getD (now lines) 1 []) (sides .right) y js ls) × (sides .gone ≡ goneMask (getD (now lines) 0 []) (sides .left .side) (getD (now lines) 1 []) (sides .right .side)) × (sides .spots ≤ length (now spots)) ⌝ }
-    ensures { λ result. ⌜ ((x y : Projection) (js ks ls : List Pair) → IsNamed (now (left .entry)) (getD (now (tables .entry)) 0 []) (take (sides .spots) (now (spots .entry))) prefixL false (now («left_constants» .entry)) (getD (now (pools .entry)) 0 []) (getD (now (news .entry)) 0 []) (getD (now (lines .entry)) 0 []) (sides .left) x js ks → IsNamed (now (right .entry)) (getD (now (tables .entry)) 1 []) (rest (sides .spots) (now (spots .entry))) prefixR true (now («right_constants» .entry)) (getD (now (pools .entry)) 1 []) (getD (now (news .entry)) 1 []) (getD (now (lines .entry)) 1 []) (sides .right) y js ls → Answered (joinedBehind (now (head .entry)) x y js ks ls) (now (out .entry)) (now (out .exit)) result) ⌝ }
+    requires { ⌜ ((x : Projection) × (y : Projection) × (js : List Pair) × (ks : List Pair) × (ls : List Pair) × LeftNamed (now left) (now «left_constants») pair (now tables) (now spots) (now news) x js ks × RightNamed (now right) (now «right_constants») pair (now tables) (now spots) (now news) y js ls) × (pair .spots ≤ length (now spots)) ⌝ }
+    ensures { λ result. ⌜ ((x y : Projection) (js ks ls : List Pair) → LeftNamed (now (left .entry)) (now («left_constants» .entry)) pair (now (tables .entry)) (now (spots .entry)) (now (news .entry)) x js ks → RightNamed (now (right .entry)) (now («right_constants» .entry)) pair (now (tables .entry)) (now (spots .entry)) (now (news .entry)) y js ls → Answered (joinedBehind (now (head .entry)) x y js ks ls) (now (out .entry)) (now (out .exit)) result) ⌝ }
 {
     let mut none = [0u8; 0];
+    let gone = gone_of(left, right, pair, tables, spots, news);
     let size = put_merged(
         head,
         left,
         right,
-        sides,
+        pair,
+        gone,
         tables,
         spots,
-        pools,
         news,
-        lines,
         left_constants,
         right_constants,
         &mut none,
@@ -188,12 +211,11 @@ fn merge_ready(
         head,
         left,
         right,
-        sides,
+        pair,
+        gone,
         tables,
         spots,
-        pools,
         news,
-        lines,
         left_constants,
         right_constants,
         out,
@@ -207,7 +229,7 @@ fn merge_found(
     head: &[u8],
     left: &[u8],
     right: &[u8],
-    found: FoundPair,
+    pair: FoundPair,
     tables: &[[Entry; 1024]; 2],
     nodes: &[Node],
     spots: &mut [Spot],
@@ -215,58 +237,44 @@ fn merge_found(
     right_constants: &[u8],
     out: &mut [u8],
 ) -> Answer
-    requires { ⌜ ((x : Projection) × (y : Projection) × (js : List Pair) × (ks : List Pair) × (ls : List Pair) × IsFound (now left) (getD (now tables) 0 []) (take (found .spots) (now spots)) false (now «left_constants») (found .left) x js ks × IsFound (now right) (getD (now tables) 1 []) (rest (found .spots) (now spots)) true (now «right_constants») (found .right) y js ls) × Worded (now words) × BothShaped (now words) (now nodes) (found .nodes) (now spots) (found .spots) ⌝ }
-    ensures { λ result. ⌜ ((x y : Projection) (js ks ls : List Pair) → IsFound (now (left .entry)) (getD (now (tables .entry)) 0 []) (take (found .spots) (now (spots .entry))) false (now («left_constants» .entry)) (found .left) x js ks → IsFound (now (right .entry)) (getD (now (tables .entry)) 1 []) (rest (found .spots) (now (spots .entry))) true (now («right_constants» .entry)) (found .right) y js ls → Answered (joinedBehind (now (head .entry)) x y js ks ls) (now (out .entry)) (now (out .exit)) result) ⌝ }
+    requires { ⌜ ((x : Projection) × (y : Projection) × (js : List Pair) × (ks : List Pair) × (ls : List Pair) × IsFound (now left) (getD (now tables) 0 []) (take (pair .spots) (now spots)) false (now «left_constants») (pair .left) x js ks × IsFound (now right) (getD (now tables) 1 []) (rest (pair .spots) (now spots)) true (now «right_constants») (pair .right) y js ls) × Worded (now words) × BothShaped (now words) (now nodes) (pair .nodes) (now spots) (pair .spots) ⌝ }
+    ensures { λ result. ⌜ ((x y : Projection) (js ks ls : List Pair) → IsFound (now (left .entry)) (getD (now (tables .entry)) 0 []) (take (pair .spots) (now (spots .entry))) false (now («left_constants» .entry)) (pair .left) x js ks → IsFound (now (right .entry)) (getD (now (tables .entry)) 1 []) (rest (pair .spots) (now (spots .entry))) true (now («right_constants» .entry)) (pair .right) y js ls → Answered (joinedBehind (now (head .entry)) x y js ks ls) (now (out .entry)) (now (out .exit)) result) ⌝ }
 {
-    let mut pools = [[0u8; 16384]; 2];
     let mut news = [[[0u16; 2]; 1024]; 2];
-    let mut lines = [[0u8; 8336]; 2];
-    let k = found.spots;
-    let m = found.nodes;
-    let Naming::Named(l) = name_found(
+    let k = pair.spots;
+    let m = pair.nodes;
+    if !name_found(
         words,
         left,
         &tables[0],
         &nodes[..m],
         &mut spots[..k],
         b'l',
-        found.left,
-        &mut pools[0],
+        pair.left,
         &mut news[0],
-        &mut lines[0],
-    ) else {
+    ) {
         return Answer::Repeated;
-    };
-    let Naming::Named(r) = name_found(
+    }
+    if !name_found(
         words,
         right,
         &tables[1],
         &nodes[m..],
         &mut spots[k..],
         b'r',
-        found.right,
-        &mut pools[1],
+        pair.right,
         &mut news[1],
-        &mut lines[1],
-    ) else {
+    ) {
         return Answer::Repeated;
-    };
-    let gone = gone_of(&lines, l, r);
+    }
     merge_ready(
         head,
         left,
         right,
-        NamedPair {
-            left: with_names(found.left, l),
-            right: with_names(found.right, r),
-            spots: k,
-            gone,
-        },
+        pair,
         tables,
         spots,
-        &pools,
         &news,
-        &lines,
         left_constants,
         right_constants,
         out,
@@ -292,58 +300,22 @@ pub fn merge_projects(
     requires { ⌜ ((x : Projection) × StandsAt 0 (now left) (texts .left) (now tables) (take (texts .spots) (now spots)) (tree x)) × ((y : Projection) × StandsAt 1 (now right) (texts .right) (now tables) (rest (texts .spots) (now spots)) (tree y)) × ListsRead (now pairs) (now «left_constants») (now «right_constants») × Worded (now words) × BothShaped (now words) (now nodes) (texts .nodes) (now spots) (texts .spots) ⌝ }
     ensures { λ r. ⌜ ((x y : Projection) (js ks ls : List Pair) → StandsAt 0 (now (left .entry)) (texts .left) (now (tables .entry)) (take (texts .spots) (now (spots .entry))) (tree x) → StandsAt 1 (now (right .entry)) (texts .right) (now (tables .entry)) (rest (texts .spots) (now (spots .entry))) (tree y) → Lists (now (pairs .entry)) (now («left_constants» .entry)) (now («right_constants» .entry)) js ks ls → Answered (joinedBehind (now (head .entry)) x y js ks ls) (now (out .entry)) (now (out .exit)) r) ⌝ }
 {
-    let mut joins = [0u16; ENTRIES];
-    let mut at = [0u16; ENTRIES];
-    let mut starts = [0u16; ENTRIES];
-    let Finding::Found(l) = find_side(
-        left,
-        texts.left.from,
-        pairs,
-        false,
-        left_constants,
-        &mut joins,
-        &mut at,
-        &mut starts,
-    ) else {
+    let l = find_side(left, texts.left, pairs, false, left_constants);
+    if !l.outline.inside {
         return Answer::Outside;
-    };
-    let standing = texts.left;
-    let places = Places { joins, at, starts };
-    let left_found = FoundSide {
-        standing,
-        outline: l,
-        places,
-    };
-    let mut joins = [0u16; ENTRIES];
-    let mut at = [0u16; ENTRIES];
-    let mut starts = [0u16; ENTRIES];
-    let Finding::Found(r) = find_side(
-        right,
-        texts.right.from,
-        pairs,
-        true,
-        right_constants,
-        &mut joins,
-        &mut at,
-        &mut starts,
-    ) else {
+    }
+    let r = find_side(right, texts.right, pairs, true, right_constants);
+    if !r.outline.inside {
         return Answer::Outside;
-    };
-    let standing = texts.right;
-    let places = Places { joins, at, starts };
-    let right_found = FoundSide {
-        standing,
-        outline: r,
-        places,
-    };
+    }
     merge_found(
         words,
         head,
         left,
         right,
         FoundPair {
-            left: left_found,
-            right: right_found,
+            left: l,
+            right: r,
             spots: texts.spots,
             nodes: texts.nodes,
         },

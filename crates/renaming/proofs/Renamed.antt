@@ -26,7 +26,7 @@ use Rattle.scoping.proofs.Named.{named}
 use Rattle.scoping.proofs.FirstPlaces.{by-place-mem}
 use Rattle.scoping.specs.bridge.Spots.{Spot}
 use Rattle.lines.specs.bridge.Spotted.{spotsOf}
-use Rattle.scoping.specs.bridge.Becomes.{replacement}
+use Rattle.naming.specs.bridge.New.{replacement}
 use Rattle.walking.specs.bridge.Code.{renames}
 use Rattle.walking.specs.bridge.Rewritten.{rewritten}
 use Rattle.walking.proofs.Noted.{rewritten-tree}

@@ -1,5 +1,5 @@
 -- What a mapping's pairs make of the table's names, pair by pair. Assumes nothing.
-use Prim.Native.Nat.{ℕ, _+_, _≤_, _<_}
+use Prim.Native.Nat.{ℕ, zero, suc, _+_, _≤_, _<_}
 use mathlib.Core.Path.{_≡_, refl, sym, ap, subst, _∙_}
 use mathlib.Core.List.{List, [], _∷_}
 use mathlib.Core.Bool.{Bool, true, false, cond, true≢false, false≢true}
@@ -16,7 +16,7 @@ use Rattle.names.specs.bridge.Names.{startsOf, sizesOf}
 use Rattle.names.proofs.Columns.{column-length, column-set}
 use Rattle.scoping.specs.Sets.{indexOf}
 use Rattle.scoping.proofs.Index.{same-place}
-use Rattle.scoping.specs.bridge.Becomes.{replacement}
+use Rattle.naming.specs.bridge.New.{spelled, replacement}
 use Rattle.lists.specs.bridge.Pairs.{pairAt, pairsIn}
 use Rattle.lists.proofs.Keys.{pairs-long, pair-at}
 use Rattle.renaming.specs.Rename.{becomes}
@@ -27,6 +27,16 @@ use Rattle.renaming.proofs.Mapping.{lookLast, look-becomes, second-some
 
 same-self : (f g : Bytes) → f ≡ g → same f g ≡ true
 same-self f g q = subst (λ (z : Bytes). same f z ≡ true) q (same-refl f)
+
+none-left : (a l : ℕ) → piece a l [] ≡ []
+none-left a zero = refl
+none-left a (suc l) = let z : 0 ≤ a = omega arith in ap (take (suc l)) (drop-of-length-le {A = ℕ} [] z)
+
+-- a name that has bytes is a piece of the mapping
+spelled-second : (pairs : Bytes) (a l : ℕ) (u : Bytes) → piece a l pairs ≡ u → (u ≡ [] → ⊥) → spelled pairs a l ≡ u
+unfolding spelled
+spelled-second [] a l u e s = absurd (s (sym e ∙ none-left a l))
+spelled-second (b ∷ pairs) a l u e s = e
 
 module _ (ns : List Bytes) (n : ℕ) (pairs : Bytes) (x : Pair) (targets spans : List ℕ) (first : Bytes) (named : first ≡ x .first) where
   -- its first name is not in the table
@@ -42,7 +52,7 @@ module _ (ns : List Bytes) (n : ℕ) (pairs : Bytes) (x : Pair) (targets spans :
     unfolding replacement
     becomes-second =
         let z : l ≡ 0 → ⊥ = λ e. some (sym bytes ∙ ap (λ (j : ℕ). take j (drop a pairs)) e) in
-        rw (← named, is, getD-set-same targets k a 0 roomy, getD-set-same spans k l 0 roomy′, ne-eqb l 0 z) bytes
+        rw (← named, is, getD-set-same targets k a 0 roomy, getD-set-same spans k l 0 roomy′, ne-eqb l 0 z) (spelled-second pairs a l (x .second) bytes some)
 
     stays : (f : Bytes) → (indexOf f ns ≡ k → ⊥) → replacement ns pairs (set targets k a) (set spans k l) f ≡ replacement ns pairs targets spans f
     unfolding replacement

@@ -4,7 +4,7 @@ pub mod Spots
 pub mod Skip
 pub mod Services
 pub mod Pushes
-pub mod Becomes
+pub mod Flagged
 pub mod Sets
 pub mod Premises
 pub mod ServiceNames

@@ -10,50 +10,50 @@ use lib.ListN.{length, getD, take, length-take}
 use lib.Seq.{getD-take}
 use lib.Dec.{ltb}
 use lib.Count.{ones}
-use Rattle.text.specs.Text.{Bytes, Line, textOf, part, linesFrom, First}
+use Rattle.text.specs.Text.{Bytes, Line, part, linesFrom, First}
 use Rattle.text.specs.Word.{bytes}
-use Rattle.text.specs.Field.{variable, fits, allFit}
-use Rattle.text.proofs.Basics.{and-left, and-right, and-both}
 use Rattle.text.proofs.Places.{lines-next}
 use Rattle.cursor.specs.bridge.Cursor.{left}
+use Rattle.cursor.proofs.Laws.{left-none, left-next}
 use Rattle.algebra.specs.Tree.{Pattern, project}
-use Rattle.algebra.specs.Valid.{Fits, AllFit, Valid}
 use Rattle.algebra.specs.Layout.{put}
 use Rattle.names.specs.bridge.Names.{listing}
-use Rattle.emit.specs.bridge.Emit.{em, puts}
 use Rattle.scoping.specs.Sets.{all}
 use Rattle.scoping.specs.Numbering.{numbered}
 use Rattle.scoping.specs.bridge.Pushes.{allPushes, newName}
 use Rattle.scoping.specs.Premises.{columnsAt, inside, differentPositions, sideName}
 use Rattle.scoping.proofs.Agree.{renamed-by-pushes}
 use Rattle.scoping.proofs.Basics.{not-true}
-use Rattle.scoping.proofs.NewVariables.{numbered-few}
-use Rattle.lines.specs.bridge.Spotted.{spotsOf}
 use Rattle.reader.specs.bridge.Lines.{LineEnd}
-use Rattle.walking.specs.bridge.Code.{renames}
 use Rattle.descending.specs.bridge.Renamed.{Renamed}
-use Rattle.walking.specs.bridge.Rewritten.{rewritten}
 use Rattle.reader.proofs.Laws.{nothing-here}
 use Rattle.walking.proofs.Laws.{line-split}
 use Rattle.walking.proofs.Noted.{column-names}
 use Rattle.naming.specs.bridge.Code.{namesAt}
 use Rattle.merging.specs.Request.{Projection, tree}
-use Rattle.merging.proofs.Names.{Letter, side-fits}
 use Rattle.algebra.specs.Query.{Pair}
 use Rattle.algebra.specs.Tally.{bounds}
 use Rattle.sides.specs.declared.side.Outline.{Outline}
 use Rattle.columns.specs.declared.list.Positions.{Positions}
 use Rattle.columns.specs.declared.list.Positions.the-variants.{Outside, Are}
-use Rattle.columns.specs.bridge.Columns.{columnsIn}
+use Rattle.walking.specs.bridge.Code.{Inside}
+use Rattle.columns.specs.bridge.Columns.{newColumns, picked}
+use Rattle.merging.proofs.Lists.{map-length}
+use Rattle.sides.proofs.Widths.{mask-picks}
 use Rattle.columns.specs.bridge.Listed.{Listed, positionsIn, Kept, Found}
-use Rattle.sides.specs.bridge.Side.{TreeIn, Placed, Renames, maskAt, OutlineIs, Outlined, Sided}
-use Rattle.sides.proofs.Trees.{tree-inside, columns-few, line-written}
+use Rattle.sides.specs.bridge.Side.{TreeIn, Placed, Renames, maskAt, newNames, FindingIs, Outlined, Sided}
+use Rattle.sides.proofs.Trees.{tree-inside, columns-few, columns-inside, columns-new}
 use Rattle.sides.proofs.Entries.{entryAt, names-at}
-use Rattle.columns.proofs.Line.{line-columns, line-positive}
 use Rattle.columns.proofs.Places.{place-below}
 use Rattle.sides.proofs.Repeated.{Ones, mask-counts}
 
 -- ---- the project's line
+
+pub left-more : (line : Bytes) (next end e : ℕ) → end ≤ length line → next ≤ end → First 9 line next end e → length (left line next end) ≡ suc (length (left line (e + 1) end))
+left-more line next end e k h f = ap length (left-next line next end e k h f)
+
+pub left-end : (line : Bytes) (next end c w : ℕ) → end < next → c + length (left line next end) ≡ w → c ≡ w
+left-end line next end c w h e = let z = ap length (left-none line next end h) in omega arith
 
 module _ (s : Bytes) (at : ℕ) (x : Projection) (lines : linesFrom s at ≡ put (tree x) []) (e : ℕ) (le : LineEnd s at e) where
   first-lines : linesFrom s at ≡ (bytes "project" ∷ x .columns) ∷ put (x .inner) []
@@ -120,7 +120,7 @@ module _ (s : Bytes) (at : ℕ) (a l : List ℕ) (n : ℕ) (v : List (List ℕ))
 
     -- ---- the new names
 
-    module _ (prefix : ℕ) (letter : Letter prefix) (pool targets spans : List ℕ) (given : (at : ℕ) (p : Pattern) → TreeIn s at a l n v p → Renames (listing s a l n) n pool targets spans (newName (allPushes prefix (numbered p) (namesAt s a l joins m 0)))) where
+    module _ (prefix : ℕ) (firsts seconds : List ℕ) (given : (at : ℕ) (p : Pattern) → TreeIn s at a l n v p → Renames (listing s a l n) n firsts seconds (newName (allPushes prefix (numbered p) (namesAt s a l joins m 0)))) where
       abbrev side : Bytes → Bytes
       side = sideName prefix (x .columns) (x .inner) (take m ps)
 
@@ -128,39 +128,8 @@ module _ (s : Bytes) (at : ℕ) (a l : List ℕ) (n : ℕ) (v : List (List ℕ))
       unfolding sideName
       new-is i w = (ap (λ (js : List Bytes). newName (allPushes prefix (numbered (tree x)) js) w) names-are ∙ sym (renamed-by-pushes prefix (numbered (tree x)) (columnsAt (x .columns) (take m ps)) w)) i
 
-      pub new-names : Renames (listing s a l n) n pool targets spans side
-      new-names = subst (Renames (listing s a l n) n pool targets spans) new-is (given at (tree x) stood)
-
-      new-fits : AllFit variable (map side (x .columns))
-      unfolding allFit Valid
-      new-fits = go (x .columns) (stood .valid .0)
-        where
-          one : (f : Bytes) → Fits variable f → Fits variable (side f)
-          one f h = let b = numbered-few (tree x) in let d = stood .few in let z = taken in
-              side-fits prefix (x .columns) (x .inner) (take m ps) letter (omega arith) (omega arith) f h
-
-          go : (cs : List Bytes) → AllFit variable cs → AllFit variable (map side cs)
-          go [] f = refl
-          go (c ∷ cs) f = and-both (fits variable (side c)) (allFit variable (map side cs)) (one c (and-left (fits variable c) (allFit variable cs) f)) (go cs (and-right (fits variable c) (allFit variable cs) f))
-
-      map-few : length (map side (x .columns)) ≤ bounds .columns
-      map-few = let z = go (x .columns) in let w = t .narrow in omega arith
-        where
-          go : (cs : List Bytes) → length (map side cs) ≡ length cs
-          go [] = refl
-          go (c ∷ cs) = ap suc (go cs)
-
-      -- the line, as the code writes it
-      module _ (size : ℕ) (line₀ line₁ : Bytes) (long-line : length line₀ ≡ 8336)
-          (e : em size line₁ ≡ rewritten (renames s a l n pool targets spans) s (spotsOf (listing s a l n) v columns) at inner (em 0 line₀)) where
-        put-line : em size line₁ ≡ puts (textOf ((bytes "project" ∷ map side (x .columns)) ∷ [])) (em 0 line₀)
-        put-line = line-written s at a l n v inner columns x t pool targets spans side new-names (em 0 line₀) (em size line₁) e
-
-        pub new-columns : columnsIn line₁ (size - 1) ≡ map side (x .columns)
-        new-columns = line-columns (map side (x .columns)) new-fits map-few size line₀ line₁ long-line put-line
-
-        pub new-positive : (0 < size) × (size ≤ 8328)
-        new-positive = line-positive (map side (x .columns)) new-fits map-few size line₀ line₁ long-line put-line
+      pub new-names : Renames (listing s a l n) n firsts seconds side
+      new-names = subst (Renames (listing s a l n) n firsts seconds) new-is (given at (tree x) stood)
 
 -- ---- what was found, told as a whole
 
@@ -192,22 +161,29 @@ module _ (text : Bytes) (second : Bool) (pairs constants : Bytes) (c inner : ℕ
     (joins join-lines at lines : List ℕ) (k m : ℕ) (kj : (all (λ i. ltb i c) (positionsIn second js) ≡ true) × Kept pairs js second joins join-lines k) (kk : (all (λ i. ltb i c) (positionsIn false ks) ≡ true) × Kept constants ks false at lines m)
     (high : inner ≤ length text) (found : (c ≡ length (x .columns)) × (linesFrom text inner ≡ put (x .inner) [])) (listed : Listed pairs js) where
   pub all-found : (constant joined : ℕ) → constant ≡ maskAt (take m at) c → joined ≡ maskAt (take k joins) c
-      → (inside (x .columns) (positionsIn second js) ≡ true) × (inside (x .columns) (positionsIn false ks) ≡ true)
-      × OutlineIs text second constants x js ks joins at lines (record { inner = inner; columns = c; joined = joined; joins = k; constant = constant; constants = m })
-  all-found constant joined pc pj = (
-    kept-inside (positionsIn second js) c (x .columns) (kj .0) (found .0),
-    kept-inside (positionsIn false ks) c (x .columns) (kk .0) (found .0),
-    record {
-      width = found .0;
-      constant = pc ∙ ap₂ maskAt (kk .1 .positions) (found .0);
-      joined = pj ∙ ap₂ maskAt (kj .1 .positions) (found .0);
-      high = high;
-      inner = found .1;
-      few = kept-asked pairs js second c joins join-lines k pairs kj listed .0;
-      positions = kj .1 .positions;
-      kept = kk .1;
-    },
-  )
+      → FindingIs text second constants x js ks joins at lines (record { inside = true; inner = inner; columns = c; joined = joined; joins = k; constant = constant; constants = m })
+  all-found constant joined pc pj = record {
+    outside = λ e. absurd (true≢false e);
+    found = λ e. (
+      kept-inside (positionsIn second js) c (x .columns) (kj .0) (found .0),
+      kept-inside (positionsIn false ks) c (x .columns) (kk .0) (found .0),
+      record {
+        width = found .0;
+        constant = pc ∙ ap₂ maskAt (kk .1 .positions) (found .0);
+        joined = pj ∙ ap₂ maskAt (kj .1 .positions) (found .0);
+        high = high;
+        inner = found .1;
+        few = kept-asked pairs js second c joins join-lines k pairs kj listed .0;
+        positions = kj .1 .positions;
+        kept = kk .1;
+      },
+    );
+  }
+
+-- one that is outside
+pub none-found : (text : Bytes) (second : Bool) (constants : Bytes) (x : Projection) (js ks : List Pair) (joins at lines : List ℕ) (o : Outline) → o .inside ≡ false
+    → (inside (x .columns) (positionsIn second js) && inside (x .columns) (positionsIn false ks)) ≡ false → FindingIs text second constants x js ks joins at lines o
+none-found text second constants x js ks joins at lines o e f = record { outside = λ z. f; found = λ z. absurd (true≢false (sym z ∙ e)) }
 
 not-false : (b : Bool) → (b ≡ false → ⊥) → b ≡ true
 not-false true h = refl
@@ -234,28 +210,47 @@ module _ (text : Bytes) (from : ℕ) (starts sizes : List ℕ) (n : ℕ) (spots 
   once : o .joins ≤ ones (o .joined) → differentPositions (positionsIn second js) ≡ true
   once h = not-false (differentPositions (positionsIn second js)) (λ e. let z = joined-ones .less e in absurd (omega arith))
 
-  pub named : (prefix : ℕ) (pool targets spans line : List ℕ) (end : ℕ) (marked : List (List ℕ)) → o .joins ≤ ones (o .joined) → Renamed spans spots 0 marked (length spots)
-      → Renames (listing text starts sizes n) n pool targets spans (sideName prefix (x .columns) (x .inner) (take (o .joins) joins)) × (columnsIn line end ≡ map (sideName prefix (x .columns) (x .inner) (take (o .joins) joins)) (x .columns))
-      → end ≤ length line
-      → Sided text from starts sizes n marked prefix second constants pool targets spans line at lines (record { inner = o .inner; columns = o .columns; constant = o .constant; joined = o .joined; constants = o .constants; end = end }) x js ks
-  named prefix pool targets spans line end marked many renamed nc le = record {
+  pub named : (prefix : ℕ) (firsts seconds : List ℕ) (marked : List (List ℕ)) → o .joins ≤ ones (o .joined) → Renamed seconds spots 0 marked (length spots)
+      → Renames (listing text starts sizes n) n firsts seconds (sideName prefix (x .columns) (x .inner) (take (o .joins) joins))
+      → Sided text from starts sizes n marked prefix second constants firsts seconds joins at lines o x js ks
+  named prefix firsts seconds marked many renamed new = record {
     noted = spots;
-    stands = d .stands;
-    renamed = renamed;
-    terms = d .terms;
-    joins-inside = d .joins-inside;
+    found = d;
     joins-once = once many;
-    terms-inside = d .terms-inside;
-    long = d .long;
-    is = record {
-      renames = subst (λ (ps : List ℕ). Renames (listing text starts sizes n) n pool targets spans (sideName prefix (x .columns) (x .inner) ps)) (d .is .positions) (nc .0);
-      columns = nc .1 ∙ ap (λ (ps : List ℕ). map (sideName prefix (x .columns) (x .inner) ps) (x .columns)) (d .is .positions);
-      end = le;
-      width = d .is .width;
-      constant = d .is .constant;
-      joined = d .is .joined;
-      high = d .is .high;
-      inner = d .is .inner;
-      kept = d .is .kept;
-    };
+    renamed = renamed;
+    renames = subst (λ (ps : List ℕ). Renames (listing text starts sizes n) n firsts seconds (sideName prefix (x .columns) (x .inner) ps)) (d .is .positions) new;
   }
+
+-- what is asked for where a side is written
+module _ (text : Bytes) (from : ℕ) (starts sizes : List ℕ) (n : ℕ) (spots : List (List ℕ)) (prefix : ℕ) (second : Bool) (constants : Bytes) (firsts seconds joins at lines : List ℕ) (o : Outline) (x : Projection) (js ks : List Pair)
+    (d : Sided text from starts sizes n spots prefix second constants firsts seconds joins at lines o x js ks) where
+  pub placed : Placed text from starts sizes n (d .noted) (o .inner) (o .columns) x
+  placed = outline-placed text from starts sizes n (d .noted) second constants x js ks joins at lines o (d .found)
+
+  pub side-inside : Inside 1024 spots (o .columns)
+  side-inside = columns-inside text from starts sizes n (d .noted) (o .inner) (o .columns) x placed seconds spots (d .renamed)
+
+  pub side-columns : newColumns text starts sizes firsts seconds spots (o .columns) ≡ map (newNames prefix second x js) (x .columns)
+  side-columns = columns-new text from starts sizes n (d .noted) (o .inner) (o .columns) x placed seconds spots (d .renamed) firsts (newNames prefix second x js) (d .renames)
+
+  abbrev columns : List Bytes
+  columns = newColumns text starts sizes firsts seconds spots (o .columns)
+
+  columns-long : length columns ≡ length (x .columns)
+  columns-long = ap length side-columns ∙ map-length (newNames prefix second x js) (x .columns)
+
+  pub terms-few : o .constants ≤ bounds .entries
+  terms-few = let m = d .found .is .kept .many in let f = d .found .terms .listed .few in omega arith
+
+  -- as many columns carry a constant as its mask has ones, and the others are the header's width
+  widths : (ones (o .constant) ≡ length (picked 1 (o .constant) columns)) × (ones (o .constant) ≤ length columns) × (length columns - ones (o .constant) ≡ length (picked 0 (o .constant) columns))
+  widths = mask-picks (positionsIn false ks) columns (o .constant) (d .found .is .constant ∙ ap (maskAt (positionsIn false ks)) (sym columns-long))
+
+  pub side-ones : ones (o .constant) ≡ length (picked 1 (o .constant) columns)
+  side-ones = widths .0
+
+  pub side-room : ones (o .constant) ≤ o .columns
+  side-room = let a = widths .1 in let b = d .found .is .width in let e = columns-long in omega arith
+
+  pub side-width : o .columns - ones (o .constant) ≡ length (picked 0 (o .constant) columns)
+  side-width = ap (λ (c : ℕ). c - ones (o .constant)) (d .found .is .width ∙ sym columns-long) ∙ widths .2

@@ -2,12 +2,10 @@
 use Prim.Native.Nat.{ℕ, zero, suc}
 use mathlib.Core.Path.{_≡_, refl, sym, ap, _∙_}
 use mathlib.Core.List.{List, [], _∷_, _++_}
-use native.Mathlib.Omega.{arith}
-use lib.ListN.{length, getD}
-use Rattle.text.specs.Text.{Bytes, Line, same, ended, textOf, linesFrom, First, part, split}
+use Rattle.text.specs.Text.{Bytes, Line, ended, textOf}
 use Rattle.text.specs.Word.{bytes}
 use Rattle.text.specs.Field.{decimal, digits}
-use Rattle.emit.specs.bridge.Emit.{Em, em, puts}
+use Rattle.emit.specs.bridge.Emit.{Em, puts}
 use Rattle.emit.proofs.Laws.{puts-append}
 use Rattle.walking.specs.bridge.Walk.{tabbed}
 use Rattle.walking.proofs.Written.{puts-ended}

@@ -1,4 +1,4 @@
-// What is found of a side, its columns and positions; then its new names and its line of renamed columns.
+// What is found of a side, its columns and positions; then its new names.
 use crate::project::find_columns;
 use algebra::ENTRIES;
 use algebra::PerEntry;
@@ -12,12 +12,11 @@ use names::Entry;
 use names::wide;
 use naming::new_names::standardize_variables;
 use walking::places::note_places;
-use walking::places::put_renamed;
 use words::table::WordRow;
 ghost use mathlib.Core.Path.{_≡_};
 ghost use Prim.Native.Nat.{ℕ, _≤_, _<_};
-ghost use mathlib.Core.List.{List, [], map};
-ghost use mathlib.Core.Bool.{Bool, true};
+ghost use mathlib.Core.List.{List, []};
+ghost use mathlib.Core.Bool.{Bool, true, false};
 ghost use lib.ListN.{length, getD, take};
 ghost use Rattle.text.specs.Text.{Bytes, linesFrom};
 ghost use Rattle.algebra.specs.Tree.{Pattern};
@@ -32,11 +31,9 @@ ghost use Rattle.walking.specs.bridge.Code.{Inside};
 ghost use Rattle.descending.specs.bridge.Renamed.{Renamed, Shaped};
 ghost use Rattle.naming.specs.bridge.Code.{namesAt};
 ghost use Rattle.merging.specs.Request.{Projection, tree};
-ghost use Rattle.merging.proofs.Names.{Letter};
 ghost use Rattle.scoping.specs.Premises.{inside, sideName};
-ghost use Rattle.columns.specs.bridge.Columns.{columnsIn};
 ghost use Rattle.columns.specs.bridge.Listed.{Listed};
-ghost use Rattle.sides.specs.bridge.Side.{TreeIn, Renames, Placed, Asked, FindingIs, IsFound, namedSide, IsNaming};
+ghost use Rattle.sides.specs.bridge.Side.{TreeIn, Renames, Placed, Asked, FindingIs, IsFound, IsNaming};
 
 // The entries of the columns at the first m positions: the columns are the first of a project's variables.
 fn join_entries(spots: &[Spot], at: &PerEntry, m: usize, joins: &mut PerEntry)
@@ -60,15 +57,14 @@ fn name_side(
     prefix: u8,
     joins: &PerEntry,
     m: usize,
-    pool: &mut [u8],
     news: &mut [Entry; 1024],
 )
-    requires { ⌜ (n ≤ 1024) × Inside 1024 (now spots) (length (now spots)) × (m ≤ bounds .entries) × ((i : ℕ) → i < m → getD (now joins) i 0 < n) × (16384 ≤ length (now pool)) × (length (now news) ≡ 1024) × ((k : ℕ) → getD (sizesOf (now news)) k 0 ≡ 0) ⌝ }
-    ensures { λ _. ⌜ ((at : ℕ) (p : Pattern) → TreeIn (now (text .entry)) at (startsOf (now (table .entry))) (sizesOf (now (table .entry))) n (now (spots .entry)) p → Renames (namesIn (now (text .entry)) (now (table .entry)) n) n (now (pool .exit)) (startsOf (now (news .exit))) (sizesOf (now (news .exit))) (newName (allPushes prefix (numbered p) (namesAt (now (text .entry)) (startsOf (now (table .entry))) (sizesOf (now (table .entry))) (now (joins .entry)) m 0)))) ⌝ }
+    requires { ⌜ (n ≤ 1024) × Inside 1024 (now spots) (length (now spots)) × (m ≤ bounds .entries) × ((i : ℕ) → i < m → getD (now joins) i 0 < n) × (length (now news) ≡ 1024) × ((k : ℕ) → getD (sizesOf (now news)) k 0 ≡ 0) ⌝ }
+    ensures { λ _. ⌜ ((at : ℕ) (p : Pattern) → TreeIn (now (text .entry)) at (startsOf (now (table .entry))) (sizesOf (now (table .entry))) n (now (spots .entry)) p → Renames (namesIn (now (text .entry)) (now (table .entry)) n) n (startsOf (now (news .exit))) (sizesOf (now (news .exit))) (newName (allPushes prefix (numbered p) (namesAt (now (text .entry)) (startsOf (now (table .entry))) (sizesOf (now (table .entry))) (now (joins .entry)) m 0)))) ⌝ }
 {
     let mut flags = [0u8; 2048];
     note_places(spots, spots.len(), &mut flags);
-    standardize_variables(text, table, n, &flags, prefix, joins, m, pool, news);
+    standardize_variables(text, table, n, &flags, prefix, joins, m, news);
 }
 
 // Where a text's tree starts, and how many names it has.
@@ -85,8 +81,9 @@ pub struct Places {
 }
 
 // What is found of a side before its names: where its inner pattern starts, how many columns it has, which of them are joined
-// and which carry constants, and how many positions each list has.
+// and which carry constants, and how many positions each list has. Where a position is not inside the projection, the rest says nothing.
 pub struct Outline {
+    pub inside: bool,
     pub inner: usize,
     pub columns: usize,
     pub joined: u64,
@@ -102,14 +99,23 @@ pub struct FoundSide {
     pub places: Places,
 }
 
-// A position is outside the projection, or all are inside.
-pub enum Finding {
-    Outside,
-    Found(Outline),
+// A position is outside.
+fn outside() -> Outline
+    ensures { λ r. ⌜ r .inside ≡ false ⌝ }
+{
+    Outline {
+        inside: false,
+        inner: 0,
+        columns: 0,
+        joined: 0,
+        joins: 0,
+        constant: 0,
+        constants: 0,
+    }
 }
 
-// Finding: a project's columns, and the positions of the join list in one of its fields and of the constants.
-pub fn find_side(
+// A project's columns, and the positions of the join list in one of its fields and of the constants.
+fn find_positions(
     text: &[u8],
     from: usize,
     pairs: &[u8],
@@ -118,7 +124,7 @@ pub fn find_side(
     joins: &mut PerEntry,
     at: &mut PerEntry,
     lines: &mut PerEntry,
-) -> Finding
+) -> Outline
     requires { ⌜ Asked (now text) from (now pairs) (now constants) × (length (now joins) ≡ bounds .entries) × (length (now at) ≡ bounds .entries) × (length (now lines) ≡ bounds .entries) ⌝ }
     ensures { λ r. ⌜ (length (now (joins .exit)) ≡ bounds .entries) × (length (now (at .exit)) ≡ bounds .entries) × ((x : Projection) (js ks : List Pair) → linesFrom (now (text .entry)) from ≡ put (tree x) [] → Listed (now (pairs .entry)) js → Listed (now (constants .entry)) ks → FindingIs (now (text .entry)) second (now (constants .entry)) x js ks (now (joins .exit)) (now (at .exit)) (now (lines .exit)) r) ⌝ }
 {
@@ -126,23 +132,56 @@ pub fn find_side(
     let columns = found.columns;
     let mut join_lines = [0u16; ENTRIES];
     let Positions::Are(k) = read_positions(pairs, second, columns, joins, &mut join_lines) else {
-        return Finding::Outside;
+        return outside();
     };
     let Positions::Are(m) = read_positions(constants, false, columns, at, lines) else {
-        return Finding::Outside;
+        return outside();
     };
-    Finding::Found(Outline {
+    Outline {
+        inside: true,
         inner: found.inner,
         columns,
         joined: position_mask(joins, k, columns),
         joins: k,
         constant: position_mask(at, m, columns),
         constants: m,
-    })
+    }
 }
 
-// The new names of a side, by its join positions: its tree is renamed; and where its line of renamed columns ends.
-fn name_columns(
+// Finding: a side's columns and positions, with what goes with it.
+pub fn find_side(
+    text: &[u8],
+    standing: Standing,
+    pairs: &[u8],
+    second: bool,
+    constants: &[u8],
+) -> FoundSide
+    requires { ⌜ Asked (now text) (standing .from) (now pairs) (now constants) ⌝ }
+    ensures { λ r. ⌜ (r .standing ≡ standing) × (length (r .places .joins) ≡ bounds .entries) × (length (r .places .at) ≡ bounds .entries) × ((x : Projection) (js ks : List Pair) → linesFrom (now (text .entry)) (standing .from) ≡ put (tree x) [] → Listed (now (pairs .entry)) js → Listed (now (constants .entry)) ks → FindingIs (now (text .entry)) second (now (constants .entry)) x js ks (r .places .joins) (r .places .at) (r .places .starts) (r .outline)) ⌝ }
+{
+    let mut joins = [0u16; ENTRIES];
+    let mut at = [0u16; ENTRIES];
+    let mut starts = [0u16; ENTRIES];
+    let outline = find_positions(
+        text,
+        standing.from,
+        pairs,
+        second,
+        constants,
+        &mut joins,
+        &mut at,
+        &mut starts,
+    );
+    let places = Places { joins, at, starts };
+    FoundSide {
+        standing,
+        outline,
+        places,
+    }
+}
+
+// The new names of a side, by its join positions: its tree is renamed.
+fn name_tree(
     text: &[u8],
     standing: Standing,
     outline: Outline,
@@ -152,76 +191,21 @@ fn name_columns(
     spots: &mut [Spot],
     prefix: u8,
     at: &PerEntry,
-    pool: &mut [u8],
     news: &mut [Entry; 1024],
-    line: &mut [u8],
-) -> usize
-    requires { ⌜ Letter prefix × (16384 ≤ length (now pool)) × (length (now news) ≡ 1024) × ((i : ℕ) → getD (sizesOf (now news)) i 0 ≡ 0) × (length (now line) ≡ 8336) × (outline .joins ≤ bounds .entries) × (length (now at) ≡ bounds .entries) × ((x : Projection) × Placed (now text) (standing .from) (startsOf (now table)) (sizesOf (now table)) (standing .n) (now spots) (outline .inner) (outline .columns) x × (inside (x .columns) (take (outline .joins) (now at)) ≡ true)) × Worded (now words) × Shaped (now words) (now nodes) (length (now nodes)) (length (now spots)) ⌝ }
-    ensures { λ r. ⌜ (r ≤ 8336) × ((x : Projection) → Placed (now (text .entry)) (standing .from) (startsOf (now (table .entry))) (sizesOf (now (table .entry))) (standing .n) (now (spots .entry)) (outline .inner) (outline .columns) x → inside (x .columns) (take (outline .joins) (now (at .entry))) ≡ true → Renames (namesIn (now (text .entry)) (now (table .entry)) (standing .n)) (standing .n) (now (pool .exit)) (startsOf (now (news .exit))) (sizesOf (now (news .exit))) (sideName prefix (x .columns) (x .inner) (take (outline .joins) (now (at .entry)))) × (columnsIn (now (line .exit)) r ≡ map (sideName prefix (x .columns) (x .inner) (take (outline .joins) (now (at .entry)))) (x .columns))) ⌝ }
+)
+    requires { ⌜ (length (now news) ≡ 1024) × ((i : ℕ) → getD (sizesOf (now news)) i 0 ≡ 0) × (outline .joins ≤ bounds .entries) × (length (now at) ≡ bounds .entries) × ((x : Projection) × Placed (now text) (standing .from) (startsOf (now table)) (sizesOf (now table)) (standing .n) (now spots) (outline .inner) (outline .columns) x × (inside (x .columns) (take (outline .joins) (now at)) ≡ true)) × Worded (now words) × Shaped (now words) (now nodes) (length (now nodes)) (length (now spots)) ⌝ }
+    ensures { λ _. ⌜ ((x : Projection) → Placed (now (text .entry)) (standing .from) (startsOf (now (table .entry))) (sizesOf (now (table .entry))) (standing .n) (now (spots .entry)) (outline .inner) (outline .columns) x → inside (x .columns) (take (outline .joins) (now (at .entry))) ≡ true → Renames (namesIn (now (text .entry)) (now (table .entry)) (standing .n)) (standing .n) (startsOf (now (news .exit))) (sizesOf (now (news .exit))) (sideName prefix (x .columns) (x .inner) (take (outline .joins) (now (at .entry))))) ⌝ }
     ensures renamed { λ _. ⌜ Renamed (sizesOf (now (news .exit))) (now (spots .entry)) 0 (now (spots .exit)) (length (now (spots .entry))) ⌝ }
 {
     let mut joins = [0u16; ENTRIES];
-    let n = standing.n;
     let m = outline.joins;
     join_entries(spots, at, m, &mut joins);
-    name_side(text, table, n, spots, prefix, &joins, m, pool, news);
+    name_side(text, table, standing.n, spots, prefix, &joins, m, news);
     rename_tree(words, nodes, nodes.len(), spots, spots.len(), news);
-    let size = put_renamed(
-        text,
-        standing.from,
-        outline.inner,
-        spots,
-        0,
-        outline.columns,
-        table,
-        n,
-        pool,
-        news,
-        line,
-        0,
-    );
-    size - 1
 }
 
-// A side that has its names: where its inner pattern starts, how many columns it has, which of them carry constants and which
-// are joined, how many constants there are, and where its line of renamed columns ends.
-pub struct Side {
-    pub inner: usize,
-    pub columns: usize,
-    pub constant: u64,
-    pub joined: u64,
-    pub constants: usize,
-    pub end: usize,
-}
-
-// A side that has its names.
-pub struct NamedSide {
-    pub standing: Standing,
-    pub side: Side,
-    pub places: Places,
-}
-
-// What goes with a side, once it has its names.
-pub fn with_names(found: FoundSide, side: Side) -> NamedSide
-    ensures { λ r. ⌜ r ≡ namedSide found side ⌝ }
-{
-    let standing = found.standing;
-    let places = found.places;
-    NamedSide {
-        standing,
-        side,
-        places,
-    }
-}
-
-// A position stands twice in the side's part of the join list, or the side has its names.
-pub enum Naming {
-    Repeated,
-    Named(Side),
-}
-
-// Naming: the new names of a side that was found, and its line of renamed columns. Where a position stands twice, the mask of the
-// join positions has fewer ones than there are positions, and nothing is named.
+// Naming: the new names of a side that was found. Where a position stands twice, the mask of the join positions has fewer ones
+// than there are positions, and nothing is named.
 pub fn name_found(
     words: &[WordRow; 56],
     text: &[u8],
@@ -230,24 +214,21 @@ pub fn name_found(
     spots: &mut [Spot],
     prefix: u8,
     found: FoundSide,
-    pool: &mut [u8],
     news: &mut [Entry; 1024],
-    line: &mut [u8],
-) -> Naming
-    requires { ⌜ Letter prefix × (16384 ≤ length (now pool)) × (length (now news) ≡ 1024) × ((i : ℕ) → getD (sizesOf (now news)) i 0 ≡ 0) × (length (now line) ≡ 8336) × ((second : Bool) × (constants : Bytes) × (x : Projection) × (js : List Pair) × (ks : List Pair) × IsFound (now text) (now table) (now spots) second constants found x js ks) × Worded (now words) × Shaped (now words) (now nodes) (length (now nodes)) (length (now spots)) ⌝ }
-    ensures { λ r. ⌜ ((second : Bool) (constants : Bytes) (x : Projection) (js ks : List Pair) → IsFound (now (text .entry)) (now (table .entry)) (now (spots .entry)) second constants found x js ks → IsNaming (now (text .entry)) (now (table .entry)) (now (spots .exit)) prefix second constants (now (pool .exit)) (now (news .exit)) (now (line .exit)) found r x js ks) ⌝ }
+) -> bool
+    requires { ⌜ (length (now news) ≡ 1024) × ((i : ℕ) → getD (sizesOf (now news)) i 0 ≡ 0) × ((second : Bool) × (constants : Bytes) × (x : Projection) × (js : List Pair) × (ks : List Pair) × IsFound (now text) (now table) (now spots) second constants found x js ks) × Worded (now words) × Shaped (now words) (now nodes) (length (now nodes)) (length (now spots)) ⌝ }
+    ensures { λ r. ⌜ ((second : Bool) (constants : Bytes) (x : Projection) (js ks : List Pair) → IsFound (now (text .entry)) (now (table .entry)) (now (spots .entry)) second constants found x js ks → IsNaming (now (text .entry)) (now (table .entry)) (now (spots .exit)) prefix second constants (now (news .exit)) found r x js ks) ⌝ }
 {
-    let standing = found.standing;
     let outline = found.outline;
     let places = found.places;
     let joins = places.joins;
     let ones = u64::count_ones(outline.joined) as usize;
     if ones < outline.joins {
-        return Naming::Repeated;
+        return false;
     }
-    let end = name_columns(
+    name_tree(
         text,
-        standing,
+        found.standing,
         outline,
         table,
         words,
@@ -255,16 +236,7 @@ pub fn name_found(
         spots,
         prefix,
         &joins,
-        pool,
         news,
-        line,
     );
-    Naming::Named(Side {
-        inner: outline.inner,
-        columns: outline.columns,
-        constant: outline.constant,
-        joined: outline.joined,
-        constants: outline.constants,
-        end,
-    })
+    true
 }

@@ -16,7 +16,7 @@ use Rattle.names.proofs.Laws.{listing-long}
 use Rattle.emit.specs.bridge.Emit.{Em, puts}
 use Rattle.emit.proofs.Laws.{puts-append}
 use Rattle.names.proofs.Laws.{listing-at}
-use Rattle.scoping.specs.bridge.Becomes.{chosen}
+use Rattle.scoping.specs.bridge.Flagged.{chosen}
 use Rattle.surveying.specs.bridge.Code.{chosenText, tabbed}
 
 -- ---- one name

@@ -15,7 +15,7 @@ use Rattle.scoping.specs.Numbering.{byPlace}
 use Rattle.scoping.specs.bridge.Sets.{Once}
 use Rattle.scoping.specs.bridge.Spots.{Spot}
 use Rattle.lines.specs.bridge.Spotted.{spotsOf}
-use Rattle.scoping.specs.bridge.Becomes.{chosen}
+use Rattle.scoping.specs.bridge.Flagged.{chosen}
 use Rattle.walking.specs.bridge.Flags.{flagAll}
 use Rattle.walking.specs.bridge.Code.{Inside}
 use Rattle.walking.specs.bridge.Rewritten.{flagSpots}

@@ -24,7 +24,7 @@ ghost use Rattle.emit.specs.bridge.Emit.{em, puts};
 ghost use Rattle.answers.specs.Outcome.{Answered};
 ghost use Rattle.surveying.specs.Scope.{scopeOutcome};
 ghost use Rattle.surveying.specs.bridge.AsIs.{scopeAsIs};
-ghost use Rattle.scoping.specs.bridge.Becomes.{chosen};
+ghost use Rattle.scoping.specs.bridge.Flagged.{chosen};
 ghost use Rattle.surveying.specs.bridge.Code.{Surveyed, chosenText, tabbed};
 
 // The names whose flags from `base` on are set, each after a tab.

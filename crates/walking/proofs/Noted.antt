@@ -1,13 +1,13 @@
 -- What callers need of the variables that a check noted: the text rewritten by them, the notes of a whole tree, and a project's columns and inner tree. Assumes nothing.
 use Prim.Native.Nat.{ℕ, zero, suc, _+_, _-_, _≤_, _<_}
 use mathlib.Core.Path.{_≡_, refl, sym, ap, subst, _∙_}
-use mathlib.Core.List.{List, [], _∷_, _++_, map, append-nil, append-assoc}
+use mathlib.Core.List.{List, [], _∷_, _++_, append-nil, append-assoc}
 use mathlib.Core.Bool.{false}
 use mathlib.Core.Logic.{⊎-elim}
-use native.Mathlib.Nat.{le-refl, eq-or-lt-of-le}
+use native.Mathlib.Nat.{eq-or-lt-of-le}
 use native.Mathlib.Omega.{arith}
-use lib.ListN.{length, getD, take, drop, length-drop, length-append, List·getD-append}
-use lib.Seq.{take-all, take-at, drop-at, getD-at, take-append-le}
+use lib.ListN.{length, getD, drop, length-drop, length-append, List·getD-append}
+use lib.Seq.{drop-at, getD-at}
 use Rattle.text.specs.Text.{Bytes, Line, same, textOf, linesFrom}
 use Rattle.text.specs.Word.{bytes}
 use Rattle.text.specs.Field.{variable, fits, allFit}
@@ -22,7 +22,6 @@ use Rattle.algebra.specs.bridge.Table.{Sort, patterns, rowIn, Row}
 use Rattle.algebra.proofs.Neat.{neat}
 use Rattle.algebra.specs.Tally.{bounds}
 use Rattle.emit.specs.bridge.Emit.{Em, puts}
-use Rattle.emit.proofs.Laws.{puts-nil}
 use Rattle.scoping.specs.bridge.Sets.{Once}
 use Rattle.scoping.specs.Sets.{indexOf}
 use Rattle.scoping.proofs.Index.{index-at}
@@ -34,16 +33,15 @@ use Rattle.scoping.specs.bridge.Skip.{skip}
 use Rattle.scoping.proofs.Skipped.{skip-all, none-found}
 use Rattle.lines.specs.bridge.Noded.{nodeAt, nodesOf, Noded}
 use Rattle.lines.specs.bridge.Spotted.{spotAt, spotsOf, Spotted, Noted}
-use Rattle.walking.specs.bridge.Walk.{Output}
 use Rattle.walking.specs.bridge.Code.{Inside}
 use Rattle.descending.specs.bridge.Renamed.{Shaped}
 use Rattle.walking.specs.bridge.Flags.{flagAll}
 use Rattle.walking.specs.bridge.Rewritten.{rewritten, flagSpots, Stands}
 use Rattle.walking.proofs.After.{line}
 use Rattle.walking.proofs.Parts.{heading}
-use Rattle.walking.proofs.Written.{variable-is, columns as columnFields}
+use Rattle.walking.proofs.Written.{variable-is}
 use Rattle.walking.proofs.Together.{tree-both}
-use Rattle.walking.proofs.Stretches.{rewritten-none, end-front, line-stretch}
+use Rattle.walking.proofs.Stretches.{end-front}
 use Rattle.walking.proofs.Rewriting.{Found, found-low, found-text, found-rewritten, found-flags, found-stands, text-from}
 
 -- ---- the array
@@ -61,22 +59,6 @@ spots-at ns a (suc k) i x h =
     (λ (q : i ≡ k). rw q (getD-at (spotsOf ns a k) (spotAt ns (getD a k [])) [] x k (spots-long ns a k)))
     (λ (q : i < k). List·getD-append (spotsOf ns a k) (spotAt ns (getD a k []) ∷ []) x i (omega (arith, spots-long ns a k)) ∙ spots-at ns a k i x q)
     (eq-or-lt-of-le (omega arith))
-
-pub spots-take : (ns : List Bytes) (a : List (List ℕ)) (k j : ℕ) → j ≤ k → spotsOf ns a j ≡ take j (spotsOf ns a k)
-unfolding spotsOf
-spots-take ns a k j h =
-    ⊎-elim
-    (λ (q : j ≡ k). rw q (sym (take-all k (spotsOf ns a k) (rw (spots-long ns a k) (le-refl k)))))
-    (λ (q : j < k). less k j q)
-    (eq-or-lt-of-le h)
-  where
-    less : (k j : ℕ) → j < k → spotsOf ns a j ≡ take j (spotsOf ns a k)
-    less zero j h = absurd (omega arith)
-    less (suc k) j h =
-        ⊎-elim
-        (λ (q : j ≡ k). rw q (sym (take-at (spotsOf ns a k) (spotAt ns (getD a k []) ∷ []) k (spots-long ns a k))))
-        (λ (q : j < k). less k j q ∙ sym (take-append-le j (spotsOf ns a k) (spotAt ns (getD a k []) ∷ []) (omega (arith, spots-long ns a k))))
-        (eq-or-lt-of-le (omega arith))
 
 nodes-long : (words b : List (List ℕ)) (m : ℕ) → length (nodesOf words b m) ≡ m
 unfolding nodesOf
@@ -190,9 +172,6 @@ module _ (s : Bytes) (from : ℕ) (m : Mark) (d : ℕ) (cs : List Bytes) (q : Pa
       }
 
   -- the columns are the first of them
-  pub first-columns : take (length cs) xs ≡ columnSpots
-  first-columns = ap (take (length cs)) (parted .are) ∙ take-at columnSpots (parted .rest) (length cs) (columns-long m cs 0 _ all-columns)
-
   pub other-columns : drop (length cs) xs ≡ parted .rest
   other-columns = ap (drop (length cs)) (parted .are) ∙ drop-at columnSpots (parted .rest) (length cs) (columns-long m cs 0 _ all-columns)
 
@@ -249,26 +228,6 @@ module _ (s : Bytes) (from : ℕ) (m : Mark) (d : ℕ) (cs : List Bytes) (q : Pa
           ∙ ap (λ (zs : List Spot). state [] (trace (length s) zs (parted .nodes))) (sym other-columns);
     }
 
-    module _ (ns : List Bytes) (new : Bytes → Bytes) (keeps : (f : Bytes) → mem f ns ≡ false → new f ≡ f) (e : Em) where
-      abbrev start : Output
-      start = record { em = e; flags = [] }
-
-      pub found-columns : rewritten new s (take (length cs) xs) from next e ≡ puts (textOf ((bytes "project" ∷ map new cs) ∷ [])) e
-      unfolding Stands textOf same lineSpots
-      found-columns =
-          (λ i. rewritten new s ((first-columns ∙ sym (append-nil columnSpots)) i) from (next-behind i) e)
-          ∙ line-stretch s (bytes "project") cs from (textOf (put q [])) (found-low s from m (suc d) (project cs q) xs x) line-text ns new keeps m (heading PROJECT .row) start .written [] behind (le-refl behind, behind-high)
-          ∙ rewritten-none new s behind _
-          ∙ sym (puts-nil _)
-          ∙ line new m (heading PROJECT) [] start (columnFields keeps cs all-columns) .written []
-
-    pub columns-stand : Stands s from next (take (length cs) xs)
-    unfolding Stands textOf same lineSpots
-    columns-stand =
-        subst (λ (n : ℕ). Stands s from n (take (length cs) xs)) (sym next-behind)
-        (subst (Stands s from behind) (append-nil columnSpots ∙ sym first-columns)
-        (line-stretch s (bytes "project") cs from (textOf (put q [])) (found-low s from m (suc d) (project cs q) xs x) line-text [] (λ f. f) (λ f h. refl) m (heading PROJECT .row) (record { em = record { at = 0; out = [] }; flags = [] }) .stands [] behind (le-refl behind, behind-high)))
-
 module _ (s : Bytes) (from : ℕ) (ns : List Bytes) (a : List (List ℕ)) (k : ℕ) (x : Noted s from ns a k) (cs : List Bytes) (q : Pattern)
     (lines : linesFrom s from ≡ put (project cs q) []) (valid : Valid (project cs q)) (deep : depth (project cs q) ≤ bounds .depth) where
   project-found : Found s from visible (bounds .depth) (project cs q) (x .spots)
@@ -299,10 +258,3 @@ module _ (s : Bytes) (from : ℕ) (ns : List Bytes) (a : List (List ℕ)) (k : �
 
     pub stands-inner : Stands s next (length s) (drop (length cs) (x .spots))
     stands-inner = found-stands s next (under visible) 63 q (drop (length cs) (x .spots)) (found-inner s from visible 63 cs q (x .spots) project-found next high inner)
-
-    pub rewritten-columns : (new : Bytes → Bytes) → ((f : Bytes) → mem f ns ≡ false → new f ≡ f) → (e : Em)
-        → rewritten new s (take (length cs) (x .spots)) from next e ≡ puts (textOf ((bytes "project" ∷ map new cs) ∷ [])) e
-    rewritten-columns new keeps = found-columns s from visible 63 cs q (x .spots) project-found next high inner ns new keeps
-
-    pub stands-columns : Stands s from next (take (length cs) (x .spots))
-    stands-columns = columns-stand s from visible 63 cs q (x .spots) project-found next high inner

@@ -25,7 +25,8 @@ use Rattle.walking.specs.bridge.Walk.{flagged}
 use Rattle.walking.specs.bridge.Rewritten.{rewritten, flagSpots, Stands}
 use Rattle.walking.proofs.Stretches.{part-append, stands-lower, stands-high, copy-apart}
 use Rattle.walking.proofs.Noted.{spots-long, spots-at}
-use Rattle.scoping.specs.bridge.Becomes.{replacement}
+use Rattle.naming.specs.bridge.New.{named, spelled, replacement}
+use Rattle.naming.proofs.Settled.{spelled-none, spelled-piece}
 use Rattle.walking.specs.bridge.Code.{renames, Inside, Stay, NextRenamed, Marked, Unmarked, NextMarked}
 use Rattle.descending.specs.bridge.Renamed.{newMark}
 use Rattle.descending.proofs.Marks.{mark-stays, mark-becomes}
@@ -117,8 +118,12 @@ noting-all a k j flags₀ flags n h ns o i = sym (ap (λ (zs : List Spot). flagS
 pub piece-size : (s : Bytes) (a b x y : ℕ) (f : Bytes) → x ≡ a → y ≡ b → f ≡ piece x y s → length f ≡ length (piece a b s)
 piece-size s a b x y f p q e = ap length (e ∙ λ i. piece (p i) (q i) s)
 
-pub piece-put : (s : Bytes) (a b x y : ℕ) (f : Bytes) (e e′ : Em) → x ≡ a → y ≡ b → f ≡ piece x y s → e′ ≡ puts f e → e′ ≡ puts (piece a b s) e
-piece-put s a b x y f e e′ p q h put = put ∙ ap (λ (z : Bytes). puts z e) (h ∙ λ i. piece (p i) (q i) s)
+-- a new name, generated or a piece of the pool
+pub name-put : (s : Bytes) (a b : ℕ) (e e′ : Em) → length s ≡ 0 → e′ ≡ puts (named a b) e → e′ ≡ puts (spelled s a b) e
+name-put s a b e e′ h put = put ∙ ap (λ (z : Bytes). puts z e) (sym (spelled-none s a b h))
+
+pub piece-put : (s : Bytes) (a b x y : ℕ) (f : Bytes) (e e′ : Em) → (length s ≡ 0 → ⊥) → x ≡ a → y ≡ b → f ≡ piece x y s → e′ ≡ puts f e → e′ ≡ puts (spelled s a b) e
+piece-put s a b x y f e e′ n p q h put = put ∙ ap (λ (z : Bytes). puts z e) (h ∙ (λ i. piece (p i) (q i) s) ∙ sym (spelled-piece s a b n))
 
 -- ---- the text under new names
 
@@ -196,16 +201,16 @@ module _ (s : Bytes) (starts sizes : List ℕ) (n : ℕ) (pool : Bytes) (targets
             (omega arith, omega arith, v .1)
 
         pub going-next : (start entry size next r : ℕ) (e₁ e₂ : Em) → start ≡ getD (getD a j []) 0 0 → entry ≡ getD (getD a j []) 1 0 → size ≡ length (nameAt s starts sizes entry)
-            → e₁ ≡ puts (part done start s) e → e₂ ≡ puts (piece (getD targets entry 0) (getD spans entry 0) pool) e₁ → NextRenamed a spans next k r → next ≡ j + 1 → Going from to i e₀ r (start + size) e₂
+            → e₁ ≡ puts (part done start s) e → e₂ ≡ puts (spelled pool (getD targets entry 0) (getD spans entry 0)) e₁ → NextRenamed a spans next k r → next ≡ j + 1 → Going from to i e₀ r (start + size) e₂
         unfolding Stands rewritten replacement
         going-next start entry size next r e₁ e₂ p q z u v x after =
             let m : start + size ≡ getD (getD a j []) 0 0 + length (getD ns (getD (getD a j []) 1 0) []) =
             (λ t. p t + (z ∙ ap (λ (x : ℕ). length (nameAt s starts sizes x)) q ∙ ap length (sym name-is)) t) in
-            let w : new (getD ns (getD (getD a j []) 1 0) []) ≡ piece (getD targets entry 0) (getD spans entry 0) pool =
+            let w : new (getD ns (getD (getD a j []) 1 0) []) ≡ spelled pool (getD targets entry 0) (getD spans entry 0) =
             rw (entry-is j h, ne-eqb (getD spans (getD (getD a j []) 1 0) 0) 0 (g .renamed h), q) in
             going-on from to i (j + 1) r (start + size) e₀ e₂
             (subst (λ (y : ℕ). Stands s y to (drop (j + 1) xs)) (sym m) (here-is .2))
-            ((λ t. rewritten new s (drop (j + 1) xs) (m t) to ((v ∙ ap (puts (piece (getD targets entry 0) (getD spans entry 0) pool)) (u ∙ ap (λ (y : ℕ). puts (part done y s) e) p) ∙ ap (λ (l : Bytes). puts l (puts (part done (getD (getD a j []) 0 0) s) e)) (sym w)) t))
+            ((λ t. rewritten new s (drop (j + 1) xs) (m t) to ((v ∙ ap (puts (spelled pool (getD targets entry 0) (getD spans entry 0))) (u ∙ ap (λ (y : ℕ). puts (part done y s) e) p) ∙ ap (λ (l : Bytes). puts l (puts (part done (getD (getD a j []) 0 0) s) e)) (sym w)) t))
             ∙ ap (λ (zs : List Spot). rewritten new s zs done to e) (sym (spots-left ns a k j h))
             ∙ g .rest)
             (subst (λ (y : ℕ). NextRenamed a spans y k r) after x)

@@ -3,14 +3,16 @@ use emit::put_all;
 use lines::fields::Spot;
 use names::Entry;
 use names::wide;
+use naming::numbers::put_name;
 use text::piece;
 ghost use mathlib.Core.Path.{_≡_};
 ghost use Prim.Native.Nat.{_≤_, _<_};
 ghost use mathlib.Core.List.{List};
 ghost use lib.ListN.{length, getD, drop};
-ghost use Rattle.text.specs.Text.{Bytes, piece as pieceOf};
+ghost use Rattle.text.specs.Text.{Bytes};
 ghost use Rattle.names.specs.bridge.Names.{startsOf, sizesOf, namesIn, nameIn};
 ghost use Rattle.emit.specs.bridge.Emit.{em, puts};
+ghost use Rattle.naming.specs.bridge.New.{spelled};
 ghost use Rattle.scoping.specs.bridge.Sets.{Once};
 ghost use Rattle.lines.specs.bridge.Spotted.{markAt, spotsOf};
 ghost use Rattle.walking.specs.bridge.Walk.{flagged};
@@ -33,12 +35,15 @@ fn next_renamed(spots: &[Spot], i: usize, k: usize) -> usize
     k
 }
 
-// What the name at an entry becomes.
+// What the name at an entry becomes: a piece of the pool, or a generated name where there is no pool.
 fn put_new(pool: &[u8], news: &[Entry; 1024], entry: usize, out: &mut [u8], at: usize) -> usize
     requires { ⌜ entry < 1024 ⌝ }
-    ensures { λ r. ⌜ em r (now (out .exit)) ≡ puts (pieceOf (getD (startsOf (now (news .entry))) entry 0) (getD (sizesOf (now (news .entry))) entry 0) (now (pool .entry))) (em at (now (out .entry))) ⌝ }
+    ensures { λ r. ⌜ em r (now (out .exit)) ≡ puts (spelled (now (pool .entry)) (getD (startsOf (now (news .entry))) entry 0) (getD (sizesOf (now (news .entry))) entry 0)) (em at (now (out .entry))) ⌝ }
 {
     let e = news[entry];
+    if pool.len() == 0 {
+        return put_name(out, at, e);
+    }
     put_all(out, at, piece(pool, wide(e[0]), wide(e[1])))
 }
 

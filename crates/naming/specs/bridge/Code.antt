@@ -3,20 +3,15 @@ use Prim.Native.Nat.{ℕ, zero, suc, _+_, _≤_, _<_}
 use mathlib.Core.Path.{_≡_}
 use mathlib.Core.List.{List, [], _∷_, _++_}
 use mathlib.Core.Bool.{true, false, cond}
-use mathlib.Core.Option.{Option, none, some}
-use lib.ListN.{length, getD, take}
-use lib.Seq.{sets}
+use lib.ListN.{length, getD}
 use lib.Dec.{eqb}
-use Rattle.text.specs.Text.{Bytes, same, piece}
+use Rattle.text.specs.Text.{Bytes, same}
 use Rattle.algebra.specs.Valid.{mem}
 use Rattle.names.specs.bridge.Names.{column, startsOf, sizesOf, nameAt, listing, Holds}
-use Rattle.scoping.specs.Label.{label, base, generated}
-use Rattle.scoping.specs.Standardize.{orSelf}
+use Rattle.scoping.specs.Label.{label, base}
 use Rattle.scoping.specs.bridge.Pushes.{Push, aPush, contains, newName}
-use Rattle.scoping.specs.bridge.Becomes.{replacement}
-use Rattle.scoping.specs.bridge.Becomes.{chosen}
-use Rattle.naming.specs.declared.new_names.Hit.{Hit}
-use Rattle.naming.specs.declared.new_names.Hit.the-variants.{Missing, Plain, Labelled}
+use Rattle.scoping.specs.bridge.Flagged.{chosen}
+use Rattle.naming.specs.bridge.New.{named, replacement}
 
 -- ---- the pushes
 
@@ -81,43 +76,16 @@ namesAt s starts sizes js (suc c) i = nameAt s starts sizes (getD js i 0) ∷ na
 
 -- ---- what a name becomes
 
--- what was found for a name
-abbrev pub said : Hit → Option Bytes
-said Missing = none
-said (Plain p n) = some (generated p n)
-said (Labelled p n) = some (generated p n ++ label)
+-- a name, by two numbers: 0 for the second leaves it
+abbrev pub becomes : ℕ → ℕ → Bytes → Bytes
+becomes a b w = cond (eqb b 0) w (named a b)
 
--- what is written for it
-abbrev pub written : Hit → Bytes
-written Missing = []
-written (Plain p n) = generated p n
-written (Labelled p n) = generated p n ++ label
+-- so for the entries below i; from i on no second number has changed
+pub record SettledTo (ps : List Push) (s : Bytes) (starts sizes : List ℕ) (i : ℕ) (firsts seconds seconds₀ : List ℕ) : Type 0 where
+  pub each : (j : ℕ) → j < i → becomes (getD firsts j 0) (getD seconds j 0) (nameAt s starts sizes j) ≡ newName ps (nameAt s starts sizes j)
+  pub behind : (k : ℕ) → i ≤ k → getD seconds k 0 ≡ getD seconds₀ k 0
 
--- its bytes, at most 12, were laid over the pool at `at`, and r is behind them
-pub record Laid (b : Bytes) (at r : ℕ) (pool pool′ : Bytes) : Type 0 where
-  pub size : length b ≤ 12
-  pub end : r ≡ at + length b
-  pub over : pool′ ≡ sets pool at b
-
--- what the name w at entry j becomes: a size of 0 leaves it
-abbrev pub becomesAt : Bytes → List ℕ → List ℕ → ℕ → Bytes → Bytes
-becomesAt pool targets spans j w = cond (eqb (getD spans j 0) 0) w (piece (getD targets j 0) (getD spans j 0) pool)
-
--- what was found was put at `at` of the pool, for the name at entry i, and r is behind it; the rest is as it was
-pub record Settled (h : Hit) (i at r : ℕ) (pool targets spans pool′ targets′ spans′ : List ℕ) : Type 0 where
-  pub here : (w : Bytes) → becomesAt pool′ targets′ spans′ i w ≡ orSelf (said h) w
-  pub inside : getD targets′ i 0 + getD spans′ i 0 ≤ r
-  pub low : at ≤ r
-  pub high : r ≤ at + 12
-  pub before : take at pool′ ≡ take at pool
-  pub others : (k : ℕ) → (k ≡ i → ⊥) → (getD targets′ k 0 ≡ getD targets k 0) × (getD spans′ k 0 ≡ getD spans k 0)
-
--- so for the entries below i, all of whose new names end by `at`; from i on no span has changed
-pub record SettledTo (ps : List Push) (s : Bytes) (starts sizes : List ℕ) (i at : ℕ) (pool targets spans spans₀ : List ℕ) : Type 0 where
-  pub each : (j : ℕ) → j < i → (becomesAt pool targets spans j (nameAt s starts sizes j) ≡ newName ps (nameAt s starts sizes j)) × (getD targets j 0 + getD spans j 0 ≤ at)
-  pub behind : (k : ℕ) → i ≤ k → getD spans k 0 ≡ getD spans₀ k 0
-
--- the table's names become what the pushes make of them, and no span behind the n names has changed
-pub record Standard (ps : List Push) (ns : List Bytes) (n : ℕ) (pool targets spans spans₀ : List ℕ) : Type 0 where
-  pub found : (f : Bytes) → mem f ns ≡ true → replacement ns pool targets spans f ≡ newName ps f
-  pub behind : (k : ℕ) → n ≤ k → getD spans k 0 ≡ getD spans₀ k 0
+-- the table's names become what the pushes make of them, and no second number behind the n names has changed
+pub record Standard (ps : List Push) (ns : List Bytes) (n : ℕ) (firsts seconds seconds₀ : List ℕ) : Type 0 where
+  pub found : (f : Bytes) → mem f ns ≡ true → replacement ns [] firsts seconds f ≡ newName ps f
+  pub behind : (k : ℕ) → n ≤ k → getD seconds k 0 ≡ getD seconds₀ k 0

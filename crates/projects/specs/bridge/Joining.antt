@@ -25,8 +25,6 @@ use Rattle.merging.specs.Merge.{lists, mergeProjectPatterns, mergeTrees}
 use Rattle.merging.specs.Push.{pushConstantsInProjectPattern}
 use Rattle.merging.specs.bridge.Twice.{noneTwice}
 use Rattle.sides.specs.declared.side.Standing.{Standing}
-use Rattle.sides.specs.declared.side.Side.{Side}
-use Rattle.columns.specs.bridge.Columns.{columnsIn, maskOf, picked, goneBits}
 use Rattle.descending.specs.bridge.Renamed.{Shaped}
 use Rattle.columns.specs.bridge.Listed.{Listed}
 use Rattle.sides.specs.bridge.Side.{Stands, Terms}
@@ -104,10 +102,6 @@ pub record Lists (pairs leftConstants rightConstants : Bytes) (js ks ls : List P
   pub joins : Listed pairs js
   pub left-terms : Terms leftConstants ks
   pub right-terms : Terms rightConstants ls
-
--- the right columns that go: those with a constant, and those whose new names are joined columns' on the left
-abbrev pub goneMask : List ℕ → Side → List ℕ → Side → ℕ
-goneMask lline l rline r = maskOf (goneBits (r .constant) (picked 1 (l .joined) (columnsIn lline (l .end))) (columnsIn rline (r .end)))
 
 -- the merged tree
 abbrev pub mergedTree : Projection → Projection → List Pair → List Pair → List Pair → Pattern

@@ -15,7 +15,7 @@ use Rattle.lines.specs.bridge.Noded.{Noded}
 use Rattle.lines.specs.bridge.Spotted.{Noted, spotsOf}
 use Rattle.lists.specs.bridge.Pairs.{PairsTold}
 use Rattle.emit.specs.bridge.Emit.{em}
-use Rattle.scoping.specs.bridge.Becomes.{replacement}
+use Rattle.naming.specs.bridge.New.{replacement}
 use Rattle.walking.specs.bridge.Code.{renames}
 use Rattle.descending.specs.bridge.Renamed.{Renamed}
 use Rattle.walking.specs.bridge.Rewritten.{rewritten}

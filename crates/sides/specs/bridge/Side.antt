@@ -1,4 +1,4 @@
--- What the code finds of a side: its names, its line of renamed columns, its masks; and the lines that it writes. Assumes nothing.
+-- What the code finds of a side: its columns, its masks, its names; and the lines that it writes. Assumes nothing.
 use Prim.Native.Nat.{ℕ, zero, suc, _≤_}
 use mathlib.Core.Path.{_≡_}
 use mathlib.Core.List.{List, [], _∷_, map}
@@ -20,19 +20,13 @@ use Rattle.scoping.specs.Numbering.{byPlace}
 use Rattle.scoping.specs.Premises.{sideName, inside, differentPositions}
 use Rattle.scoping.specs.Rename.{renameInGraphPattern}
 use Rattle.lines.specs.bridge.Spotted.{Noted}
-use Rattle.scoping.specs.bridge.Becomes.{replacement}
+use Rattle.naming.specs.bridge.New.{replacement}
 use Rattle.descending.specs.bridge.Renamed.{Renamed}
 use Rattle.merging.specs.Request.{Projection, tree}
 use Rattle.merging.specs.Names.{from as countFrom, isAt}
-use Rattle.sides.specs.declared.side.Side.{Side}
 use Rattle.sides.specs.declared.side.Outline.{Outline}
 use Rattle.sides.specs.declared.side.FoundSide.{FoundSide}
-use Rattle.sides.specs.declared.side.NamedSide.{NamedSide}
-use Rattle.sides.specs.declared.side.Finding.{Finding}
-use Rattle.sides.specs.declared.side.Finding.the-variants.{Outside, Found}
-use Rattle.sides.specs.declared.side.Naming.{Naming}
-use Rattle.sides.specs.declared.side.Naming.the-variants.{Repeated, Named}
-use Rattle.columns.specs.bridge.Columns.{columnsIn, maskOf, picked}
+use Rattle.columns.specs.bridge.Columns.{columnsOf, maskOf, picked}
 use Rattle.columns.specs.bridge.Listed.{Listed, positionsIn, Kept, termsFrom}
 
 -- a tree stands in a text from a place on, within the bounds; the table lists its names, and the array its variables
@@ -53,9 +47,9 @@ pub record Placed (s : Bytes) (at : ℕ) (a l : List ℕ) (n : ℕ) (v : List (L
   pub behind : linesFrom s inner ≡ put (x .inner) []
 
 -- the names of a table of n become what a map says, and no entry behind them is set
-pub record Renames (ns : List Bytes) (n : ℕ) (pool targets spans : List ℕ) (new : Bytes → Bytes) : Type 0 where
-  pub found : (f : Bytes) → mem f ns ≡ true → replacement ns pool targets spans f ≡ new f
-  pub behind : (k : ℕ) → n ≤ k → getD spans k 0 ≡ 0
+pub record Renames (ns : List Bytes) (n : ℕ) (firsts seconds : List ℕ) (new : Bytes → Bytes) : Type 0 where
+  pub found : (f : Bytes) → mem f ns ≡ true → replacement ns [] firsts seconds f ≡ new f
+  pub behind : (k : ℕ) → n ≤ k → getD seconds k 0 ≡ 0
 
 -- the mask of the positions that are listed, of c columns
 abbrev pub maskAt : List ℕ → ℕ → ℕ
@@ -89,24 +83,9 @@ pub record OutlineIs (text : Bytes) (second : Bool) (constants : Bytes) (x : Pro
   pub kept : Kept constants ks false at lines (o .constants)
 
 -- a position is outside the projection, or all are inside
-unfoldable pub FindingIs : Bytes → Bool → Bytes → Projection → List Pair → List Pair → List ℕ → List ℕ → List ℕ → Finding → Type 0
-FindingIs text second constants x js ks joins at lines Outside = (inside (x .columns) (positionsIn second js) && inside (x .columns) (positionsIn false ks)) ≡ false
-FindingIs text second constants x js ks joins at lines (Found o) =
-    (inside (x .columns) (positionsIn second js) ≡ true) × (inside (x .columns) (positionsIn false ks) ≡ true) × OutlineIs text second constants x js ks joins at lines o
-
--- ---- naming
-
--- what is known of a side that has its names
-pub record SideIs (text : Bytes) (starts sizes : List ℕ) (n prefix : ℕ) (second : Bool) (constants : Bytes) (x : Projection) (js ks : List Pair) (pool targets spans line at lines : List ℕ) (s : Side) : Type 0 where
-  pub renames : Renames (listing text starts sizes n) n pool targets spans (newNames prefix second x js)
-  pub columns : columnsIn line (s .end) ≡ map (newNames prefix second x js) (x .columns)
-  pub end : s .end ≤ length line
-  pub width : s .columns ≡ length (x .columns)
-  pub constant : s .constant ≡ maskAt (positionsIn false ks) (length (x .columns))
-  pub joined : s .joined ≡ maskAt (positionsIn second js) (length (x .columns))
-  pub high : s .inner ≤ length text
-  pub inner : linesFrom text (s .inner) ≡ put (x .inner) []
-  pub kept : Kept constants ks false at lines (s .constants)
+pub record FindingIs (text : Bytes) (second : Bool) (constants : Bytes) (x : Projection) (js ks : List Pair) (joins at lines : List ℕ) (o : Outline) : Type 0 where
+  pub outside : o .inside ≡ false → (inside (x .columns) (positionsIn second js) && inside (x .columns) (positionsIn false ks)) ≡ false
+  pub found : o .inside ≡ true → (inside (x .columns) (positionsIn second js) ≡ true) × (inside (x .columns) (positionsIn false ks) ≡ true) × OutlineIs text second constants x js ks joins at lines o
 
 -- ---- a side with what goes with it
 
@@ -130,36 +109,28 @@ pub record Outlined (s : Bytes) (from : ℕ) (a l : List ℕ) (n : ℕ) (v : Lis
   pub long : length at ≡ bounds .entries
   pub is : OutlineIs s second constants x js ks joins at lines o
 
--- a side that is ready to be written: its projection stood in its text by the variables that were noted, which are renamed now; its constants were read,
--- its positions are inside, none twice in the join list, and what was found of it is so
-pub record Sided (s : Bytes) (from : ℕ) (a l : List ℕ) (n : ℕ) (v : List (List ℕ)) (prefix : ℕ) (second : Bool) (constants : Bytes) (pool targets spans line at lines : List ℕ) (side : Side) (x : Projection) (js ks : List Pair) : Type 0 where
+-- a side that is ready to be written: it was found by the variables that were noted, which are renamed now; none of its positions stands twice in the
+-- join list, and its names become those that standardize_variables gives
+pub record Sided (s : Bytes) (from : ℕ) (a l : List ℕ) (n : ℕ) (v : List (List ℕ)) (prefix : ℕ) (second : Bool) (constants : Bytes) (firsts seconds joins at lines : List ℕ) (o : Outline) (x : Projection) (js ks : List Pair) : Type 0 where
   pub noted : List (List ℕ)
-  pub stands : Stands s from a l n noted (tree x)
-  pub renamed : Renamed spans noted 0 v (length noted)
-  pub terms : Terms constants ks
-  pub joins-inside : inside (x .columns) (positionsIn second js) ≡ true
+  pub found : Outlined s from a l n noted second constants joins at lines o x js ks
   pub joins-once : differentPositions (positionsIn second js) ≡ true
-  pub terms-inside : inside (x .columns) (positionsIn false ks) ≡ true
-  pub long : length at ≡ bounds .entries
-  pub is : SideIs s a l n prefix second constants x js ks pool targets spans line at lines side
+  pub renamed : Renamed seconds noted 0 v (length noted)
+  pub renames : Renames (listing s a l n) n firsts seconds (newNames prefix second x js)
 
 -- the same of a side with what goes with it
 abbrev pub IsFound : Bytes → List (List ℕ) → List (List ℕ) → Bool → Bytes → FoundSide → Projection → List Pair → List Pair → Type 0
 IsFound s table v second constants f x js ks =
     Outlined s (f .standing .from) (startsOf table) (sizesOf table) (f .standing .n) v second constants (f .places .joins) (f .places .at) (f .places .starts) (f .outline) x js ks
 
-abbrev pub IsNamed : Bytes → List (List ℕ) → List (List ℕ) → ℕ → Bool → Bytes → Bytes → List (List ℕ) → List ℕ → NamedSide → Projection → List Pair → List Pair → Type 0
-IsNamed s table v prefix second constants pool news line f x js ks =
-    Sided s (f .standing .from) (startsOf table) (sizesOf table) (f .standing .n) v prefix second constants pool (startsOf news) (sizesOf news) line (f .places .at) (f .places .starts) (f .side) x js ks
+abbrev pub IsNamed : Bytes → List (List ℕ) → List (List ℕ) → ℕ → Bool → Bytes → List (List ℕ) → FoundSide → Projection → List Pair → List Pair → Type 0
+IsNamed s table v prefix second constants news f x js ks =
+    Sided s (f .standing .from) (startsOf table) (sizesOf table) (f .standing .n) v prefix second constants (startsOf news) (sizesOf news) (f .places .joins) (f .places .at) (f .places .starts) (f .outline) x js ks
 
--- a side that was found, with its names
-abbrev pub namedSide : FoundSide → Side → NamedSide
-namedSide f side = record { standing = f .standing; side = side; places = f .places }
-
--- a position stands twice among its join positions, or it has its names
-unfoldable pub IsNaming : Bytes → List (List ℕ) → List (List ℕ) → ℕ → Bool → Bytes → Bytes → List (List ℕ) → List ℕ → FoundSide → Naming → Projection → List Pair → List Pair → Type 0
-IsNaming s table v prefix second constants pool news line f Repeated x js ks = differentPositions (positionsIn second js) ≡ false
-IsNaming s table v prefix second constants pool news line f (Named side) x js ks = IsNamed s table v prefix second constants pool news line (namedSide f side) x js ks
+-- it has its names, or a position stands twice among its join positions
+unfoldable pub IsNaming : Bytes → List (List ℕ) → List (List ℕ) → ℕ → Bool → Bytes → List (List ℕ) → FoundSide → Bool → Projection → List Pair → List Pair → Type 0
+IsNaming s table v prefix second constants news f true x js ks = IsNamed s table v prefix second constants news f x js ks
+IsNaming s table v prefix second constants news f false x js ks = differentPositions (positionsIn second js) ≡ false
 
 -- ---- the lines that are written
 
@@ -174,9 +145,7 @@ valuesLines zero n cs ts t = t
 valuesLines (suc m) n cs ts t = (bytes "values" ∷ decimal n ∷ decimal 1 ∷ []) ∷ (bytes "cols" ∷ cs) ∷ (bytes "row" ∷ ts) ∷ t
 
 -- the lines of a side are written, from one state of the output to another
-abbrev pub SideWritten : Bytes → List ℕ → List ℕ → ℕ → List (List ℕ) → List ℕ → List ℕ → List ℕ → Side → List ℕ → Bytes → List ℕ → List ℕ → Em → Em → Type 0
-SideWritten text starts sizes n spots pool targets spans s line constants at lines e e′ =
-    (from : ℕ) (x : Projection) (v : List (List ℕ)) (new : Bytes → Bytes) (ks : List Pair) → Placed text from starts sizes n v (s .inner) (s .columns) x → Renamed spans v 0 spots (length v)
-    → Renames (listing text starts sizes n) n pool targets spans new
-    → Kept constants ks false at lines (s .constants)
-    → (t : List Line) → puts (textOf t) e′ ≡ puts (textOf (joinLine (s .constants) (put (renameInGraphPattern new (x .inner)) (valuesLines (s .constants) (ones (s .constant)) (picked 1 (s .constant) (columnsIn line (s .end))) (termsFrom ks 0 (bounds .columns)) t)))) e
+abbrev pub SideWritten : Bytes → List (List ℕ) → List (List ℕ) → Bytes → List (List ℕ) → FoundSide → Em → Em → Type 0
+SideWritten s table v constants news f e e′ =
+    (prefix : ℕ) (second : Bool) (x : Projection) (js ks : List Pair) → IsNamed s table v prefix second constants news f x js ks → (t : List Line)
+    → puts (textOf t) e′ ≡ puts (textOf (joinLine (f .outline .constants) (put (renameInGraphPattern (newNames prefix second x js) (x .inner)) (valuesLines (f .outline .constants) (ones (f .outline .constant)) (picked 1 (f .outline .constant) (columnsOf s table news v (f .outline .columns))) (termsFrom ks 0 (bounds .columns)) t)))) e

@@ -6,7 +6,7 @@ use Rattle.text.specs.Word.{bytes}
 use Rattle.names.specs.bridge.Names.{listing}
 use Rattle.lines.specs.bridge.Spotted.{Noted}
 use Rattle.emit.specs.bridge.Emit.{Em, puts}
-use Rattle.scoping.specs.bridge.Becomes.{chosen}
+use Rattle.scoping.specs.bridge.Flagged.{chosen}
 use Rattle.heads.specs.bridge.Known.{Known}
 
 -- a text that is a tree's was checked, and its variables were noted

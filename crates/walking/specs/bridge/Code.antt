@@ -6,7 +6,7 @@ use lib.ListN.{length, getD}
 use Rattle.text.specs.Text.{Bytes}
 use Rattle.names.specs.bridge.Names.{listing, Hinted}
 use Rattle.scoping.specs.bridge.Sets.{Once}
-use Rattle.scoping.specs.bridge.Becomes.{replacement}
+use Rattle.naming.specs.bridge.New.{replacement}
 use Rattle.descending.specs.bridge.Renamed.{newMark}
 
 -- the names of the table are told apart, and each is found

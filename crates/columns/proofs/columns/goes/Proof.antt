@@ -1,5 +1,8 @@
 -- `columns::columns/goes` meets its contract. Assumes nothing.
 use borrow.Author.Needs.{needs}
+use mathlib.Core.Path.{refl, sym, _∙_}
+use native.Mathlib.Omega.{arith}
+use Rattle.columns.proofs.New as N
 use Rattle.columns.proofs.Picked as L
 use Rattle.columns.proofs.columns.goes.Statement.{statement}
 use Rattle.columns.proofs.columns.goes.Tie as tie
@@ -12,5 +15,18 @@ goes-spec =
     (λ c. search needs)
     (λ c. search needs)
     (λ c. search needs)
+    (λ c. search needs)
+    (λ c. search needs)
+    (λ c. search needs)
     (λ c κs. search needs)
-    (λ c. L.goes-even _ _ _ (c .before .before .if1 .left) (c .is-marked .ensures)))
+    (λ c. search needs)
+    (λ c κs. search needs)
+    (λ c κs. search needs)
+    (λ c κs. c .before .before .before .before .before .before .before .before .before .pre .1)
+    (λ c. let s = c .before .before .before .before .before .before .before .before .before .before in L.goes-even _ _ _ _ _ (c .before .before .before .before .before .before .before .if1 .left) (c .is-marked .ensures) (N.new-stays (s .args .text .now) (s .args .table .now) (s .args .news .now) (s .args .entry) (c .before .before .before .before .before .if2 .taken) _ _ _ (c .before .before .before .wide .ensures) (c .before .before .wide2 .ensures) (c .before .piece .ensures)))
+    (λ c. search needs)
+    (λ c κs. search needs)
+    (λ c. let z = c .before .put-name .ensures .1 in omega arith)
+    (λ c. let n = c .before .before in N.room-long _ _ _ (n .put-name .kept .0) refl (n .put-name .ensures .1))
+    (λ c κs. c .before .before .before .before .before .before .before .before .before .pre .1)
+    (λ c. let n = c .before .before .before in let s = c .before .before .before .before .before .before .before .before .before .before in L.goes-even _ _ _ _ _ (c .before .before .before .before .before .before .before .if1 .left) (c .is-marked2 .ensures) (N.new-named (s .args .text .now) (s .args .table .now) (s .args .news .now) (s .args .entry) (c .before .before .before .before .before .if2 .left) ∙ sym (N.room-is _ _ _ _ _ refl (n .put-name .ensures .1) (n .put-name .ensures .0)))))

@@ -1,23 +1,24 @@
 -- `columns::columns/is_marked` meets its contract. Assumes nothing.
 use borrow.Author.Needs.{needs}
-use Prim.Native.Nat.{ℕ, _+_, _-_, _*_, _^_, _≤_, _<_}
+use Prim.Native.Nat.{_-_, _≤_}
 use mathlib.Core.Path.{_≡_, refl, sym, ap, _∙_}
+use mathlib.Core.List.{map}
 use native.Mathlib.Omega.{arith}
-use lib.ListN.{length, getD, take, drop, length-set}
-use Rattle.cursor.specs.bridge.Cursor.{left}
+use lib.ListN.{getD, take, drop}
 use Rattle.algebra.specs.Valid.{mem}
-use Rattle.columns.specs.bridge.Columns.{picked}
+use Rattle.columns.specs.bridge.Columns.{newIn, columnsOf, picked}
+use Rattle.columns.proofs.New as N
 use Rattle.columns.proofs.Picked as L
 use Rattle.columns.proofs.columns.is_marked.Statement.{statement}
 use Rattle.columns.proofs.columns.is_marked.Tie as tie
 
 abbrev Inv-loop : tie.InvT-loop
-Inv-loop line end mask name next₀ bits₀ next bits =
-    mem name (picked 1 bits (left line next end)) ≡ mem name (picked 1 bits₀ (left line next₀ end))
+Inv-loop text table news spots columns mask name bits₀ i₀ bits i =
+    (i ≤ columns) × (mem name (picked 1 bits (map (λ x. newIn text table news (getD x 1 0)) (drop i (take columns spots)))) ≡ mem name (picked 1 mask (columnsOf text table news spots columns)))
 
 abbrev μ-loop : tie.MeasureT-loop
-μ-loop line end mask name next₀ bits₀ next bits =
-    end + 1 - next
+μ-loop text table news spots columns mask name bits₀ i₀ bits i =
+    columns - i
 
 pub is-marked-spec : {M : Type 1} → statement M
 unfolding mem
@@ -26,11 +27,14 @@ is-marked-spec =
     (tie.spec
     Inv-loop
     μ-loop
-    (λ c. refl)
+    (λ c. (omega arith, refl))
+    (λ c. search needs)
+    (λ c. let m = c .before .before .before .before .pre .many in omega arith)
+    (λ c. search needs)
     (λ c κs. search needs)
-    (λ c κs. (c .field-end .ensures .low, let h = c .field-end .ensures .high in let p = c .before .before .before .before .before .pre in omega arith))
-    (λ c. L.marked-here _ _ _ _ _ (c .before .before .before .before .before .before .before .pre) (c .before .before .before .loop-test .taken) (c .before .before .field-end .ensures) _ _ (c .before .is-column .ensures) (c .if1 .taken) ∙ c .before .before .before .before .loop .inv)
-    (λ c. let h = c .before .before .field-end .ensures .high in let p = c .before .before .before .before .before .before .before .pre in omega arith)
-    (λ c. let l = c .before .before .field-end .ensures .low in let t = c .before .before .before .loop-test .taken in omega arith)
-    (λ c. L.marked-next _ _ _ _ _ (c .before .before .before .before .before .before .before .pre) (c .before .before .before .loop-test .taken) (c .before .before .field-end .ensures) _ _ (c .before .is-column .ensures) (c .if1 .left) ∙ c .before .before .before .before .loop .inv)
-    (λ c. ap (mem _) (sym (L.picked-done _ _ _ _ _ (c .loop-test .left))) ∙ c .before .loop .inv))
+    (λ c κs. let e = c .before .before .before .before .before .before .pre .each _ (c .before .before .loop-test .taken) in let w = c .wide .ensures in omega arith)
+    (λ c. let s = c .before .before .before .before .before .before .before .before in L.marked-here _ _ _ _ (N.columns-left _ (s .args .spots .now) _ (s .pre .many) _ (c .before .before .before .before .loop-test .taken)) _ _ (rw (← c .before .before .wide .ensures) (c .before .is-column .ensures)) (c .if1 .taken) ∙ c .before .before .before .before .before .loop .inv .1)
+    (λ c. search needs)
+    (λ c. search needs)
+    (λ c. let s = c .before .before .before .before .before .before .before .before in (omega arith, L.marked-next _ _ _ _ (N.columns-left _ (s .args .spots .now) _ (s .pre .many) _ (c .before .before .before .before .loop-test .taken)) _ _ (rw (← c .before .before .wide .ensures) (c .before .is-column .ensures)) (c .if1 .left) ∙ c .before .before .before .before .before .loop .inv .1))
+    (λ c. let s = c .before .before .before .before in ap (mem _) (sym (L.picked-none _ _ _ (N.columns-over _ (s .args .spots .now) _ (s .pre .many) _ (c .loop-test .left)))) ∙ c .before .loop .inv .1))

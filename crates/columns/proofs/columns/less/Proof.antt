@@ -1,5 +1,4 @@
 -- `columns::columns/less` meets its contract. Assumes nothing.
-use borrow.Author.Needs.{needs}
 use native.Mathlib.Omega.{arith}
 use Rattle.columns.proofs.columns.less.Statement.{statement}
 use Rattle.columns.proofs.columns.less.Tie as tie

@@ -1,9 +1,9 @@
 -- `columns::columns/place_of` meets its contract. Assumes nothing.
 use borrow.Author.Needs.{needs}
-use Prim.Native.Nat.{ℕ, _+_, _-_, _*_, _^_, _≤_, _<_}
-use mathlib.Core.Path.{_≡_, refl, sym, ap, _∙_}
+use Prim.Native.Nat.{_+_, _-_, _≤_}
+use mathlib.Core.Path.{_≡_}
 use native.Mathlib.Omega.{arith}
-use lib.ListN.{length, getD, take, drop, length-set}
+use lib.ListN.{take, drop}
 use native.Mathlib.Nat.{zero-add}
 use Rattle.merging.specs.Names.{placeIn}
 use Rattle.columns.proofs.Places as P

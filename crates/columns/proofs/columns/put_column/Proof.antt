@@ -10,9 +10,6 @@ put-column-spec =
     (tie.spec
     (λ c. L.column-none _ (c .before .before .before .args .chosen) _ (c .if1 .taken))
     (λ c κs. search needs)
-    (λ c. search needs)
-    (λ c. search needs)
-    (λ c. search needs)
     (λ c κs. search needs)
     (λ c. search needs)
-    (λ c. L.column-put _ (c .before .before .before .before .before .before .before .before .before .before .before .before .args .chosen) _ _ _ (c .before .before .before .before .before .before .before .before .before .if1 .left) (c .before .before .before .before .before .before .before .put .ensures) (c .before .before .put-all .ensures)))
+    (λ c. L.column-put _ (c .before .before .before .before .before .before .before .before .before .before .before .args .chosen) _ _ _ (c .before .before .before .before .before .before .before .before .if1 .left) (c .before .before .before .before .before .before .put .ensures) (c .before .before .put-new .ensures)))

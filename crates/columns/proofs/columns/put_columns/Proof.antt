@@ -1,24 +1,26 @@
 -- `columns::columns/put_columns` meets its contract. Assumes nothing.
 use borrow.Author.Needs.{needs}
-use Prim.Native.Nat.{ℕ, _+_, _-_, _*_, _^_, _≤_, _<_}
-use mathlib.Core.Path.{_≡_, refl, sym, ap, _∙_}
+use Prim.Native.Nat.{_-_, _≤_}
+use mathlib.Core.Path.{_≡_, refl, _∙_}
+use mathlib.Core.List.{map}
 use native.Mathlib.Omega.{arith}
-use lib.ListN.{length, getD, take, drop, length-set}
-use Rattle.cursor.specs.bridge.Cursor.{left as fieldsLeft}
+use lib.ListN.{length, getD, take, drop}
 use Rattle.emit.specs.bridge.Emit.{em, puts}
 use Rattle.walking.specs.bridge.Walk.{tabbed}
-use Rattle.columns.specs.bridge.Columns.{picked}
+use Rattle.columns.specs.bridge.Columns.{newIn, columnsOf, picked}
+use Rattle.columns.proofs.New as N
 use Rattle.columns.proofs.Picked as L
 use Rattle.columns.proofs.columns.put_columns.Statement.{statement}
 use Rattle.columns.proofs.columns.put_columns.Tie as tie
 
 abbrev Inv-loop : tie.InvT-loop
-Inv-loop line end mask bit count out₀ at to₀ next₀ bits₀ left₀ out to next bits left =
-    (length out ≡ length out₀) × (left ≡ length (picked bit bits (fieldsLeft line next end))) × (puts (tabbed (picked bit bits (fieldsLeft line next end))) (em to out) ≡ puts (tabbed (picked bit bits₀ (fieldsLeft line next₀ end))) (em to₀ out₀))
+Inv-loop text table news spots columns mask bit count out₀ at to₀ bits₀ left₀ i₀ out to bits left i =
+    (length out ≡ length out₀) × (i ≤ columns) × (left ≡ length (picked bit bits (map (λ x. newIn text table news (getD x 1 0)) (drop i (take columns spots)))))
+    × (puts (tabbed (picked bit bits (map (λ x. newIn text table news (getD x 1 0)) (drop i (take columns spots))))) (em to out) ≡ puts (tabbed (picked bit mask (columnsOf text table news spots columns))) (em at out₀))
 
 abbrev μ-loop : tie.MeasureT-loop
-μ-loop line end mask bit count out₀ at to₀ next₀ bits₀ left₀ out to next bits left =
-    end + 1 - next
+μ-loop text table news spots columns mask bit count out₀ at to₀ bits₀ left₀ i₀ out to bits left i =
+    columns - i
 
 pub put-columns-spec : {M : Type 1} → statement M
 put-columns-spec =
@@ -26,12 +28,15 @@ put-columns-spec =
     (tie.spec
     Inv-loop
     μ-loop
-    (λ c. (refl, c .before .before .pre .1, refl))
-    (λ c κs. (L.columns-more _ _ _ _ _ _ (c .before .loop .inv .1) (c .loop-test .taken), c .before .before .before .before .pre .0))
-    (λ c κs. (c .before .field-end .ensures .low, let h = c .before .field-end .ensures .high in let p = c .before .before .before .before .before .before .pre .0 in omega arith))
+    (λ c. (refl, omega arith, c .before .before .pre .1, refl))
+    (λ c. let t = L.columns-more _ _ _ _ (c .before .loop .i) (c .before .before .before .before .args .columns) (N.columns-over _ (c .before .before .before .before .args .spots .now) _ (c .before .before .before .before .pre .0 .many) _) (c .before .loop .inv .2) (c .loop-test .taken) in let m = c .before .before .before .before .pre .0 .many in let g = c .before .before .before .before .good in omega (arith, t, m, g))
+    (λ c. let t = L.columns-more _ _ _ _ (c .before .loop .i) (c .before .before .before .before .args .columns) (N.columns-over _ (c .before .before .before .before .args .spots .now) _ (c .before .before .before .before .pre .0 .many) _) (c .before .loop .inv .2) (c .loop-test .taken) in let m = c .before .before .before .before .pre .0 .many in omega arith)
+    (λ c. search needs)
     (λ c κs. search needs)
-    (λ c. let h = c .before .before .before .before .before .field-end .ensures .high in let p = c .before .before .before .before .before .before .before .before .before .before .pre .0 in omega arith)
-    (λ c. let l = c .before .before .before .before .before .field-end .ensures .low in let t = L.columns-more _ _ _ _ _ _ (c .before .before .before .before .before .before .before .loop .inv .1) (c .before .before .before .before .before .before .loop-test .taken) in let h = c .before .before .before .before .before .field-end .ensures .high in omega arith)
-    (λ c. let c3 = c .before .before .before in let c5 = c3 .before .before in let c6 = c5 .before in let c7 = c6 .before in let c10 = c7 .before .before .before in let t = L.columns-more _ _ _ _ _ _ (c7 .loop .inv .1) (c6 .loop-test .taken) in (c3 .put-column .kept .1 .1 .1 .1 .0 ∙ c7 .loop .inv .0, L.columns-less _ _ _ _ _ _ (c10 .pre .0) t (c5 .field-end .ensures) _ _ _ refl (c7 .loop .inv .1) (c .less .ensures), L.columns-next _ _ _ _ _ _ (c10 .pre .0) t (c5 .field-end .ensures) _ _ _ refl (c3 .put-column .ensures) ∙ c7 .loop .inv .2))
+    (λ c κs. let e = c .before .before .before .before .before .before .before .pre .0 .each _ (L.columns-more _ _ _ _ (c .before .before .before .before .loop .i) (c .before .before .before .before .before .before .before .args .columns) (N.columns-over _ (c .before .before .before .before .before .before .before .args .spots .now) _ (c .before .before .before .before .before .before .before .pre .0 .many) _) (c .before .before .before .before .loop .inv .2) (c .before .before .before .loop-test .taken)) in let w = c .before .wide .ensures in omega arith)
+    (λ c κs. search needs)
+    (λ c. let t = L.columns-more _ _ _ _ (c .before .before .before .before .before .before .before .before .loop .i) (c .before .before .before .before .before .before .before .before .before .before .before .args .columns) (N.columns-over _ (c .before .before .before .before .before .before .before .before .before .before .before .args .spots .now) _ (c .before .before .before .before .before .before .before .before .before .before .before .pre .0 .many) _) (c .before .before .before .before .before .before .before .before .loop .inv .2) (c .before .before .before .before .before .before .before .loop-test .taken) in let m = c .before .before .before .before .before .before .before .before .before .before .before .pre .0 .many in let g = c .before .before .before .before .before .before .before .before .before .before .before .good in omega (arith, t, m, g))
+    (λ c. let t = L.columns-more _ _ _ _ (c .before .before .before .before .before .before .before .before .loop .i) (c .before .before .before .before .before .before .before .before .before .before .before .args .columns) (N.columns-over _ (c .before .before .before .before .before .before .before .before .before .before .before .args .spots .now) _ (c .before .before .before .before .before .before .before .before .before .before .before .pre .0 .many) _) (c .before .before .before .before .before .before .before .before .loop .inv .2) (c .before .before .before .before .before .before .before .loop-test .taken) in omega arith)
+    (λ c. let s = c .before .before .before .before .before .before .before .before .before .before .before in let i = c .before .before .before .before .before .before .before .before .loop .inv in let t = L.columns-more _ _ _ _ (c .before .before .before .before .before .before .before .before .loop .i) (c .before .before .before .before .before .before .before .before .before .before .before .args .columns) (N.columns-over _ (c .before .before .before .before .before .before .before .before .before .before .before .args .spots .now) _ (c .before .before .before .before .before .before .before .before .before .before .before .pre .0 .many) _) (c .before .before .before .before .before .before .before .before .loop .inv .2) (c .before .before .before .before .before .before .before .loop-test .taken) in let a = N.columns-left _ (s .args .spots .now) _ (s .pre .0 .many) _ t in (c .before .before .before .put-column .kept .1 .1 .1 .1 .1 .0 ∙ i .0, omega arith, L.columns-less _ _ _ _ _ a _ _ _ refl (i .2) (c .less .ensures), L.columns-next _ _ _ _ _ a _ _ _ refl (rw (← c .before .before .before .before .before .wide .ensures) (c .before .before .before .put-column .ensures)) ∙ i .3))
     (λ c. c .before .loop .inv .0)
-    (λ c. L.nothing-left _ _ _ _ (c .before .loop .inv .1) (c .loop-test .left) (c .before .loop .inv .2)))
+    (λ c. L.nothing-left _ _ _ _ (c .before .loop .inv .2) (c .loop-test .left) (c .before .loop .inv .3)))

@@ -1,9 +1,9 @@
 -- `columns::list/read_positions` meets its contract. Assumes nothing.
 use borrow.Author.Needs.{needs}
-use Prim.Native.Nat.{ℕ, _+_, _-_, _*_, _^_, _≤_, _<_}
-use mathlib.Core.Path.{_≡_, refl, sym, ap, _∙_}
+use Prim.Native.Nat.{_-_}
+use mathlib.Core.Path.{_≡_}
 use native.Mathlib.Omega.{arith}
-use lib.ListN.{length, getD, take, drop, length-set}
+use lib.ListN.{length, length-set}
 use mathlib.Core.List.{List}
 use Rattle.algebra.specs.Query.{Pair}
 use Rattle.algebra.specs.Tally.{bounds}

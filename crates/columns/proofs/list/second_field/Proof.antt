@@ -1,6 +1,5 @@
 -- `columns::list/second_field` meets its contract. Assumes nothing.
 use borrow.Author.Needs.{needs}
-use mathlib.Core.Path.{_≡_, refl, sym, ap, _∙_}
 use native.Mathlib.Omega.{arith}
 use Rattle.columns.proofs.Positions as Q
 use Rattle.columns.proofs.list.second_field.Statement.{statement}

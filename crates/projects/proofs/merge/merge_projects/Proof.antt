@@ -9,15 +9,11 @@ pub merge-projects-spec : {M : Type 1} → statement M
 merge-projects-spec =
     tie.close
     (tie.spec
-    (λ c κs. let c10 = c .before .before .before .before .before .before .before .before .before .before in let p = c10 .pre in (OS.asked-of _ _ _ _ _ _ _ _ (p .0 .0) (p .2 .js) (p .0 .1) (p .2 .joins) (p .2 .left), search needs, search needs, search needs))
+    (λ c κs. let p = c .before .before .before .before .before .before .before .pre in OS.asked-of _ _ _ _ _ _ _ _ (p .0 .0) (p .2 .js) (p .0 .1) (p .2 .joins) (p .2 .left))
+    (λ c. let f = c .before .before .find-side .ensures in let s = c .before .before .before .before .before .before .before .before .before .before in λ x y js ks ls sx sy li. O.left-outside (s .args .head .now) x y js ks ls (s .args .out .now) (OS.outside _ _ _ _ _ _ (record { stands = f .0; joins-long = f .1; long = f .2; is = f .3 }) _ _ x js ks sx (li .joins) (li .left-terms) (c .if1 .taken)))
+    (λ c κs. let p = c .before .before .before .before .before .before .before .before .before .before .pre in OS.asked-of _ _ _ _ _ _ _ _ (p .1 .0) (p .2 .js) (p .1 .1) (p .2 .joins) (p .2 .right))
+    (λ c. let f = c .before .before .find-side2 .ensures in let s = c .before .before .before .before .before .before .before .before .before .before .before .before .before in λ x y js ks ls sx sy li. O.right-outside (s .args .head .now) x y js ks ls (s .args .out .now) (OS.outside _ _ _ _ _ _ (record { stands = f .0; joins-long = f .1; long = f .2; is = f .3 }) _ _ y js ls sy (li .joins) (li .right-terms) (c .if2 .taken)))
+    (λ c κs. let g = c .before .before .before .before .find-side2 .ensures in let f = c .before .before .before .before .before .before .before .find-side .ensures in let p = c .before .before .before .before .before .before .before .before .before .before .before .before .before .before .before .pre in ((p .0 .0, p .1 .0, p .2 .js, p .2 .left .list, p .2 .right .list, OS.outlined _ _ _ _ _ _ (record { stands = f .0; joins-long = f .1; long = f .2; is = f .3 }) _ _ (p .0 .0) (p .2 .js) (p .2 .left .list) (p .0 .1) (p .2 .joins) (p .2 .left .terms) (c .before .before .before .before .before .if1 .left), OS.outlined _ _ _ _ _ _ (record { stands = g .0; joins-long = g .1; long = g .2; is = g .3 }) _ _ (p .1 .0) (p .2 .js) (p .2 .right .list) (p .1 .1) (p .2 .joins) (p .2 .right .terms) (c .before .before .if2 .left)), p .3, p .4))
     (λ c. search needs)
     (λ c. search needs)
-    (λ c. let c2 = c .before .before in let c13 = c2 .before .before .before .before .before .before .before .before .before .before .before in λ x y js ks ls sx sy li. O.left-outside (c13 .args .head .now) x y js ks ls (c13 .args .out .now) (OS.outside _ _ _ _ _ _ _ _ _ (c2 .find-side .ensures .2) _ _ _ _ x js ks sx (li .joins) (li .left-terms) (c .enum-told .given .1)))
-    (λ c κs. let c18 = c .before .before .before .before .before .before .before .before .before .before .before .before .before .before .before .before .before .before in let p = c18 .pre in (OS.asked-of _ _ _ _ _ _ _ _ (p .1 .0) (p .2 .js) (p .1 .1) (p .2 .joins) (p .2 .right), search needs, search needs, search needs))
-    (λ c. search needs)
-    (λ c. search needs)
-    (λ c. let c2 = c .before .before in let c21 = c2 .before .before .before .before .before .before .before .before .before .before .before .before .before .before .before .before .before .before .before in λ x y js ks ls sx sy li. O.right-outside (c21 .args .head .now) x y js ks ls (c21 .args .out .now) (OS.outside _ _ _ _ _ _ _ _ _ (c2 .find-side2 .ensures .2) _ _ _ _ y js ls sy (li .joins) (li .right-terms) (c .enum-told2 .given .1)))
-    (λ c κs. let c5 = c .before .before .before .before in let c7 = c5 .before .before in let c13 = c7 .before .before .before .before .before .before in let c15 = c13 .before .before in let c26 = c15 .before .before .before .before .before .before .before .before .before .before .before in let p = c26 .pre in ((p .0 .0, p .1 .0, p .2 .js, p .2 .left .list, p .2 .right .list, OS.outlined _ _ _ _ _ _ _ _ _ (c15 .find-side .ensures .2) _ _ _ _ (p .0 .0) (p .2 .js) (p .2 .left .list) (p .0 .1) (p .2 .joins) (p .2 .left .terms) _ (c13 .l .given .1) (c15 .find-side .ensures .0) (c15 .find-side .ensures .1), OS.outlined _ _ _ _ _ _ _ _ _ (c7 .find-side2 .ensures .2) _ _ _ _ (p .1 .0) (p .2 .js) (p .2 .right .list) (p .1 .1) (p .2 .joins) (p .2 .right .terms) _ (c5 .r .given .1) (c7 .find-side2 .ensures .0) (c7 .find-side2 .ensures .1)), p .3, p .4))
-    (λ c. search needs)
-    (λ c. search needs)
-    (λ c. let c4 = c .before .before .before in let c10 = c4 .before .before .before .before .before in let c12 = c10 .before .before in let c18 = c12 .before .before .before .before .before .before in let c20 = c18 .before .before in λ x y js ks ls sx sy li. c4 .merge-found .ensures x y js ks ls (OS.outlined _ _ _ _ _ _ _ _ _ (c20 .find-side .ensures .2) _ _ _ _ x js ks sx (li .joins) (li .left-terms) _ (c18 .l .given .1) (c20 .find-side .ensures .0) (c20 .find-side .ensures .1)) (OS.outlined _ _ _ _ _ _ _ _ _ (c12 .find-side2 .ensures .2) _ _ _ _ y js ls sy (li .joins) (li .right-terms) _ (c10 .r .given .1) (c12 .find-side2 .ensures .0) (c12 .find-side2 .ensures .1))))
+    (λ c. let g = c .before .before .before .before .before .before .before .before .find-side2 .ensures in let f = c .before .before .before .before .before .before .before .before .before .before .before .find-side .ensures in λ x y js ks ls sx sy li. c .before .before .before .merge-found .ensures x y js ks ls (OS.outlined _ _ _ _ _ _ (record { stands = f .0; joins-long = f .1; long = f .2; is = f .3 }) _ _ x js ks sx (li .joins) (li .left-terms) (c .before .before .before .before .before .before .before .before .before .if1 .left)) (OS.outlined _ _ _ _ _ _ (record { stands = g .0; joins-long = g .1; long = g .2; is = g .3 }) _ _ y js ls sy (li .joins) (li .right-terms) (c .before .before .before .before .before .before .if2 .left))))

@@ -1,6 +1,8 @@
 -- `projects::merge/put_head` meets its contract. Assumes nothing.
 use borrow.Author.Needs.{needs}
-use mathlib.Core.Path.{_∙_}
+use mathlib.Core.Path.{sym, _∙_}
+use native.Mathlib.Omega.{arith}
+use Rattle.projects.proofs.Known as KN
 use Rattle.projects.proofs.Whole as W
 use Rattle.projects.proofs.merge.put_head.Statement.{statement}
 use Rattle.projects.proofs.merge.put_head.Tie as tie
@@ -13,12 +15,19 @@ put-head-spec =
     (λ c. search needs)
     (λ c κs. search needs)
     (λ c. search needs)
-    (λ c κs. let c17 = c .before .before .before .before .before .before .before .before .before .before .before .before .before .before .before .before .before in c17 .pre .1)
-    (λ c κs. let c1 = c .before in let c19 = c1 .before .before .before .before .before .before .before .before .before .before .before .before .before .before .before .before .before .before in (c19 .pre .0, c1 .width .ensures ∙ c19 .pre .2))
     (λ c. search needs)
-    (λ c κs. let c24 = c .before .before .before .before .before .before .before .before .before .before .before .before .before .before .before .before .before .before .before .before .before .before .before .before in c24 .pre .4)
-    (λ c κs. let c1 = c .before in let c26 = c1 .before .before .before .before .before .before .before .before .before .before .before .before .before .before .before .before .before .before .before .before .before .before .before .before .before in (c26 .pre .3, c1 .width2 .ensures ∙ c26 .pre .5))
+    (λ c. sym (KN.taken-long _ _ (c .before .before .before .before .before .before .before .before .before .before .before .before .before .before .before .before .before .pre .2)))
+    (λ c κs. c .before .before .before .before .before .before .before .before .before .before .before .before .before .before .before .before .before .pre .3 .left-room)
+    (λ c κs. let p = c .before .before .before .before .before .before .before .before .before .before .before .before .before .before .before .before .before .before .before .pre in (p .0, c .before .width .ensures ∙ p .3 .left))
+    (λ c. search needs)
+    (λ c. search needs)
+    (λ c. let s = c .before .before .before .before .before .before .before .before .before .before .before .before .before .before .before .before .before .before .before .before .before .before .before .before in let g = s .good in let p = s .pre .2 in omega (arith, g, p))
+    (λ c. c .before .before .before .before .before .before .before .before .before .before .before .before .before .before .before .before .before .before .before .before .before .before .before .before .pre .2)
+    (λ c. c .before .before .before .before .before .before .before .before .before .before .before .before .before .before .before .before .before .before .before .before .before .before .before .before .pre .2)
+    (λ c. search needs)
+    (λ c κs. c .before .before .before .before .before .before .before .before .before .before .before .before .before .before .before .before .before .before .before .before .before .before .before .before .before .pre .3 .right-room)
+    (λ c κs. let p = c .before .before .before .before .before .before .before .before .before .before .before .before .before .before .before .before .before .before .before .before .before .before .before .before .before .before .before .pre in (p .1, c .before .width2 .ensures ∙ p .3 .right))
     (λ c. search needs)
     (λ c κs. search needs)
-    (λ c. search needs)
-    (λ c. let c2 = c .before .before in let c7 = c2 .before .before .before .before .before in let c14 = c7 .before .before .before .before .before .before .before in let c21 = c14 .before .before .before .before .before .before .before in let c26 = c21 .before .before .before .before .before in W.two-heads _ _ _ _ _ _ _ _ _ (c26 .put-all .ensures) (c21 .put-all2 .ensures) (c14 .put-columns .ensures) (c7 .put-columns2 .ensures) (c2 .put-all3 .ensures)))
+    (λ c. c .before .before .put-all3 .kept .0 ∙ c .before .before .before .before .before .before .before .put-columns2 .kept .1 .1 .1 .1 .1 .1 .1 .1 .0 ∙ c .before .before .before .before .before .before .before .before .before .before .before .before .before .before .before .put-columns .kept .1 .1 .1 .1 .1 .1 .1 .1 .0 ∙ c .before .before .before .before .before .before .before .before .before .before .before .before .before .before .before .before .before .before .before .before .before .before .before .put-all2 .kept .0 ∙ c .before .before .before .before .before .before .before .before .before .before .before .before .before .before .before .before .before .before .before .before .before .before .before .before .before .before .before .before .put-all .kept .0)
+    (λ c. W.two-heads _ _ _ _ _ _ _ _ _ (c .before .before .before .before .before .before .before .before .before .before .before .before .before .before .before .before .before .before .before .before .before .before .before .before .before .before .before .before .put-all .ensures) (c .before .before .before .before .before .before .before .before .before .before .before .before .before .before .before .before .before .before .before .before .before .before .before .put-all2 .ensures) (c .before .before .before .before .before .before .before .before .before .before .before .before .before .before .before .put-columns .ensures) (c .before .before .before .before .before .before .before .put-columns2 .ensures) (c .before .before .put-all3 .ensures)))

@@ -1,7 +1,12 @@
 -- `projects::push/put_pushed` meets its contract. Assumes nothing.
 use borrow.Author.Needs.{needs}
+use mathlib.Core.Path.{_∙_}
+use mathlib.Core.List.{[]}
+use mathlib.Core.Bool.{false}
 use Rattle.emit.specs.bridge.Emit.{em}
-use Rattle.projects.proofs.OneSide as OS
+use Rattle.scoping.specs.Label.{prefixV}
+use Rattle.sides.proofs.Sides.{side-inside, side-room, side-width}
+use Rattle.projects.proofs.Whole as W
 use Rattle.projects.proofs.Pass as P
 use Rattle.projects.proofs.push.put_pushed.Statement.{statement}
 use Rattle.projects.proofs.push.put_pushed.Tie as tie
@@ -10,7 +15,12 @@ pub put-pushed-spec : {M : Type 1} → statement M
 put-pushed-spec =
     tie.close
     (tie.spec
-    (λ c κs. let c7 = c .before .before .before .before .before .before .before in OS.head-needs _ _ _ _ _ _ _ _ _ _ _ _ _ _ _ _ _ _ _ (c7 .pre .2))
-    (λ c κs. let c11 = c .before .before .before .before .before .before .before .before .before .before .before in OS.side-needs _ _ _ _ _ _ _ _ _ _ _ _ _ _ _ _ _ _ _ (c11 .pre .2))
+    (λ c κs. search needs)
     (λ c. search needs)
-    (λ c. let c2 = c .before .before in let c6 = c2 .before .before .before .before in let c14 = c6 .before .before .before .before .before .before .before .before in λ x ks d. P.push-pass _ _ _ _ _ _ _ _ _ _ _ _ _ _ x ks d (c14 .args .head .now) (em 0 (c14 .args .out .now)) (em (c6 .put-head .result) (c6 .put-head .last .1 .1 .1 .0)) (em (c2 .put-side .result) (c2 .put-side .last .1 .1 .1 .1 .1 .1 .1 .1 .0)) (c6 .put-head .ensures) (c2 .put-side .ensures)))
+    (λ c κs. search needs)
+    (λ c κs. side-room _ _ _ _ _ _ _ _ _ _ _ _ _ _ _ _ _ _ (c .before .before .before .before .before .before .before .before .before .before .before .before .before .before .pre .2))
+    (λ c κs. let d = c .before .before .before .before .before .before .before .before .before .before .before .before .before .before .before .before .pre .2 in (side-inside _ _ _ _ _ _ _ _ _ _ _ _ _ _ _ _ _ _ d, c .before .width .ensures ∙ side-width _ _ _ _ _ _ _ _ _ _ _ _ _ _ _ _ _ _ d))
+    (λ c κs. search needs)
+    (λ c κs. let p = c .before .before .before .before .before .before .before .before .before .before .before .before .before .before .before .before .before .before .before .before .before .before .before .before .pre in (prefixV, false, p .0, [], p .1, p .2))
+    (λ c. search needs)
+    (λ c. let v = c .before .before in let p = c .before .before .before .before .before .before in let s = c .before .before .before .before .before .before .before .before .before .before .before .before .before .before .before .before .before .before .before .before .before .before .before .before .before .before .before in λ x ks d. P.push-pass (s .args .query .now) (s .args .table .now) (s .args .spots .now) (s .args .constants .now) (s .args .news .now) (s .args .found) x ks d (s .args .head .now) (em 0 (s .args .out .now)) (em (p .put .result) (p .put .last .0)) (em (v .put-side .result) (v .put-side .last .1 .1 .1 .1 .1 .1 .0)) (W.one-head _ _ _ _ _ _ _ (c .before .before .before .before .before .before .before .before .before .before .before .before .before .before .before .before .before .before .before .before .put-all .ensures) (c .before .before .before .before .before .before .before .before .before .before .before .before .before .before .before .put-all2 .ensures) (c .before .before .before .before .before .before .before .before .before .before .put-columns .ensures) (p .put .ensures)) (v .put-side .ensures)))

@@ -6,7 +6,7 @@ use native.Mathlib.Nat.{zero-add}
 use native.Mathlib.Omega.{arith}
 use lib.ListN.{length}
 use Rattle.cursor.specs.bridge.Cursor.{left}
-use Rattle.columns.proofs.Gone as G
+use Rattle.sides.proofs.Sides as G
 use Rattle.sides.proofs.project.count_fields.Statement.{statement}
 use Rattle.sides.proofs.project.count_fields.Tie as tie
 

@@ -1,6 +1,5 @@
 -- `sides::side/name_found` meets its contract. Assumes nothing.
 use borrow.Author.Needs.{needs}
-use native.Mathlib.Omega.{arith}
 use Rattle.sides.specs.bridge.Side.{IsNaming}
 use Rattle.sides.proofs.Root as R
 use Rattle.sides.proofs.Sides as S
@@ -12,10 +11,8 @@ unfolding IsNaming
 name-found-spec =
     tie.close
     (tie.spec
-    (λ c. R.ones-fit _ (c .struct-known .given .1 .1 .0))
+    (λ c. R.ones-fit _ (c .struct-known .given .1 .1 .1 .0))
     (λ c. λ second constants x js ks d. S.repeated _ _ _ _ _ _ _ _ _ _ _ _ _ _ _ d (c .if1 .taken))
-    (λ c κs. let p = c .before .before .before .before .before .before .before .before .before .before .before .before .before .before .before .pre in let d = p .5 .5 in (p .0, p .1, p .2, p .3, p .4, d .is .few, d .joins-long, (p .5 .2, S.outline-placed _ _ _ _ _ _ _ _ _ _ _ _ _ _ _ d, S.outline-inside _ _ _ _ _ _ _ _ _ _ _ _ _ _ _ d), p .6, p .7))
+    (λ c κs. let p = c .before .before .before .before .before .before .before .before .before .before .pre in let d = p .2 .5 in (p .0, p .1, d .is .few, d .joins-long, (p .2 .2, S.outline-placed _ _ _ _ _ _ _ _ _ _ _ _ _ _ _ d, S.outline-inside _ _ _ _ _ _ _ _ _ _ _ _ _ _ _ d), p .3, p .4))
     (λ c. search needs)
-    (λ c. search needs)
-    (λ c. search needs)
-    (λ c. let n = c .before .before .before .before .before in let i = n .before .before .before .before .before .before in let s = i .before .before .before .before .before .before .before .before .before .before in λ second constants x js ks d. S.named _ _ _ _ _ _ _ _ _ _ _ _ _ _ _ d _ _ _ _ _ _ _ (i .if1 .left) (n .name-columns .ensures .1) (n .name-columns .ensures .0 .1 x (S.outline-placed _ _ _ _ _ _ _ _ _ _ _ _ _ _ _ d) (S.outline-inside _ _ _ _ _ _ _ _ _ _ _ _ _ _ _ d)) (let z = n .name-columns .ensures .0 .0 in let k = s .pre .4 in let q = n .name-columns .kept .1 .1 .1 .1 .1 .1 .1 .1 .1 .1 .1 .0 in omega (arith, z, k, q))))
+    (λ c. let n = c .before in λ second constants x js ks d. S.named _ _ _ _ _ _ _ _ _ _ _ _ _ _ _ d _ _ _ _ (c .before .before .before .before .before .if1 .left) (n .name-tree .ensures .1) (n .name-tree .ensures .0 x (S.outline-placed _ _ _ _ _ _ _ _ _ _ _ _ _ _ _ d) (S.outline-inside _ _ _ _ _ _ _ _ _ _ _ _ _ _ _ d))))

@@ -7,7 +7,7 @@ use native.Mathlib.Omega.{arith}
 use lib.ListN.{length, drop}
 use Rattle.names.specs.bridge.Names.{listing, startsOf, sizesOf}
 use Rattle.emit.specs.bridge.Emit.{em}
-use Rattle.scoping.specs.bridge.Becomes.{chosen}
+use Rattle.scoping.specs.bridge.Flagged.{chosen}
 use Rattle.surveying.specs.bridge.Code.{tabbed}
 use Rattle.surveying.proofs.Lists as L
 use Rattle.surveying.proofs.scope.put_names.Statement.{statement}

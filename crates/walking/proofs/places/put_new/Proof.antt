@@ -12,6 +12,9 @@ put-new-spec =
     (tie.spec
     (λ c. search needs)
     (λ c. search needs)
+    (λ c κs. search needs)
+    (λ c. search needs)
+    (λ c. let a = c .before .before .before .before .before .before .before .before .args in rw (column-at 0 (now (a .news)) (a .entry), column-at 1 (now (a .news)) (a .entry)) (L.name-put _ _ _ _ _ (c .before .before .before .before .if1 .taken) (c .before .before .put-name .ensures .0)))
     (λ c. search needs)
     (λ c κs. search needs)
     (λ c. search needs)
@@ -19,4 +22,4 @@ put-new-spec =
     (λ c κs. search needs)
     (λ c κs. search needs)
     (λ c. search needs)
-    (λ c. let c5 = c .before .before .before .before .before in let a = c5 .before .before .before .before .before .args in rw (column-at 0 (now (a .news)) (a .entry), column-at 1 (now (a .news)) (a .entry)) (L.piece-put _ _ _ _ _ _ _ _ (c5 .wide .ensures) (c .before .before .before .before .wide2 .ensures) (c .before .before .before .piece .ensures) (c .before .before .put-all .ensures))))
+    (λ c. let a = c .before .before .before .before .before .before .before .before .before .before .before .args in rw (column-at 0 (now (a .news)) (a .entry), column-at 1 (now (a .news)) (a .entry)) (L.piece-put _ _ _ _ _ _ _ _ (c .before .before .before .before .before .before .before .if1 .left) (c .before .before .before .before .before .wide .ensures) (c .before .before .before .before .wide2 .ensures) (c .before .before .before .piece .ensures) (c .before .before .put-all .ensures))))
