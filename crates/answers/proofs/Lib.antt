@@ -1,3 +1,4 @@
 pub mod Answers
 pub mod Numbered
 pub mod Given
+pub mod Both

@@ -12,7 +12,14 @@ pub enum Answer {
     NotMergeable,
     TooShort,
     NotUsable,
+    ListTooShort,
     Repeated,
+}
+
+// An answer, and how many numbers were written into the list beside it.
+pub struct Listed {
+    pub answer: Answer,
+    pub many: usize,
 }
 
 // Its number: docs/SPECIFICATION.md, "Numbers".
@@ -28,6 +35,7 @@ pub fn number(a: Answer) -> u8
         Answer::NotMergeable => 5,
         Answer::TooShort => 6,
         Answer::NotUsable => 7,
+        Answer::ListTooShort => 9,
         Answer::Repeated => 10,
     }
 }
@@ -45,6 +53,7 @@ pub fn size_of(a: Answer) -> usize
         Answer::NotMergeable => 0,
         Answer::TooShort => 0,
         Answer::NotUsable => 0,
+        Answer::ListTooShort => 0,
         Answer::Repeated => 0,
     }
 }

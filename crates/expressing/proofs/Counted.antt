@@ -1,19 +1,21 @@
--- The filters one after the other: their references, and those that are placed. Assumes nothing.
+-- The filters one after the other: their references, and the notes of which are placed. Assumes nothing.
 use Prim.Native.Nat.{ℕ, zero, suc, _+_, _-_, _≤_, _<_}
 use mathlib.Core.Path.{_≡_, refl, sym, ap, ap₂, subst, _∙_}
 use mathlib.Core.Bool.{Bool, true, false, cond, not, _&&_}
-use mathlib.Core.List.{List, [], _∷_, _++_}
+use mathlib.Core.List.{List, [], _∷_, _++_, append-nil, append-assoc}
 use mathlib.Core.Logic.{⊎-elim}
 use native.Mathlib.Decide.{decLt}
+use native.Mathlib.Nat.{zero-add}
+use native.Mathlib.Numerals.{add-one}
 use native.Mathlib.Omega.{arith}
-use lib.ListN.{length}
+use lib.ListN.{length, take, drop, set, getD, length-set, drop-of-length-le}
 use lib.Dec.{ltb}
-use lib.Seq.{sets}
+use lib.Seq.{sets, sets-eq, take-set-le, take-suc-set, drop-cons, length-take-le}
 use borrow.Author.Tests.{not-true, not-false}
-use Rattle.text.proofs.Basics.{and-left, and-right}
 use Rattle.text.specs.Text.{Bytes, Line, same, textOf, split, part, linesFrom, First}
 use Rattle.text.specs.Word.{bytes}
 use Rattle.text.proofs.Places.{lines-next, lines-open, lines-end}
+use Rattle.algebra.specs.Tally.{bounds}
 use Rattle.words.specs.bridge.Key.{keyOf, Keyed}
 use Rattle.words.proofs.ByKey.{small, tells, same-key, other-key}
 use Rattle.cursor.specs.bridge.Cursor.{left}
@@ -25,38 +27,13 @@ use Rattle.reader.proofs.Laws.{nothing-here}
 use Rattle.walking.proofs.Laws.{line-split}
 use Rattle.merging.specs.Request.{position}
 use Rattle.heads.proofs.Cut.{text-append}
-use Rattle.filtering.specs.bridge.FilterLines.{isTrueLine, partsBelow, expressionLines, Walked, severalParts, treeToExpression, Placed, oneMore, placedFilters}
+use Rattle.filtering.specs.bridge.FilterLines.{isTrueLine, Walked, treeToExpression, Placed, noFilters, oneMore, placedFilters}
 use Rattle.placing.specs.declared.field.Field.{Field}
 use Rattle.placing.specs.bridge.Fields.{FieldIs}
 use Rattle.expressing.specs.declared.express.Walked.{Walked as Went}
-use Rattle.expressing.specs.declared.place.Measured.{Measured}
-use Rattle.expressing.specs.bridge.Walks.{Walks, allPlaced, Measures}
+use Rattle.expressing.specs.declared.place.Noted.{Noted}
+use Rattle.expressing.specs.bridge.Walks.{Walks, isTrueFirst, linesAt, filtersFrom, Notes}
 use Rattle.expressing.specs.bridge.Filtered.{refBelow}
-
--- ---- how many lines
-
-module _ (s : Bytes) (from : ℕ) where
-  pub count-end : (n : ℕ) → length s ≤ from → n + length (linesFrom s from) ≡ n
-  count-end n h = let e = ap (λ (ls : List Line). length ls) (lines-end s from h) in omega (arith, e)
-
-  pub count-next : (end n : ℕ) → from < length s → LineEnd s from end → n + 1 + length (linesFrom s (end + 1)) ≡ n + length (linesFrom s from)
-  count-next end n h l = go (decLt end (length s))
-    where
-      go : Dec (end < length s) → n + 1 + length (linesFrom s (end + 1)) ≡ n + length (linesFrom s from)
-      go (yes i) = let e = ap (λ (ls : List Line). length ls) (lines-next s from end (l .ends i) i) in omega (arith, e)
-      go (no i) =
-          let t = l .high in
-          let q : end ≡ length s = omega arith in
-          let e = ap (λ (ls : List Line). length ls) (lines-open s from end h (l .none q (let x : length s ≤ from → ⊥ = omega arith in x)) q) in
-          let d = ap (λ (ls : List Line). length ls) (lines-end s (end + 1) (omega arith)) in
-          omega (arith, e, d)
-
-  pub end-low : (end : ℕ) → from < length s → LineEnd s from end → from ≤ end
-  end-low end h l = go (decLt end (length s))
-    where
-      go : Dec (end < length s) → from ≤ end
-      go (yes i) = l .ends i .low
-      go (no i) = let t = l .high in omega arith
 
 -- ---- references
 
@@ -104,134 +81,35 @@ no-ref width = refl
 
 -- ---- one filter
 
-pub not-put : (b : Bool) (e x : Em) → not b ≡ true → e ≡ cond b x e
-not-put b e x h = rw (not-true b h)
-
-pub was-put : (b : Bool) (e x y : Em) → not b ≡ false → y ≡ x → y ≡ cond b x e
-was-put b e x y h p = rw (not-false b h) p
-
 pub more-is : (b : Bool) (n : ℕ) → b ≡ true → n + 1 ≡ cond b (n + 1) n
 more-is b n h = rw h
 
 pub same-is : (b : Bool) (n : ℕ) → b ≡ false → n ≡ cond b (n + 1) n
 same-is b n h = rw h
 
--- ---- filter by filter
+module _ (s : Bytes) (from end : ℕ) (l : LineEnd s from end) where
+  -- a line that isn't ended, or none
+  pub not-true-first : end ≡ length s → false ≡ isTrueFirst (linesFrom s from)
+  unfolding isTrueFirst isTrueLine same
+  not-true-first q = ⊎-elim (λ (z : linesFrom s from ≡ []). rw z) (λ (z : linesFrom s from ≡ [] ∷ []). rw z) (nothing-here s from end l q)
 
-pub no-lines : (cs : List Bytes) (n : ℕ) → placedFilters cs n [] ≡ record { many = 0; lines = [] }
-unfolding placedFilters
-no-lines cs zero = refl
-no-lines cs (suc n) = refl
+  pub first-low : (end ≡ length s → ⊥) → from ≤ end
+  first-low n = let h = l .high in l .ends (omega arith) .low
 
--- those placed so far in front of those that are left are the whole
-pub record Going (cs : List Bytes) (s : Bytes) (k from many : ℕ) (e : Em) (whole : Placed) (start : Em) : Type 0 where
-  pub count : many + placedFilters cs k (linesFrom s from) .many ≡ whole .many
-  pub lines : puts (textOf (placedFilters cs k (linesFrom s from) .lines)) e ≡ puts (textOf (whole .lines)) start
+  pub true-first : (end ≡ length s → ⊥) → (r : Bool) → r ≡ isTrueLine (split 9 (part from end s)) → r ≡ isTrueFirst (linesFrom s from)
+  unfolding isTrueFirst
+  true-first n r e = let i : end < length s = (let h = l .high in omega arith) in e ∙ ap isTrueFirst (sym (lines-next s from end (l .ends i) i))
 
--- how many were placed, and what was written of them
-pub record Done (whole : Placed) (start e : Em) (many : ℕ) : Type 0 where
-  pub count : many ≡ whole .many
-  pub lines : e ≡ puts (textOf (whole .lines)) start
-
-pub going-start : (cs : List Bytes) (s : Bytes) (k : ℕ) (e : Em) → Going cs s k 0 0 e (placedFilters cs k (linesFrom s 0)) e
-going-start cs s k e = record { count = omega arith; lines = refl }
-
-module _ (cs : List Bytes) (s : Bytes) (k from many : ℕ) (e : Em) (whole : Placed) (start : Em) (g : Going cs s k from many e whole start) where
-  -- none is left
-  nothing : placedFilters cs k (linesFrom s from) ≡ record { many = 0; lines = [] } → Done whole start e many
-  unfolding textOf
-  nothing z = record {
-    count = (let a = g .count in let b = ap (λ (x : Placed). x .many) z in omega arith);
-    lines = sym (puts-nil e) ∙ ap (λ (x : Placed). puts (textOf (x .lines)) e) (sym z) ∙ g .lines;
-  }
-
-  pub going-done : k ≤ 0 → Done whole start e many
-  unfolding placedFilters
-  going-done h = let z : k ≡ 0 = omega arith in nothing (ap (λ (n : ℕ). placedFilters cs n (linesFrom s from)) z)
-
-  pub going-end : length s ≤ from → Done whole start e many
-  going-end h = nothing (ap (placedFilters cs k) (lines-end s from h) ∙ no-lines cs k)
-
-  module _ (more : 0 < k) (end : ℕ) (l : LineEnd s from end) where
-    pub going-stop : end ≡ length s → Done whole start e many
-    unfolding placedFilters treeToExpression expressionLines partsBelow severalParts isTrueLine same
-    going-stop q = nothing (⊎-elim (λ (z : linesFrom s from ≡ []). none z) (λ (z : linesFrom s from ≡ [] ∷ []). open-line z) (nothing-here s from end l q))
-      where
-        none : linesFrom s from ≡ [] → placedFilters cs k (linesFrom s from) ≡ record { many = 0; lines = [] }
-        none z = ap (placedFilters cs k) z ∙ no-lines cs k
-
-        open-line : linesFrom s from ≡ [] ∷ [] → placedFilters cs k (linesFrom s from) ≡ record { many = 0; lines = [] }
-        open-line z = let j : k ≡ suc (k - 1) = omega arith in ap₂ (placedFilters cs) j z ∙ no-lines cs (k - 1)
-
-    module _ (more-lines : end ≡ length s → ⊥) where
-      inside : end < length s
-      inside = let h = l .high in omega arith
-
-      pub going-low : from ≤ end
-      going-low = l .ends inside .low
-
-      abbrev Tried : Walked
-      Tried = treeToExpression cs k (linesFrom s from)
-
-      abbrev Rest : Placed
-      Rest = placedFilters cs (k - 1) (Tried .left)
-
-      opened : placedFilters cs k (linesFrom s from) ≡ oneMore (not (isTrueLine (split 9 (part from end s))) && Tried .expressed) (Tried .lines) Rest
-      unfolding placedFilters
-      opened =
-          let j : k ≡ suc (k - 1) = omega arith in
-          let n = lines-next s from end (l .ends inside) inside in
-          ap₂ (placedFilters cs) j n
-          ∙ (λ i. oneMore (not (isTrueLine (split 9 (part from end s))) && treeToExpression cs (sym j i) (sym n i) .expressed) (treeToExpression cs (sym j i) (sym n i) .lines) (placedFilters cs (k - 1) (treeToExpression cs (sym j i) (sym n i) .left)))
-
-      -- the filter here is placed and so is each behind it, exactly if each from here on is
-      every-opened : allPlaced cs k (linesFrom s from) ≡ ((not (isTrueLine (split 9 (part from end s))) && Tried .expressed) && allPlaced cs (k - 1) (Tried .left))
-      unfolding allPlaced
-      every-opened =
-          let j : k ≡ suc (k - 1) = omega arith in
-          let n = lines-next s from end (l .ends inside) inside in
-          ap₂ (allPlaced cs) j n
-          ∙ (λ i. (not (isTrueLine (split 9 (part from end s))) && treeToExpression cs (sym j i) (sym n i) .expressed) && allPlaced cs (k - 1) (treeToExpression cs (sym j i) (sym n i) .left))
-
-      pub every-next : (a d t x b : Bool) (next : ℕ) (Q : Type 0) → t ≡ isTrueLine (split 9 (part from end s)) → x ≡ Tried .expressed → b ≡ (not t && x) → linesFrom s next ≡ Tried .left → d ≡ (a && b)
-          → (a ≡ true → allPlaced cs k (linesFrom s from) ≡ true → Q) → d ≡ true → allPlaced cs (k - 1) (linesFrom s next) ≡ true → Q
-      every-next a d t x b next Q p q r n e f h i =
-          let is : b ≡ (not (isTrueLine (split 9 (part from end s))) && Tried .expressed) = r ∙ ap₂ (λ (c d : Bool). not c && d) p q in
-          f (and-left a b (sym e ∙ h)) (every-opened ∙ ap₂ (λ (c d : Bool). c && d) (sym is ∙ and-right a b (sym e ∙ h)) (ap (allPlaced cs (k - 1)) (sym n) ∙ i))
-
-      pub going-next : (t x b : Bool) (next m : ℕ) (e′ : Em) → t ≡ isTrueLine (split 9 (part from end s)) → x ≡ Tried .expressed → b ≡ (not t && x) → linesFrom s next ≡ Tried .left
-          → e′ ≡ cond b (puts (textOf (Tried .lines)) e) e → m ≡ cond b (many + 1) many → Going cs s (k - 1) next m e′ whole start
-      going-next t x b next m e′ p q r n u v = go b refl
-        where
-          is : b ≡ (not (isTrueLine (split 9 (part from end s))) && Tried .expressed)
-          is = r ∙ ap₂ (λ (c d : Bool). not c && d) p q
-
-          at : placedFilters cs (k - 1) (linesFrom s next) ≡ Rest
-          at = ap (placedFilters cs (k - 1)) n
-
-          go : (c : Bool) → b ≡ c → Going cs s (k - 1) next m e′ whole start
-          go true y =
-              let o = opened ∙ ap (λ (d : Bool). oneMore d (Tried .lines) Rest) (sym is ∙ y) in
-              record {
-                count = (let a = g .count in let d = ap (λ (z : Placed). z .many) o in let f = ap (λ (z : Placed). z .many) at in let h = v ∙ ap (λ (d : Bool). cond d (many + 1) many) y in omega arith);
-                lines =
-                    ap₂ (λ (z : Placed) (w : Em). puts (textOf (z .lines)) w) at (u ∙ ap (λ (d : Bool). cond d (puts (textOf (Tried .lines)) e) e) y)
-                    ∙ sym (puts-append (textOf (Tried .lines)) (textOf (Rest .lines)) e)
-                    ∙ ap (λ (z : Bytes). puts z e) (sym (text-append (Tried .lines) (Rest .lines)))
-                    ∙ ap (λ (z : Placed). puts (textOf (z .lines)) e) (sym o)
-                    ∙ g .lines;
-              }
-          go false y =
-              let o = opened ∙ ap (λ (d : Bool). oneMore d (Tried .lines) Rest) (sym is ∙ y) in
-              record {
-                count = (let a = g .count in let d = ap (λ (z : Placed). z .many) o in let f = ap (λ (z : Placed). z .many) at in let h = v ∙ ap (λ (d : Bool). cond d (many + 1) many) y in omega arith);
-                lines = ap₂ (λ (z : Placed) (w : Em). puts (textOf (z .lines)) w) (at ∙ sym o) (u ∙ ap (λ (d : Bool). cond d (puts (textOf (Tried .lines)) e) e) y) ∙ g .lines;
-              }
-
--- there are no more than there are lines
-pub count-fits : (b : Bool) (n m k top : ℕ) → 0 < k → m ≡ cond b (n + 1) n → n + k ≤ top → m + (k - 1) ≤ top
-count-fits true n m k top h e i = omega arith
-count-fits false n m k top h e i = omega arith
+  -- a line starts here
+  pub some-line : (P : Type 0) → from < length s → ((m : Line) (ms : List Line) → linesFrom s from ≡ m ∷ ms → P) → P
+  some-line P h k = go (decLt end (length s))
+    where
+      go : Dec (end < length s) → P
+      go (yes i) = k _ _ (lines-next s from end (l .ends i) i)
+      go (no i) =
+          let t = l .high in
+          let q : end ≡ length s = omega arith in
+          k _ _ (lines-open s from end h (l .none q (let x : length s ≤ from → ⊥ = omega arith in x)) q)
 
 -- ---- nothing written
 
@@ -245,62 +123,193 @@ tried-is s w a k o r x =
     let e : o ≡ [] = ap (λ (y : Em). y .out) (x .lines) ∙ puts-out (textOf (w .lines)) (em a []) (omega arith) ∙ nothing-set (textOf (w .lines)) a in
     subst (λ (b : Bytes). Walks s w (em a []) (em k b) r) e x
 
-pub end-is : (b : Bool) (x : Bytes) (a k m : ℕ) → em k [] ≡ puts x (em a []) → m ≡ cond b k a → em m [] ≡ cond b (puts x (em a [])) (em a [])
-end-is true x a k m e h = ap (λ (n : ℕ). em n []) h ∙ e
-end-is false x a k m e h = ap (λ (n : ℕ). em n []) h
+-- ---- the lines at places
 
-pub measured : (cs : List Bytes) (s : Bytes) (n : ℕ) (r : Measured) → Done (placedFilters cs n (linesFrom s 0)) (em 0 []) (em (r .size) []) (r .many) → (r .all ≡ true → allPlaced cs n (linesFrom s 0) ≡ true) → r .many ≤ n → Measures cs s n r
-measured cs s n r p a f = record { many = p .count; size = p .lines; all = a; few = f }
+module _ (cs : List Bytes) (s : Bytes) where
+  -- what is made of the filter that starts here
+  abbrev Tried : ℕ → Walked
+  Tried a = treeToExpression cs (bounds .lines) (linesFrom s a)
 
--- ---- each is placed
+  pub one-more-place : (xs : List ℕ) (a : ℕ) → linesAt cs s (xs ++ (a ∷ [])) ≡ linesAt cs s xs ++ Tried a .lines
+  unfolding linesAt
+  one-more-place [] a = append-nil (Tried a .lines)
+  one-more-place (x ∷ xs) a = ap (λ (ls : List Line). Tried x .lines ++ ls) (one-more-place xs a) ∙ sym (append-assoc (Tried x .lines) (linesAt cs s xs) (Tried a .lines))
 
-module _ (cs : List Bytes) where
-  every-none : (n : ℕ) → allPlaced cs n [] ≡ true
-  unfolding allPlaced
-  every-none zero = refl
-  every-none (suc n) = refl
+  text-both : (a b : List Line) (e : Em) → puts (textOf b) (puts (textOf a) e) ≡ puts (textOf (a ++ b)) e
+  text-both a b e = sym (puts-append (textOf a) (textOf b) e) ∙ ap (λ (z : Bytes). puts z e) (sym (text-append a b))
 
-  pub every-end : (s : Bytes) (k from : ℕ) → length s ≤ from → allPlaced cs k (linesFrom s from) ≡ true
-  every-end s k from h = ap (allPlaced cs k) (lines-end s from h) ∙ every-none k
+  -- one place after the other
+  module _ (starts : List ℕ) (j : ℕ) (e whole : Em) (inv : puts (textOf (linesAt cs s (drop j starts))) e ≡ whole) where
+    pub places-next : j < length starts → (f : Em) (r : Went) → Walks s (Tried (getD starts j 0)) e f r → puts (textOf (linesAt cs s (drop (j + 1) starts))) f ≡ whole
+    unfolding linesAt
+    places-next h f r w =
+        let a = getD starts j 0 in
+        let bs = drop (suc j) starts in
+        ap₂ (λ (k : ℕ) (x : Em). puts (textOf (linesAt cs s (drop k starts))) x) (add-one j) (w .lines)
+        ∙ text-both (Tried a .lines) (linesAt cs s bs) e
+        ∙ ap (λ (xs : List ℕ). puts (textOf (linesAt cs s xs)) e) (sym (drop-cons starts j 0 h))
+        ∙ inv
 
-  pub every-done : (k : ℕ) (ls : List Line) → k ≤ 0 → allPlaced cs k ls ≡ true
-  unfolding allPlaced
-  every-done k ls h = let z : k ≡ 0 = omega arith in ap (λ (n : ℕ). allPlaced cs n ls) z
+    pub places-done : length starts ≤ j → e ≡ whole
+    unfolding linesAt textOf
+    places-done h = sym (puts-nil e) ∙ ap (λ (xs : List ℕ). puts (textOf (linesAt cs s xs)) e) (sym (drop-of-length-le starts h)) ∙ inv
 
-  abbrev Step : ℕ → ℕ → List Line → Type 0
-  Step k m ls = (placedFilters cs k ls .lines ≡ treeToExpression cs k ls .lines ++ placedFilters cs m (treeToExpression cs k ls .left) .lines) × (allPlaced cs m (treeToExpression cs k ls .left) ≡ true)
+-- ---- filter by filter
 
-  step : (n : ℕ) (ls : List Line) → allPlaced cs (suc n) ls ≡ true → Step (suc n) n ls
-  unfolding placedFilters treeToExpression allPlaced
-  step n [] h = (ap (λ (x : Placed). x .lines) (sym (no-lines cs n)), every-none n)
-  step n (l ∷ ls) h =
-      let T = treeToExpression cs (suc n) (l ∷ ls) in
-      let b = not (isTrueLine l) && T .expressed in
-      (ap (λ (d : Bool). oneMore d (T .lines) (placedFilters cs n (T .left)) .lines) (and-left b (allPlaced cs n (T .left)) h), and-right b (allPlaced cs n (T .left)) h)
+module _ (found : Bool) (cs : List Bytes) (s : Bytes) where
+  abbrev Whole : Placed
+  Whole = filtersFrom found cs s 0 (bounds .entries) 0
 
-  module _ (s : Bytes) (k from : ℕ) (e g : Em) (inv : puts (textOf (placedFilters cs k (linesFrom s from) .lines)) e ≡ g) where
-    all-put : placedFilters cs k (linesFrom s from) .lines ≡ [] → e ≡ g
-    unfolding textOf
-    all-put z = sym (puts-nil e) ∙ ap (λ (ls : List Line). puts (textOf ls) e) (sym z) ∙ inv
+  abbrev Rest : ℕ → ℕ → Placed
+  Rest i from = filtersFrom found cs s i (bounds .entries - i) from
 
-    pub every-put-end : length s ≤ from → e ≡ g
-    every-put-end h = all-put (ap (λ (x : Placed). x .lines) (ap (placedFilters cs k) (lines-end s from h) ∙ no-lines cs k))
+  -- i filters are behind, of which many are placed: with what is left they are the whole
+  pub record Going (i from many long : ℕ) (starts numbers : List ℕ) : Type 0 where
+    pub low : many ≤ i
+    pub high : i ≤ bounds .entries
+    pub starts-long : length starts ≡ bounds .entries
+    pub numbers-long : length numbers ≡ bounds .entries
+    pub count : many + Rest i from .many ≡ Whole .many
+    pub lines : linesAt cs s (take many starts) ++ Rest i from .lines ≡ Whole .lines
+    pub others : take (i - many) numbers ++ Rest i from .others ≡ Whole .others
+    pub size : em long [] ≡ puts (textOf (linesAt cs s (take many starts))) (em 0 [])
 
-    pub every-put-done : k ≤ 0 → e ≡ g
+  pub going-start : (starts numbers : List ℕ) → length starts ≡ bounds .entries → length numbers ≡ bounds .entries → Going 0 0 0 0 starts numbers
+  unfolding linesAt textOf
+  going-start starts numbers p q = record { low = omega arith; high = omega arith; starts-long = p; numbers-long = q; count = omega arith; lines = refl; others = refl; size = sym (puts-nil (em 0 [])) }
+
+  no-lines : (i k : ℕ) → placedFilters found cs (bounds .lines) i k [] ≡ noFilters
+  unfolding placedFilters
+  no-lines i zero = refl
+  no-lines i (suc k) = refl
+
+  open-at : (i k : ℕ) (l : Line) (ls ms : List Line) → ms ≡ l ∷ ls
+      → placedFilters found cs (bounds .lines) i (suc k) ms
+      ≡ oneMore (found && (not (isTrueFirst ms) && treeToExpression cs (bounds .lines) ms .expressed)) i (treeToExpression cs (bounds .lines) ms .lines) (placedFilters found cs (bounds .lines) (suc i) k (treeToExpression cs (bounds .lines) ms .left))
+  unfolding placedFilters isTrueFirst
+  open-at i k l ls ms e =
+      subst (λ (m : List Line). placedFilters found cs (bounds .lines) i (suc k) m
+      ≡ oneMore (found && (not (isTrueFirst m) && treeToExpression cs (bounds .lines) m .expressed)) i (treeToExpression cs (bounds .lines) m .lines) (placedFilters found cs (bounds .lines) (suc i) k (treeToExpression cs (bounds .lines) m .left))) (sym e) refl
+
+  module _ (i from many long : ℕ) (starts numbers : List ℕ) (g : Going i from many long starts numbers) where
+    -- none is left
+    nothing : Rest i from ≡ noFilters → Notes found cs s starts numbers (record { many = many; size = long; others = i - many })
+    nothing z =
+        let ls : linesAt cs s (take many starts) ≡ Whole .lines = sym (append-nil (linesAt cs s (take many starts))) ∙ ap (λ (x : Placed). linesAt cs s (take many starts) ++ x .lines) (sym z) ∙ g .lines in
+        record {
+          many = (let a = g .count in let b = ap (λ (x : Placed). x .many) z in omega arith);
+          size = g .size ∙ ap (λ (m : List Line). puts (textOf m) (em 0 [])) ls;
+          lines = ls;
+          others = sym (append-nil (take (i - many) numbers)) ∙ ap (λ (x : Placed). take (i - many) numbers ++ x .others) (sym z) ∙ g .others;
+          few = (let a = g .low in let b = g .high in omega arith);
+          rest = (let b = g .high in omega arith);
+          starts-long = g .starts-long;
+          numbers-long = g .numbers-long;
+        }
+
+    pub going-end : length s ≤ from → Notes found cs s starts numbers (record { many = many; size = long; others = i - many })
+    going-end h = nothing (ap (placedFilters found cs (bounds .lines) i (bounds .entries - i)) (lines-end s from h) ∙ no-lines i (bounds .entries - i))
+
+    pub going-done : bounds .entries ≤ i → Notes found cs s starts numbers (record { many = many; size = long; others = i - many })
     unfolding placedFilters
-    every-put-done h = let z : k ≡ 0 = omega arith in all-put (ap (λ (n : ℕ). placedFilters cs n (linesFrom s from) .lines) z)
+    going-done h = let z : bounds .entries - i ≡ 0 = omega arith in nothing (ap (λ (k : ℕ). filtersFrom found cs s i k from) z)
 
-    pub every-put-next : 0 < k → allPlaced cs k (linesFrom s from) ≡ true → (f : Em) (r : Went) → Walks s (treeToExpression cs k (linesFrom s from)) e f r
-        → (allPlaced cs (k - 1) (linesFrom s (r .from)) ≡ true) × (puts (textOf (placedFilters cs (k - 1) (linesFrom s (r .from)) .lines)) f ≡ g)
-    every-put-next h a f r w =
-        let j : k ≡ suc (k - 1) = omega arith in
-        let ls = linesFrom s from in
-        let T = treeToExpression cs k ls in
-        let t : Step k (k - 1) ls = subst (λ (n : ℕ). Step n (k - 1) ls) (sym j) (step (k - 1) ls (ap (λ (n : ℕ). allPlaced cs n ls) (sym j) ∙ a)) in (
-          ap (allPlaced cs (k - 1)) (w .left) ∙ t .1,
-          ap₂ (λ (m : List Line) (x : Em). puts (textOf (placedFilters cs (k - 1) m .lines)) x) (w .left) (w .lines)
-              ∙ sym (puts-append (textOf (T .lines)) (textOf (placedFilters cs (k - 1) (T .left) .lines)) e)
-              ∙ ap (λ (z : Bytes). puts z e) (sym (text-append (T .lines) (placedFilters cs (k - 1) (T .left) .lines)))
-              ∙ ap (λ (m : List Line). puts (textOf m) e) (sym (t .0))
-              ∙ inv,
-        )
+    module _ (more : i < bounds .entries) (here : from < length s) (end : ℕ) (l : LineEnd s from end) where
+      abbrev T : Walked
+      T = Tried cs s from
+
+      abbrev Behind : Placed
+      Behind = placedFilters found cs (bounds .lines) (suc i) (bounds .entries - (i + 1)) (T .left)
+
+      opened : Rest i from ≡ oneMore (found && (not (isTrueFirst (linesFrom s from)) && T .expressed)) i (T .lines) Behind
+      opened = some-line s from end l _ here λ m ms e.
+          let j : bounds .entries - i ≡ suc (bounds .entries - (i + 1)) = omega arith in
+          ap (λ (k : ℕ). filtersFrom found cs s i k from) j ∙ open-at i (bounds .entries - (i + 1)) m ms (linesFrom s from) e
+
+      module _ (r : Went) (w : Walks s T (em long []) (em (r .at) []) r) where
+        behind : Rest (i + 1) (r .from) ≡ Behind
+        behind = ap₂ (λ (n : ℕ) (ls : List Line). placedFilters found cs (bounds .lines) n (bounds .entries - (i + 1)) ls) (add-one i) (w .left)
+
+        -- it is placed
+        taken : Rest i from ≡ oneMore true i (T .lines) Behind → Going (i + 1) (r .from) (many + 1) (r .at) (set starts many from) (set numbers (i - many) i)
+        taken o =
+            let low = g .low in
+            let a = g .starts-long in
+            let at : take (many + 1) (set starts many from) ≡ take many starts ++ (from ∷ []) = ap (λ (k : ℕ). take k (set starts many from)) (add-one many) ∙ take-suc-set starts many from (omega arith) in
+            let A = linesAt cs s (take many starts) in
+            let ls : linesAt cs s (take (many + 1) (set starts many from)) ≡ A ++ T .lines = ap (linesAt cs s) at ∙ one-more-place cs s (take many starts) from in
+            record {
+              low = omega arith;
+              high = omega arith;
+              starts-long = length-set starts many from ∙ g .starts-long;
+              numbers-long = length-set numbers (i - many) i ∙ g .numbers-long;
+              count = (let c = g .count in let x = ap (λ (z : Placed). z .many) o in let y = ap (λ (z : Placed). z .many) behind in omega arith);
+              lines = ap₂ (λ (m : List Line) (z : Placed). m ++ z .lines) ls behind ∙ append-assoc A (T .lines) (Behind .lines) ∙ ap (λ (z : Placed). A ++ z .lines) (sym o) ∙ g .lines;
+              others =
+                  ap₂ (λ (k : ℕ) (z : Placed). take k (set numbers (i - many) i) ++ z .others) (let q : i + 1 - (many + 1) ≡ i - many = omega arith in q) behind
+                  ∙ ap (λ (ns : List ℕ). ns ++ Behind .others) (take-set-le (i - many) numbers (i - many) i (omega arith))
+                  ∙ ap (λ (z : Placed). take (i - many) numbers ++ z .others) (sym o)
+                  ∙ g .others;
+              size = w .lines ∙ ap (puts (textOf (T .lines))) (g .size) ∙ text-both cs s A (T .lines) (em 0 []) ∙ ap (λ (m : List Line). puts (textOf m) (em 0 [])) (sym ls);
+            }
+
+        -- it isn't
+        listed : Rest i from ≡ oneMore false i (T .lines) Behind → Going (i + 1) (r .from) many long (set starts many from) (set numbers (i - many) i)
+        listed o =
+            let low = g .low in
+            let a = g .numbers-long in
+            let at : take many (set starts many from) ≡ take many starts = take-set-le many starts many from (omega arith) in
+            let N = take (i - many) numbers in
+            record {
+              low = omega arith;
+              high = omega arith;
+              starts-long = length-set starts many from ∙ g .starts-long;
+              numbers-long = length-set numbers (i - many) i ∙ g .numbers-long;
+              count = (let c = g .count in let x = ap (λ (z : Placed). z .many) o in let y = ap (λ (z : Placed). z .many) behind in omega arith);
+              lines = ap₂ (λ (ks : List ℕ) (z : Placed). linesAt cs s ks ++ z .lines) at (behind) ∙ ap (λ (z : Placed). linesAt cs s (take many starts) ++ z .lines) (sym o) ∙ g .lines;
+              others =
+                  ap₂ (λ (k : ℕ) (z : Placed). take k (set numbers (i - many) i) ++ z .others) (let q : i + 1 - many ≡ suc (i - many) = omega arith in q) behind
+                  ∙ ap (λ (ns : List ℕ). ns ++ Behind .others) (take-suc-set numbers (i - many) i (omega arith))
+                  ∙ append-assoc N (i ∷ []) (Behind .others)
+                  ∙ ap (λ (z : Placed). N ++ z .others) (sym o)
+                  ∙ g .others;
+              size = g .size ∙ ap (λ (ks : List ℕ). puts (textOf (linesAt cs s ks)) (em 0 [])) (sym at);
+            }
+
+        pub going-next : (t b c : Bool) → t ≡ isTrueFirst (linesFrom s from) → b ≡ (not t && r .expressed) → c ≡ (found && b) → (size many′ : ℕ) → size ≡ cond c (r .at) long → many′ ≡ cond c (many + 1) many
+            → Going (i + 1) (r .from) many′ size (set starts many from) (set numbers (i - many) i)
+        going-next t b c p q u size many′ x y = go c refl
+          where
+            is : c ≡ (found && (not (isTrueFirst (linesFrom s from)) && T .expressed))
+            is = u ∙ ap (λ (d : Bool). found && d) (q ∙ ap₂ (λ (d e : Bool). not d && e) p (w .expressed))
+
+            go : (d : Bool) → c ≡ d → Going (i + 1) (r .from) many′ size (set starts many from) (set numbers (i - many) i)
+            go true z =
+                subst (λ (k : ℕ). Going (i + 1) (r .from) k size (set starts many from) (set numbers (i - many) i)) (sym (y ∙ ap (λ (d : Bool). cond d (many + 1) many) z))
+                (subst (λ (k : ℕ). Going (i + 1) (r .from) (many + 1) k (set starts many from) (set numbers (i - many) i)) (sym (x ∙ ap (λ (d : Bool). cond d (r .at) long) z))
+                (taken (opened ∙ ap (λ (d : Bool). oneMore d i (T .lines) Behind) (sym is ∙ z))))
+            go false z =
+                subst (λ (k : ℕ). Going (i + 1) (r .from) k size (set starts many from) (set numbers (i - many) i)) (sym (y ∙ ap (λ (d : Bool). cond d (many + 1) many) z))
+                (subst (λ (k : ℕ). Going (i + 1) (r .from) many k (set starts many from) (set numbers (i - many) i)) (sym (x ∙ ap (λ (d : Bool). cond d (r .at) long) z))
+                (listed (opened ∙ ap (λ (d : Bool). oneMore d i (T .lines) Behind) (sym is ∙ z))))
+
+-- ---- the list
+
+-- those behind j over the rest of a list
+module _ (numbers list : List ℕ) (j : ℕ) where
+  pub numbers-next : j < length numbers → sets (set list j (getD numbers j 0)) (j + 1) (drop (j + 1) numbers) ≡ sets list j (drop j numbers)
+  numbers-next h = ap (λ (k : ℕ). sets (set list j (getD numbers j 0)) k (drop k numbers)) (add-one j) ∙ ap (sets list j) (sym (drop-cons numbers j 0 h))
+
+  pub numbers-done : length numbers ≤ j → sets list j (drop j numbers) ≡ list
+  numbers-done h = ap (sets list j) (drop-of-length-le numbers h)
+
+pub numbers-put : (numbers list : List ℕ) → length numbers ≤ length list → sets list 0 numbers ≡ numbers ++ drop (length numbers) list
+numbers-put numbers list h = sets-eq numbers list 0 (omega arith) ∙ ap (λ (k : ℕ). numbers ++ drop k list) (zero-add (length numbers))
+
+-- as many places and numbers as were noted
+module _ (found : Bool) (cs : List Bytes) (s : Bytes) (starts numbers : List ℕ) (j : Noted) (k : Notes found cs s starts numbers j) where
+  pub starts-many : length (take (j .many) starts) ≡ j .many
+  starts-many = let a = k .few in let b = k .starts-long in length-take-le (j .many) starts (omega arith)
+
+  pub numbers-many : length (take (j .others) numbers) ≡ j .others
+  numbers-many = let a = k .rest in let b = k .numbers-long in length-take-le (j .others) numbers (omega arith)

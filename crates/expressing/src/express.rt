@@ -24,7 +24,7 @@ pub struct Walked {
 }
 
 // The line that starts here; where none does, one that ends with the text.
-fn line_from(filters: &[u8], from: usize) -> Cursor
+pub fn line_from(filters: &[u8], from: usize) -> Cursor
     ensures { λ r. ⌜ LineEnd (now (filters .entry)) from (r .end) ⌝ }
 {
     let c = Cursor::new(0);

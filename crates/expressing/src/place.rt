@@ -1,35 +1,38 @@
-// The filters that are placed: how many, and their expressions' lines one after the other.
+// The filters one after the other: noted in one pass, then those that are placed are written by these notes, and the numbers of the others.
 use crate::express::Walked;
+use crate::express::line_from;
 use crate::express::tree_to_expression;
-use cursor::Cursor;
+use algebra::ENTRIES;
+use algebra::PerEntry;
 use names::Columns;
 use operators::line::is_constant_true;
 use placing::steps::both;
 use words::table::WordRow;
 ghost use mathlib.Core.Path.{_≡_};
 ghost use Prim.Native.Nat.{_+_, _≤_, _<_};
-ghost use mathlib.Core.Bool.{cond, true};
-ghost use mathlib.Core.List.{[]};
-ghost use lib.ListN.{length};
+ghost use mathlib.Core.Bool.{cond};
+ghost use mathlib.Core.List.{[], _++_};
+ghost use lib.ListN.{length, drop};
 ghost use Rattle.text.specs.Text.{textOf, linesFrom};
 ghost use Rattle.algebra.specs.Tally.{bounds};
+ghost use Rattle.reader.specs.bridge.Lines.{LineEnd};
 ghost use Rattle.words.specs.bridge.Words.{Worded};
 ghost use Rattle.emit.specs.bridge.Emit.{em, puts};
 ghost use Rattle.names.specs.bridge.Names.{namesIn};
-ghost use Rattle.filtering.specs.bridge.FilterLines.{treeToExpression, placedFilters};
-ghost use Rattle.expressing.specs.bridge.Walks.{Walks, allPlaced, Measures};
+ghost use Rattle.filtering.specs.bridge.FilterLines.{treeToExpression};
+ghost use Rattle.expressing.specs.bridge.Walks.{Walks, isTrueFirst, linesAt, Notes};
 
-// How many lines a text has.
-pub fn lines_in(text: &[u8]) -> usize
-    ensures { λ r. ⌜ r ≡ length (linesFrom (now (text .entry)) 0) ⌝ }
-{
-    let mut lines = 0;
-    let mut c = Cursor::new(0);
-    while c.at < text.len() {
-        c = c.next_line(text).line_done();
-        lines += 1;
-    }
-    lines
+// No text has more lines than `bounds` says.
+const LINES: usize = 2048;
+
+// Where filters start that are placed.
+pub type Starts = [usize; ENTRIES];
+
+// How many filters are placed, how long their expressions' lines are, and how many filters are not placed.
+pub struct Noted {
+    pub many: usize,
+    pub size: usize,
+    pub others: usize,
 }
 
 // A filter, and nothing written.
@@ -40,37 +43,24 @@ fn try_filter(
     filters: &[u8],
     words: &[WordRow; 56],
     from: usize,
-    left: usize,
     at: usize,
 ) -> Walked
     requires { ⌜ (n ≤ bounds .columns) × Worded (now words) ⌝ }
-    ensures { λ r. ⌜ Walks (now (filters .entry)) (treeToExpression (namesIn (now (tree .entry)) (now (columns .entry)) n) left (linesFrom (now (filters .entry)) from)) (em at []) (em (r .at) []) r ⌝ }
+    ensures { λ r. ⌜ Walks (now (filters .entry)) (treeToExpression (namesIn (now (tree .entry)) (now (columns .entry)) n) (bounds .lines) (linesFrom (now (filters .entry)) from)) (em at []) (em (r .at) []) r ⌝ }
 {
     let mut none = [0u8; 0];
-    tree_to_expression(tree, columns, n, filters, words, from, left, &mut none, at)
+    tree_to_expression(tree, columns, n, filters, words, from, LINES, &mut none, at)
 }
 
-// The expression of a filter that is placed.
-fn put_placed(
-    placed: bool,
-    tree: &[u8],
-    columns: &Columns,
-    n: usize,
-    filters: &[u8],
-    words: &[WordRow; 56],
-    from: usize,
-    left: usize,
-    out: &mut [u8],
-    at: usize,
-) -> usize
-    requires { ⌜ (n ≤ bounds .columns) × Worded (now words) ⌝ }
-    ensures { λ r. ⌜ em r (now (out .exit)) ≡ cond placed (puts (textOf (treeToExpression (namesIn (now (tree .entry)) (now (columns .entry)) n) left (linesFrom (now (filters .entry)) from) .lines)) (em at (now (out .entry)))) (em at (now (out .entry))) ⌝ }
+// The filter whose first line goes from here to its end is always true.
+fn is_true_first(filters: &[u8], from: usize, end: usize) -> bool
+    requires { ⌜ LineEnd (now filters) from end ⌝ }
+    ensures { λ r. ⌜ r ≡ isTrueFirst (linesFrom (now (filters .entry)) from) ⌝ }
 {
-    if !placed {
-        return at;
+    if end == filters.len() {
+        return false;
     }
-    let w = tree_to_expression(tree, columns, n, filters, words, from, left, out, at);
-    w.at
+    is_constant_true(filters, from, end)
 }
 
 fn one_more(many: usize, placed: bool) -> usize
@@ -83,58 +73,6 @@ fn one_more(many: usize, placed: bool) -> usize
     many
 }
 
-// All filters, one after the other; so many lines are left.
-fn put_filters(
-    tree: &[u8],
-    columns: &Columns,
-    n: usize,
-    filters: &[u8],
-    words: &[WordRow; 56],
-    lines: usize,
-    out: &mut [u8],
-    at: usize,
-) -> usize
-    requires { ⌜ (n ≤ bounds .columns) × Worded (now words) ⌝ }
-    ensures { λ r. ⌜ em r (now (out .exit)) ≡ puts (textOf (placedFilters (namesIn (now (tree .entry)) (now (columns .entry)) n) lines (linesFrom (now (filters .entry)) 0) .lines)) (em at (now (out .entry))) ⌝ }
-{
-    let mut to = at;
-    let mut c = Cursor::new(0);
-    let mut left = lines;
-    while 0 < left {
-        if filters.len() <= c.at {
-            return to;
-        }
-        let line = c.next_line(filters);
-        if line.end == filters.len() {
-            return to;
-        }
-        let tried = try_filter(tree, columns, n, filters, words, c.at, left, 0);
-        let placed = both(!is_constant_true(filters, c.at, line.end), tried.expressed);
-        to = put_placed(
-            placed,
-            tree,
-            columns,
-            n,
-            filters,
-            words,
-            c.at,
-            left,
-            out,
-            to,
-        );
-        c = line.moved_to(tried.from);
-        left -= 1;
-    }
-    to
-}
-
-// How many filters are placed, how long their expressions' lines are, and whether that is all filters.
-pub struct Measured {
-    pub many: usize,
-    pub size: usize,
-    pub all: bool,
-}
-
 fn placed_end(placed: bool, end: usize, at: usize) -> usize
     ensures { λ r. ⌜ r ≡ cond placed end at ⌝ }
 {
@@ -144,92 +82,83 @@ fn placed_end(placed: bool, end: usize, at: usize) -> usize
     at
 }
 
-// All filters, and nothing written; so many lines are left.
-pub fn measure_filters(
+// Each filter once: its start is noted, and kept if it is placed; its number is noted, and kept if it isn't. None is placed unless a projection was found.
+pub fn note_filters(
+    found: bool,
     tree: &[u8],
     columns: &Columns,
     n: usize,
     filters: &[u8],
     words: &[WordRow; 56],
-    lines: usize,
-) -> Measured
-    requires { ⌜ (n ≤ bounds .columns) × Worded (now words) ⌝ }
-    ensures { λ r. ⌜ Measures (namesIn (now (tree .entry)) (now (columns .entry)) n) (now (filters .entry)) lines r ⌝ }
+    starts: &mut Starts,
+    numbers: &mut PerEntry,
+) -> Noted
+    requires { ⌜ (n ≤ bounds .columns) × Worded (now words) × (length (now starts) ≡ bounds .entries) × (length (now numbers) ≡ bounds .entries) ⌝ }
+    ensures { λ r. ⌜ Notes found (namesIn (now (tree .entry)) (now (columns .entry)) n) (now (filters .entry)) (now (starts .exit)) (now (numbers .exit)) r ⌝ }
 {
     let mut many = 0;
     let mut size = 0;
-    let mut all = true;
-    let mut c = Cursor::new(0);
-    let mut left = lines;
-    while 0 < left {
-        if filters.len() <= c.at {
-            return Measured { many, size, all };
-        }
-        let line = c.next_line(filters);
-        if line.end == filters.len() {
-            return Measured {
+    let mut from = 0;
+    let mut i = 0;
+    while i < ENTRIES {
+        if filters.len() <= from {
+            return Noted {
                 many,
                 size,
-                all: false,
+                others: i - many,
             };
         }
-        let tried = try_filter(tree, columns, n, filters, words, c.at, left, size);
-        let placed = both(!is_constant_true(filters, c.at, line.end), tried.expressed);
+        let line = line_from(filters, from);
+        let tried = try_filter(tree, columns, n, filters, words, from, size);
+        let taken = both(!is_true_first(filters, from, line.end), tried.expressed);
+        let placed = both(found, taken);
+        starts[many] = from;
+        numbers[i - many] = i as u16;
         size = placed_end(placed, tried.at, size);
         many = one_more(many, placed);
-        all = both(all, placed);
-        c = line.moved_to(tried.from);
-        left -= 1;
+        from = tried.from;
+        i += 1;
     }
-    Measured { many, size, all }
+    Noted {
+        many,
+        size,
+        others: i - many,
+    }
 }
 
-// The expressions of all filters, each of which is placed; so many lines are left.
-fn put_every(
+// The expressions of the filters that start at these places.
+pub fn put_expressions(
     tree: &[u8],
     columns: &Columns,
     n: usize,
     filters: &[u8],
     words: &[WordRow; 56],
-    lines: usize,
+    starts: &[usize],
     out: &mut [u8],
     at: usize,
 ) -> usize
-    requires { ⌜ (n ≤ bounds .columns) × (allPlaced (namesIn (now tree) (now columns) n) lines (linesFrom (now filters) 0) ≡ true) × Worded (now words) ⌝ }
-    ensures { λ r. ⌜ em r (now (out .exit)) ≡ puts (textOf (placedFilters (namesIn (now (tree .entry)) (now (columns .entry)) n) lines (linesFrom (now (filters .entry)) 0) .lines)) (em at (now (out .entry))) ⌝ }
+    requires { ⌜ (n ≤ bounds .columns) × Worded (now words) ⌝ }
+    ensures { λ r. ⌜ em r (now (out .exit)) ≡ puts (textOf (linesAt (namesIn (now (tree .entry)) (now (columns .entry)) n) (now (filters .entry)) (now (starts .entry)))) (em at (now (out .entry))) ⌝ }
 {
     let mut to = at;
-    let mut from = 0;
-    let mut left = lines;
-    while 0 < left {
-        if filters.len() <= from {
-            return to;
-        }
-        let walked = tree_to_expression(tree, columns, n, filters, words, from, left, out, to);
+    let mut j = 0;
+    while j < starts.len() {
+        let from = starts[j];
+        let walked = tree_to_expression(tree, columns, n, filters, words, from, LINES, out, to);
         to = walked.at;
-        from = walked.from;
-        left -= 1;
+        j += 1;
     }
     to
 }
 
-// The expressions of the filters that are placed; where all are, none is tried first.
-pub fn put_expressions(
-    all: bool,
-    tree: &[u8],
-    columns: &Columns,
-    n: usize,
-    filters: &[u8],
-    words: &[WordRow; 56],
-    lines: usize,
-    out: &mut [u8],
-    at: usize,
-) -> usize
-    requires { ⌜ (n ≤ bounds .columns) × (all ≡ true → allPlaced (namesIn (now tree) (now columns) n) lines (linesFrom (now filters) 0) ≡ true) × Worded (now words) ⌝ }
-    ensures { λ r. ⌜ em r (now (out .exit)) ≡ puts (textOf (placedFilters (namesIn (now (tree .entry)) (now (columns .entry)) n) lines (linesFrom (now (filters .entry)) 0) .lines)) (em at (now (out .entry))) ⌝ }
+// The numbers of the filters that are not placed, from the list's start on.
+pub fn put_numbers(numbers: &[u16], list: &mut [u16])
+    requires { ⌜ length (now numbers) ≤ length (now list) ⌝ }
+    ensures { λ _. ⌜ now (list .exit) ≡ now (numbers .entry) ++ drop (length (now (numbers .entry))) (now (list .entry)) ⌝ }
 {
-    if all {
-        return put_every(tree, columns, n, filters, words, lines, out, at);
+    let mut j = 0;
+    while j < numbers.len() {
+        list[j] = numbers[j];
+        j += 1;
     }
-    put_filters(tree, columns, n, filters, words, lines, out, at)
 }

@@ -12,3 +12,4 @@ pub mod Refused
 pub mod Copying
 pub mod Read
 pub mod Given
+pub mod NotPlaced

@@ -16,6 +16,7 @@ use Rattle.algebra.specs.Valid.{ValidFilters}
 use Rattle.algebra.specs.Layout.{putArity, put, putE, putValues, putFilter, putFilters}
 use Rattle.filtering.specs.Functions.{tryExpressionFromTree, isConstantTrue}
 use Rattle.filtering.specs.Filters.{placedExpression, andThose, expressions, both, conjunction, filtered}
+use Rattle.filtering.specs.NotPlaced.{numbersFailing}
 use Rattle.filtering.specs.bridge.SetLines.{repeated}
 use Rattle.filtering.specs.bridge.FilterLines.{isTrueLine, Walked, treeToExpression, Placed, oneMore, placedFilters}
 use Rattle.filtering.proofs.FilterLines.{Made, filter-made, filter-long}
@@ -64,46 +65,70 @@ placed-given cs f = go (isConstantTrue f)
     go true = refl
     go false = refl
 
--- what is placed of a list of filters
-pub record PlacedAs (x : Placed) (es : List Expression) : Type 0 where
+-- the expression of a filter, where a projection was found
+abbrev pub foundExpression : Bool → List Bytes → Filter → Option Expression
+foundExpression found cs f = cond found (placedExpression cs f) none
+
+unfoldable pub foundExpressions : Bool → List Bytes → List Filter → List Expression
+unfolding placedExpression
+foundExpressions found cs [] = []
+foundExpressions found cs (f ∷ fs) = andThose (foundExpression found cs f) (foundExpressions found cs fs)
+
+pub found-all : (cs : List Bytes) (fs : List Filter) → foundExpressions true cs fs ≡ expressions cs fs
+unfolding foundExpressions expressions
+found-all cs [] = refl
+found-all cs (f ∷ fs) = ap (andThose (placedExpression cs f)) (found-all cs fs)
+
+-- what is placed of a list of filters, and the numbers of the others
+pub record PlacedAs (x : Placed) (es : List Expression) (ks : List ℕ) : Type 0 where
   pub many : x .many ≡ length es
   pub lines : (u : List Line) → x .lines ++ u ≡ putExpressions es u
+  pub others : x .others ≡ ks
 
-module _ (cs : List Bytes) where
-  one-placed : (b : Bool) (o : Option Expression) (w : Walked) (s : List Line) (x : Placed) (es : List Expression) → Made w o s → PlacedAs x es
-      → PlacedAs (oneMore (not b && w .expressed) (w .lines) x) (andThose (cond b none o) es)
+module _ (found : Bool) (cs : List Bytes) (n : ℕ) where
+  one-placed : (b : Bool) (o : Option Expression) (w : Walked) (s : List Line) (i : ℕ) (x : Placed) (es : List Expression) (ks : List ℕ) → Made w o s → PlacedAs x es ks
+      → PlacedAs (oneMore (found && (not b && w .expressed)) i (w .lines) x) (andThose (cond found (cond b none o) none) es) (cond (given (cond found (cond b none o) none)) ks (i ∷ ks))
   unfolding putExpressions
-  one-placed true o w s x es m p = p
-  one-placed false none w s x es m p = subst (λ (c : Bool). PlacedAs (oneMore c (w .lines) x) es) (sym (m .expressed)) p
-  one-placed false (some e) w s x es m p = subst (λ (c : Bool). PlacedAs (oneMore c (w .lines) x) (e ∷ es)) (sym (m .expressed)) (record {
-    many = ap suc (p .many);
-    lines = λ u. append-assoc (w .lines) (x .lines) u ∙ ap (λ (l : List Line). w .lines ++ l) (p .lines u) ∙ m .lines e refl (putExpressions es u);
-  })
+  one-placed b o w s i x es ks m p = go found b o m
+    where
+      other : PlacedAs (oneMore false i (w .lines) x) es (i ∷ ks)
+      other = record { many = p .many; lines = p .lines; others = ap (λ (ns : List ℕ). i ∷ ns) (p .others) }
 
-  nothing-placed : (n : ℕ) → PlacedAs (placedFilters cs n []) []
+      go : (a c : Bool) (q : Option Expression) → Made w q s → PlacedAs (oneMore (a && (not c && w .expressed)) i (w .lines) x) (andThose (cond a (cond c none q) none) es) (cond (given (cond a (cond c none q) none)) ks (i ∷ ks))
+      go false c q k = other
+      go true true q k = other
+      go true false none k = subst (λ (d : Bool). PlacedAs (oneMore d i (w .lines) x) es (i ∷ ks)) (sym (k .expressed)) other
+      go true false (some e) k = subst (λ (d : Bool). PlacedAs (oneMore d i (w .lines) x) (e ∷ es) ks) (sym (k .expressed)) (record {
+        many = ap suc (p .many);
+        lines = λ u. append-assoc (w .lines) (x .lines) u ∙ ap (λ (l : List Line). w .lines ++ l) (p .lines u) ∙ k .lines e refl (putExpressions es u);
+        others = p .others;
+      })
+
+  nothing-placed : (i k : ℕ) → PlacedAs (placedFilters found cs n i k []) [] []
   unfolding placedFilters putExpressions
-  nothing-placed zero = record { many = refl; lines = λ u. refl }
-  nothing-placed (suc n) = record { many = refl; lines = λ u. refl }
+  nothing-placed i zero = record { many = refl; lines = λ u. refl; others = refl }
+  nothing-placed i (suc k) = record { many = refl; lines = λ u. refl; others = refl }
 
-  open-filters : (n : ℕ) (f : Filter) (t : List Line)
-      → placedFilters cs (suc n) (putFilter f t)
-      ≡ oneMore (not (isTrueLine (first-line (putFilter f t))) && treeToExpression cs (suc n) (putFilter f t) .expressed) (treeToExpression cs (suc n) (putFilter f t) .lines) (placedFilters cs n (treeToExpression cs (suc n) (putFilter f t) .left))
+  open-filters : (i k : ℕ) (f : Filter) (t : List Line)
+      → placedFilters found cs n i (suc k) (putFilter f t)
+      ≡ oneMore (found && (not (isTrueLine (first-line (putFilter f t))) && treeToExpression cs n (putFilter f t) .expressed)) i (treeToExpression cs n (putFilter f t) .lines) (placedFilters found cs n (suc i) k (treeToExpression cs n (putFilter f t) .left))
   unfolding placedFilters putFilter first-line
-  open-filters n (leaf v) t = refl
-  open-filters n (ref k) t = refl
-  open-filters n (function w m fs) t = refl
+  open-filters i k (leaf v) t = refl
+  open-filters i k (ref m) t = refl
+  open-filters i k (function w m fs) t = refl
 
-  -- with as many lines left as there are, or more
-  pub filters-placed : (fs : List Filter) (n : ℕ) → ValidFilters fs → length (putFilters fs []) ≤ n → PlacedAs (placedFilters cs n (putFilters fs [])) (expressions cs fs)
-  unfolding putFilters ValidFilters expressions placedExpression
-  filters-placed [] n w h = nothing-placed n
-  filters-placed (f ∷ fs) n w h = deeper (length (putFilters fs [])) n (omega (arith, filter-long f (putFilters fs []))) (λ (d : ℕ). length (putFilter f (putFilters fs [])) ≤ d → PlacedAs (placedFilters cs d (putFilter f (putFilters fs []))) (expressions cs (f ∷ fs)))
-      (λ k i j.
+  -- for as many filters as there are, or more, of as many lines as there are, or more
+  pub filters-placed : (i k : ℕ) (fs : List Filter) → ValidFilters fs → length (putFilters fs []) ≤ n → length fs ≤ k
+      → PlacedAs (placedFilters found cs n i k (putFilters fs [])) (foundExpressions found cs fs) (numbersFailing (λ f. given (foundExpression found cs f)) i fs)
+  unfolding putFilters ValidFilters foundExpressions placedExpression numbersFailing
+  filters-placed i k [] w h l = nothing-placed i k
+  filters-placed i k (f ∷ fs) w h l = deeper (length fs) k l (λ (d : ℕ). PlacedAs (placedFilters found cs n i d (putFilters (f ∷ fs) [])) (foundExpressions found cs (f ∷ fs)) (numbersFailing (λ g. given (foundExpression found cs g)) i (f ∷ fs)))
+      (λ d j.
       let t = putFilters fs [] in
-      let m = filter-made cs f t (suc k) (w .0) j in
-      let r = filters-placed fs k (w .1) i in
-      subst (λ (x : Placed). PlacedAs x (expressions cs (f ∷ fs))) (sym (open-filters k f t))
-      (subst (λ (b : Bool). PlacedAs (oneMore (not b && treeToExpression cs (suc k) (putFilter f t) .expressed) (treeToExpression cs (suc k) (putFilter f t) .lines) (placedFilters cs k (treeToExpression cs (suc k) (putFilter f t) .left))) (expressions cs (f ∷ fs))) (sym (true-line f t))
-      (one-placed (isConstantTrue f) (tryExpressionFromTree cs f) (treeToExpression cs (suc k) (putFilter f t)) t _ (expressions cs fs) m
-      (subst (λ (l : List Line). PlacedAs (placedFilters cs k l) (expressions cs fs)) (sym (m .left)) r))))
-      h
+      let T = treeToExpression cs n (putFilter f t) in
+      let m = filter-made cs f t n (w .0) h in
+      let r = filters-placed (suc i) d fs (w .1) (omega (arith, filter-long f t, h)) j in
+      subst (λ (x : Placed). PlacedAs x (foundExpressions found cs (f ∷ fs)) (numbersFailing (λ g. given (foundExpression found cs g)) i (f ∷ fs))) (sym (open-filters i d f t))
+      (subst (λ (b : Bool). PlacedAs (oneMore (found && (not b && T .expressed)) i (T .lines) (placedFilters found cs n (suc i) d (T .left))) (foundExpressions found cs (f ∷ fs)) (numbersFailing (λ g. given (foundExpression found cs g)) i (f ∷ fs))) (sym (true-line f t))
+      (one-placed (isConstantTrue f) (tryExpressionFromTree cs f) T t i _ (foundExpressions found cs fs) _ m
+      (subst (λ (ls : List Line). PlacedAs (placedFilters found cs n (suc i) d ls) (foundExpressions found cs fs) (numbersFailing (λ g. given (foundExpression found cs g)) (suc i) fs)) (sym (m .left)) r))))

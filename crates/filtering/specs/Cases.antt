@@ -1,4 +1,4 @@
--- Worked cases of the calls bindings and filters: a table of calls and their outcomes. Assumes nothing.
+-- Worked cases of the calls bindings and filters: a table of calls and their outcomes, and one of filters that were not placed. Assumes nothing.
 use mathlib.Core.List.{List, [], _∷_}
 use Prim.Native.Nat.{ℕ}
 use Prim.Native.String.{String}
@@ -6,6 +6,7 @@ use Rattle.text.specs.Word.{bytes}
 use Rattle.answers.specs.Outcome.{Outcome, refused, written}
 use Rattle.filtering.specs.Bindings.{bindingsOutcome}
 use Rattle.filtering.specs.Filters.{filtersOutcome}
+use Rattle.filtering.specs.NotPlaced.{filtersNotPlaced}
 
 -- a call with its texts
 pub data Call : Type 0 where
@@ -92,4 +93,35 @@ cases =
     ∷ gives (filters "" "leaf\tBoolean\tfalse\t<x>\n") "project\nfilter\nbgp\t0\nterm\t\"false\"^^<x>\n"
     ∷ refuses (filters "" "ref\t0\n") 3
     ∷ refuses (filters "\n" "") 1
+    ∷ []
+
+-- a tree, filters, and the numbers of those that were not placed
+pub record Listed : Type 0 where
+  pub tree : String
+  pub filters : String
+  pub numbers : List ℕ
+
+abbrev pub lists : String → String → List ℕ → Listed
+lists t f ks = record { tree = t; filters = f; numbers = ks }
+
+unfoldable pub listOf : Listed → List ℕ
+unfolding filtersNotPlaced
+listOf c = filtersNotPlaced (bytes (c .tree)) (bytes (c .filters))
+
+abbrev pub listedCases : List Listed
+listedCases =
+    -- all placed: none
+    lists "project\t?a\t?b\nbgp\t0\n" "ref\t0\nbin\tEquals\nref\t1\nleaf\tIri\tk\t-\n" []
+    -- no filter: none
+    ∷ lists "project\t?a\t?b\nbgp\t0\n" "" []
+    -- a function that is not expressed, also as a part; numbers count filters and not lines
+    ∷ lists "project\t?a\t?b\nbgp\t0\n" "bin\tEquals\nref\t0\nun\tStringLength\nref\t1\nref\t1\ntern\tx\nref\t0\nref\t0\nref\t0\n" (0 ∷ 2 ∷ [])
+    -- always true, Other, Null; one that is false is placed
+    ∷ lists "project\t?a\t?b\nbgp\t0\n" "leaf\tBoolean\ttrue\t<x>\nleaf\tBoolean\tfalse\t<x>\nleaf\tOther\t1\t<o>\nleaf\tNull\tn\t-\n" (0 ∷ 2 ∷ 3 ∷ [])
+    -- no projection found: every filter, whatever its references
+    ∷ lists "minus\nproject\t?a\nbgp\t0\nbgp\t0\n" "ref\t9\nleaf\tBoolean\tfalse\t<x>\n" (0 ∷ 1 ∷ [])
+    -- an empty file has a projection
+    ∷ lists "" "nary\tx\t0\nleaf\tBoolean\tfalse\t<x>\n" (0 ∷ [])
+    -- below slice and distinct a projection is found
+    ∷ lists "slice\t0\t5\ndistinct\nproject\t?a\nbgp\t0\n" "nary\tx\t0\nref\t0\n" (0 ∷ [])
     ∷ []

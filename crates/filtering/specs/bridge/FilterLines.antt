@@ -87,19 +87,24 @@ treeToExpression cs zero ls = walked false [] ls
 treeToExpression cs (suc n) [] = walked false [] []
 treeToExpression cs (suc n) (l ∷ ls) = inFront (expressionLines cs l) (severalParts (treeToExpression cs n) (partsBelow l) ls)
 
--- the filters that are placed: how many, and their expressions' lines one after the other
+-- filter by filter: how many are placed, their expressions' lines one after the other, and the numbers of the others
 pub record Placed : Type 0 where
   pub many : ℕ
   pub lines : List Line
+  pub others : List ℕ
 
-abbrev pub oneMore : Bool → List Line → Placed → Placed
-oneMore true w x = record { many = suc (x .many); lines = w ++ x .lines }
-oneMore false w x = x
+abbrev pub noFilters : Placed
+noFilters = record { many = 0; lines = []; others = [] }
 
--- filter by filter; n lines are left
-unfoldable pub placedFilters : List Bytes → ℕ → List Line → Placed
+-- filter number i, placed or not, in front of those behind it
+abbrev pub oneMore : Bool → ℕ → List Line → Placed → Placed
+oneMore true i w x = record { many = suc (x .many); lines = w ++ x .lines; others = x .others }
+oneMore false i w x = record { many = x .many; lines = x .lines; others = i ∷ x .others }
+
+-- k filters, counted from i, of at most n lines each; none is placed where no projection was found
+unfoldable pub placedFilters : Bool → List Bytes → ℕ → ℕ → ℕ → List Line → Placed
 unfolding treeToExpression isTrueLine
-placedFilters cs zero ls = record { many = 0; lines = [] }
-placedFilters cs (suc n) [] = record { many = 0; lines = [] }
-placedFilters cs (suc n) (l ∷ ls) =
-    oneMore (not (isTrueLine l) && treeToExpression cs (suc n) (l ∷ ls) .expressed) (treeToExpression cs (suc n) (l ∷ ls) .lines) (placedFilters cs n (treeToExpression cs (suc n) (l ∷ ls) .left))
+placedFilters found cs n i zero ls = noFilters
+placedFilters found cs n i (suc k) [] = noFilters
+placedFilters found cs n i (suc k) (l ∷ ls) =
+    oneMore (found && (not (isTrueLine l) && treeToExpression cs n (l ∷ ls) .expressed)) i (treeToExpression cs n (l ∷ ls) .lines) (placedFilters found cs n (suc i) k (treeToExpression cs n (l ∷ ls) .left))
