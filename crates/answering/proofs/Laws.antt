@@ -2,7 +2,7 @@
 use Prim.Native.Nat.{ℕ, zero, suc, _+_, _≤_, _<_}
 use mathlib.Core.Path.{_≡_, refl, sym, _∙_, ap, ap₂}
 use mathlib.Core.List.{List, [], _∷_}
-use mathlib.Core.Bool.{true, false, cond}
+use mathlib.Core.Bool.{Bool, true, false, cond}
 use native.Mathlib.Omega.{arith}
 use lib.ListN.{length, getD}
 use lib.Dec.{eqb}
@@ -14,6 +14,8 @@ use Rattle.parted.proofs.Parts.{parted-same}
 use Rattle.answers.specs.declared.Answer.{Answer}
 use Rattle.answers.specs.declared.Answer.the-variants.{Malformed, OverBound}
 use Rattle.answers.specs.Outcome.{Outcome, refused, Reported, Answered}
+use Rattle.answers.specs.Both.{ReportedBoth, AnsweredBoth}
+use Rattle.answers.proofs.Both.{both-none}
 use Rattle.surveying.specs.Scope.{scopeOutcome}
 use Rattle.renaming.specs.Rename.{renameOutcome}
 use Rattle.merging.specs.Merge.{mergePatternsOutcome, mergeQueriesOutcome}
@@ -21,7 +23,8 @@ use Rattle.merging.specs.Push.{pushConstantsOutcome}
 use Rattle.merging.specs.Negate.{negateOutcome}
 use Rattle.filtering.specs.Bindings.{bindingsOutcome}
 use Rattle.filtering.specs.Filters.{filtersOutcome}
-use Rattle.answering.specs.Answering.{Call, calls, called, callInput, numberIn, callNumber}
+use Rattle.filtering.specs.NotPlaced.{filtersNotPlaced}
+use Rattle.answering.specs.Answering.{Call, calls, called, calledList, callInput, inputList, numberIn, callNumber}
 
 -- what holds of each of the eight and behind them holds of every number
 module _ (P : ℕ → Type 0) (p0 : P 0) (p1 : P 1) (p2 : P 2) (p3 : P 3) (p4 : P 4) (p5 : P 5) (p6 : P 6) (p7 : P 7) where
@@ -96,6 +99,40 @@ none-of-five k a b c d e out = by-number (λ k. (k ≡ 2 → ⊥) → (k ≡ 3 �
     here : {n : ℕ} → (n ≡ 2 → ⊥) → (n ≡ 3 → ⊥) → Answered (refused 1) out out Malformed
     here h i = (refl, refl, refl)
 
+-- ---- a call's list
+
+pub row-list : (a b : Bytes) → calledList 7 (a ∷ b ∷ []) ≡ filtersNotPlaced a b
+unfolding calledList
+row-list a b = refl
+
+-- the call of this number, and its list
+pub listed-row : (n k : ℕ) (ts : List Bytes) (o : Outcome) (xs : List ℕ) (out after : Bytes) (lent left : List ℕ) (r : Answer) (m : ℕ) → called n ts ≡ o → calledList n ts ≡ xs → k ≡ n → AnsweredBoth o xs out after lent left r m → AnsweredBoth (called k ts) (calledList k ts) out after lent left r m
+listed-row n k ts o xs out after lent left r m e f h a = rw (h, e, f) a
+
+-- of another number of texts than two there is none
+none-listed : (k : ℕ) (ts : List Bytes) → (length ts ≡ 2 → ⊥) → calledList k ts ≡ []
+unfolding calledList
+none-listed k ts h = by-number (λ k. calledList k ts ≡ []) (of 1) (of 2) (of 5) (of 5) (of 2) (of 1) (of 2) (rw (ne-eqb (length ts) 2 h)) (λ k. of 0) k
+  where
+    none : (b : Bool) → cond {A = List ℕ} b [] [] ≡ []
+    none true = refl
+    none false = refl
+
+    of : (n : ℕ) → cond {A = List ℕ} (eqb (length ts) n) [] [] ≡ []
+    of n = none (eqb (length ts) n)
+
+module _ (k : ℕ) (ts : List Bytes) (out after : Bytes) (lent : List ℕ) (r : Answer) (a : Answered (called k ts) out after r) where
+  pub not-listed : (length ts ≡ 2 → ⊥) → AnsweredBoth (called k ts) (calledList k ts) out after lent lent r 0
+  not-listed h = rw (none-listed k ts h) (both-none (called k ts) out after lent r a)
+
+-- nor of another call
+pub other-listed : (k : ℕ) (a b out after : Bytes) (lent : List ℕ) (r : Answer) → (k ≡ 7 → ⊥) → Answered (called k (a ∷ b ∷ [])) out after r → AnsweredBoth (called k (a ∷ b ∷ [])) (calledList k (a ∷ b ∷ [])) out after lent lent r 0
+unfolding calledList
+other-listed k a b out after lent r h x = rw (none k h) (both-none (called k (a ∷ b ∷ [])) out after lent r x)
+  where
+    none : (n : ℕ) → (n ≡ 7 → ⊥) → calledList n (a ∷ b ∷ []) ≡ []
+    none n = by-number (λ n. (n ≡ 7 → ⊥) → calledList n (a ∷ b ∷ []) ≡ []) (λ i. refl) (λ i. refl) (λ i. refl) (λ i. refl) (λ i. refl) (λ i. refl) (λ i. refl) (λ i. absurd (i refl)) (λ k i. refl) n
+
 -- another number of texts than any call reads
 pub none-of-others : (k : ℕ) (ts : List Bytes) (out : Bytes) → (length ts ≡ 0 → ⊥) → (length ts ≡ 1 → ⊥) → (length ts ≡ 2 → ⊥) → (length ts ≡ 5 → ⊥) → Answered (called k ts) out out Malformed
 unfolding called Reported
@@ -150,18 +187,22 @@ texts-five ts a b c d e h ea eb ec ed ee =
 -- ---- an input
 
 module _ (k : ℕ) (s : Bytes) where
-  pub answer-long : (out : Bytes) → 65536 < length s → Answered (callInput k s) out out OverBound
-  unfolding callInput Reported
-  answer-long out h = rw (lt-leb (length s) 65536 h) (refl, refl, refl)
+  pub answer-long : (out : Bytes) (lent : List ℕ) → 65536 < length s → AnsweredBoth (callInput k s) (inputList k s) out out lent lent OverBound 0
+  unfolding callInput inputList ReportedBoth
+  answer-long out lent h = rw (lt-leb (length s) 65536 h) (refl, refl, refl, refl, refl)
 
-  pub answer-texts : (ts : List Bytes) (out after : Bytes) (r : Answer) → length s ≤ 65536 → texts s ≡ ts → Answered (called k ts) out after r → Answered (callInput k s) out after r
-  unfolding callInput
-  answer-texts ts out after r h e a = rw (le-leb (length s) 65536 h, e) a
+  pub answer-texts : (ts : List Bytes) (out after : Bytes) (lent left : List ℕ) (r : Answer) (m : ℕ) → length s ≤ 65536 → texts s ≡ ts → AnsweredBoth (called k ts) (calledList k ts) out after lent left r m → AnsweredBoth (callInput k s) (inputList k s) out after lent left r m
+  unfolding callInput inputList
+  answer-texts ts out after lent left r m h e a = rw (le-leb (length s) 65536 h, e) a
 
-  pub answer-none : (out : Bytes) (b : ℕ) → length s ≤ 65536 → length (texts s) ≡ b + 1 → (b ≡ 0 → ⊥) → (b ≡ 1 → ⊥) → (b ≡ 4 → ⊥) → Answered (callInput k s) out out Malformed
-  answer-none out b h e h0 h1 h4 =
+  -- a call of one text or of five, which lists nothing
+  pub answer-plain : (ts : List Bytes) (out after : Bytes) (lent : List ℕ) (r : Answer) → length s ≤ 65536 → texts s ≡ ts → (length ts ≡ 2 → ⊥) → Answered (called k ts) out after r → AnsweredBoth (callInput k s) (inputList k s) out after lent lent r 0
+  answer-plain ts out after lent r h e n a = answer-texts ts out after lent lent r 0 h e (not-listed k ts out after lent r a n)
+
+  pub answer-none : (out : Bytes) (lent : List ℕ) (b : ℕ) → length s ≤ 65536 → length (texts s) ≡ b + 1 → (b ≡ 0 → ⊥) → (b ≡ 1 → ⊥) → (b ≡ 4 → ⊥) → AnsweredBoth (callInput k s) (inputList k s) out out lent lent Malformed 0
+  answer-none out lent b h e h0 h1 h4 =
       let i0 : length (texts s) ≡ 0 → ⊥ = omega arith in
       let i1 : length (texts s) ≡ 1 → ⊥ = λ q. h0 (omega arith) in
       let i2 : length (texts s) ≡ 2 → ⊥ = λ q. h1 (omega arith) in
       let i5 : length (texts s) ≡ 5 → ⊥ = λ q. h4 (omega arith) in
-      answer-texts (texts s) out out Malformed h refl (none-of-others k (texts s) out i0 i1 i2 i5)
+      answer-plain (texts s) out out lent Malformed h refl i2 (none-of-others k (texts s) out i0 i1 i2 i5)

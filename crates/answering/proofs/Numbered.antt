@@ -1,19 +1,24 @@
 -- No call's outcome refuses with 0, so what a program prints is what its outcome says (`program-prints`). Assumes nothing.
-use Prim.Native.Nat.{ℕ}
-use mathlib.Core.Path.{_≡_}
+use Prim.Native.Nat.{ℕ, _≤_}
+use mathlib.Core.Path.{_≡_, refl, ap, _∙_}
 use mathlib.Core.Bool.{Bool, true, false, cond}
-use mathlib.Core.List.{List}
+use mathlib.Core.List.{List, []}
 use mathlib.Core.Option.{Option, none, some}
 use native.Mathlib.Omega.{arith}
 use lib.ListN.{length, take}
 use lib.Dec.{leb, eqb}
 use Rattle.text.specs.Text.{Bytes}
 use Rattle.parted.specs.Parted.{texts}
-use Rattle.algebra.specs.Query.{Query, mapping}
+use Rattle.algebra.specs.Tree.{Pattern}
+use Rattle.algebra.specs.Query.{Query, Filter, mapping}
+use Rattle.algebra.specs.Tally.{bounds}
+use Rattle.algebra.specs.Reader.{Outcome as Reading, reads, refuses}
 use Rattle.algebra.specs.Texts.{readPairs, readSets, readFilters}
 use Rattle.algebra.specs.Given.{readGivenTree, readGivenQuery}
 use Rattle.answers.specs.declared.Answer.{Answer}
-use Rattle.answers.specs.Outcome.{Outcome, refused, Answered}
+use Rattle.answers.specs.Outcome.{Outcome, refused, number, size}
+use Rattle.answers.specs.Both.{AnsweredBoth}
+use Rattle.answers.proofs.Both.{both-as-before}
 use Rattle.answers.proofs.Numbered.{Numbered, written-numbered, then-numbered, test-numbered, not-zero}
 use Rattle.surveying.specs.Scope.{scopeOutcome}
 use Rattle.renaming.specs.Rename.{renameOutcome}
@@ -29,8 +34,11 @@ use Rattle.negating.specs.Projections.{outermostProjection}
 use Rattle.filtering.specs.IfFound.{ifFound}
 use Rattle.filtering.specs.Bindings.{positionsInside, valuesUsable, bindingsOutcome}
 use Rattle.filtering.specs.Filters.{referencesInside, filtersOutcome}
-use Rattle.answering.specs.Answering.{called, callInput}
-use Rattle.answering.specs.Printed.{printed, Prints}
+use Rattle.filtering.specs.NotPlaced.{noneOr, notPlaced, filtersNotPlaced}
+use Rattle.filtering.proofs.NotPlaced.{listed-in-bounds}
+use Rattle.answering.specs.Answering.{called, callInput, calledList, inputList}
+use Rattle.answering.specs.Printed.{printed, leftLine, printedList, Prints}
+use Rattle.answering.proofs.Printed.{Few, left-printed, list-length}
 use Rattle.answering.proofs.Laws.{by-number}
 
 -- ---- calls
@@ -91,6 +99,43 @@ pub call-input-numbered : (k : ℕ) (s : Bytes) → Numbered (callInput k s)
 unfolding callInput Numbered
 call-input-numbered k s = either-numbered (leb (length s) 65536) (called k (texts s)) (refused 2) (called-numbered k (texts s)) (λ z. omega arith)
 
--- the contract of `put_printed` and that of `answer`, together: what a program prints of a call and an input
-pub program-prints : (k : ℕ) (s before answered now : Bytes) (a : Answer) (r : ℕ) → length before ≡ 65536 → Answered (callInput k s) before answered a → Prints a answered now r → take r now ≡ printed (callInput k s)
-program-prints k s before answered now a r l e p = p (callInput k s) before (not-zero (callInput k s) (call-input-numbered k s)) l e
+-- ---- lists
+
+-- at most as many numbers as a list of filters has entries, each below that
+listed-few : (tree filters : Bytes) → Few (filtersNotPlaced tree filters)
+unfolding filtersNotPlaced Few
+listed-few tree filters = go (readTree tree) (readFilters filters) refl
+  where
+    go : (t : Reading Pattern) (f : Reading (List Filter)) → readFilters filters ≡ f → Few (noneOr t λ p. noneOr f λ fs. notPlaced (outermostProjection p) fs)
+    go (refuses n) f e = (omega arith, refl)
+    go (reads p) (refuses n) e = (omega arith, refl)
+    go (reads p) (reads fs) e = listed-in-bounds (outermostProjection p) filters fs e
+
+pub input-list-few : (k : ℕ) (s : Bytes) → Few (inputList k s)
+unfolding inputList calledList Few
+input-list-few k s = few-of (leb (length s) 65536) _ (by-number (λ k. Few (calledList k (texts s))) (none 1) (none 2) (none 5) (none 5) (none 2) (none 1) (none 2) (few-of (eqb (length (texts s)) 2) _ (listed-few _ _)) (λ k. none 0) k)
+  where
+    few-of : (b : Bool) (xs : List ℕ) → Few xs → Few (cond b xs [])
+    few-of true xs f = f
+    few-of false xs f = (omega arith, refl)
+
+    none : (n : ℕ) → Few (cond (eqb (length (texts s)) n) [] [])
+    none n = few-of (eqb (length (texts s)) n) [] (omega arith, refl)
+
+module _ (k : ℕ) (s before answered : Bytes) (lent left : List ℕ) (a : Answer) (m : ℕ) (room : length before ≡ 65536) (entries : length lent ≡ bounds .entries) (e : AnsweredBoth (callInput k s) (inputList k s) before answered lent left a m) where
+  -- the contract of `put_printed` and that of `answer`, together: what a program prints of a call and an input
+  pub program-prints : (now : Bytes) (r : ℕ) → Prints a answered now r → take r now ≡ printed (callInput k s)
+  unfolding Few
+  program-prints now r p =
+      let f = input-list-few k s .0 in
+      p (callInput k s) before (not-zero (callInput k s) (call-input-numbered k s)) room (both-as-before (callInput k s) (inputList k s) before answered lent left (number a) (size a) m (omega arith) e)
+
+  -- the contract of `put_left` and that of `answer`, together: the line `left` beside it
+  pub program-lists : (buffer now : Bytes) (r : ℕ) → length buffer ≡ 65536 → (length (leftLine (take m left)) ≤ length buffer → take r now ≡ leftLine (take m left)) → take r now ≡ printedList (callInput k s) (inputList k s)
+  unfolding Few
+  program-lists buffer now r l p =
+      let f = input-list-few k s in
+      let i = f .0 in
+      let q = left-printed (callInput k s) (inputList k s) before answered lent left (number a) (size a) m room (omega arith) e in
+      let h = list-length (callInput k s) (inputList k s) f in
+      p (let z = ap length q in omega arith) ∙ q

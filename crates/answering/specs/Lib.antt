@@ -1,3 +1,4 @@
 pub mod Answering
 pub mod Printed
 pub mod Examples
+pub mod bridge

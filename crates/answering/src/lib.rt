@@ -1,5 +1,6 @@
-// The calls by number and name: an input's texts go to one, and its answer to standard output.
+// The calls by number and name: an input's texts go to one, and its answer and its list are printed.
 use answers::Answer;
+use answers::Listed;
 use answers::number;
 use answers::size_of;
 use binding::bindings::bindings;
@@ -11,6 +12,7 @@ use joining::push::push_constants;
 use joining::queries::merge_queries;
 use libc::STDOUT_FILENO;
 use naming::numbers::put_decimal;
+use naming::numbers::wide;
 use negating::negate;
 use parted::part_texts;
 use parted::text_at;
@@ -23,8 +25,11 @@ ghost use mathlib.Core.List.{[], _∷_};
 ghost use Prim.Native.Nat.{_≤_};
 ghost use lib.ListN.{length, take};
 ghost use Rattle.answers.specs.Outcome.{Answered};
-ghost use Rattle.answering.specs.Answering.{called, callInput, callNumber};
-ghost use Rattle.answering.specs.Printed.{refusalLine, Prints};
+ghost use Rattle.answers.specs.Both.{AnsweredBoth};
+ghost use Rattle.emit.specs.bridge.Emit.{em, puts};
+ghost use Rattle.answering.specs.Answering.{called, callInput, callNumber, calledList, inputList};
+ghost use Rattle.answering.specs.Printed.{refusalLine, leftLine, Prints};
+ghost use Rattle.answering.specs.bridge.Fields.{fieldsOf};
 
 // The bytes of the longest input, and of the longest answer.
 const LIMIT: usize = 65536;
@@ -91,6 +96,7 @@ fn of_one(call: u32, a: &[u8], out: &mut [u8]) -> Answer
 
 // A call's answer to two texts.
 fn of_two(call: u32, a: &[u8], b: &[u8], out: &mut [u8]) -> Answer
+    requires { ⌜ (call ≡ 7 → ⊥) ⌝ }
     ensures { λ r. ⌜ Answered (called call (now (a .entry) ∷ now (b .entry) ∷ [])) (now (out .entry)) (now (out .exit)) r ⌝ }
 {
     if call == 1 {
@@ -102,10 +108,20 @@ fn of_two(call: u32, a: &[u8], b: &[u8], out: &mut [u8]) -> Answer
     if call == 6 {
         return bindings(a, b, out);
     }
-    if call == 7 {
-        return filters(a, b, out);
-    }
     Answer::Malformed
+}
+
+// The same, and its list.
+fn of_two_listed(call: u32, a: &[u8], b: &[u8], out: &mut [u8], list: &mut [u16]) -> Listed
+    ensures { λ r. ⌜ AnsweredBoth (called call (now (a .entry) ∷ now (b .entry) ∷ [])) (calledList call (now (a .entry) ∷ now (b .entry) ∷ [])) (now (out .entry)) (now (out .exit)) (now (list .entry)) (now (list .exit)) (r .answer) (r .many) ⌝ }
+{
+    if call == 7 {
+        return filters(a, b, out, list);
+    }
+    Listed {
+        answer: of_two(call, a, b, out),
+        many: 0,
+    }
 }
 
 // A call's answer to five texts.
@@ -121,28 +137,35 @@ fn of_five(call: u32, a: &[u8], b: &[u8], c: &[u8], d: &[u8], e: &[u8], out: &mu
     Answer::Malformed
 }
 
-// A call's answer to an input, whose texts are parted by lines `--`.
-pub fn answer(call: u32, input: &[u8], out: &mut [u8]) -> Answer
-    ensures { λ r. ⌜ Answered (callInput call (now (input .entry))) (now (out .entry)) (now (out .exit)) r ⌝ }
+// A call's answer to an input, whose texts are parted by lines `--`, and its list.
+pub fn answer(call: u32, input: &[u8], out: &mut [u8], list: &mut [u16]) -> Listed
+    ensures { λ r. ⌜ AnsweredBoth (callInput call (now (input .entry))) (inputList call (now (input .entry))) (now (out .entry)) (now (out .exit)) (now (list .entry)) (now (list .exit)) (r .answer) (r .many) ⌝ }
 {
     if LIMIT < input.len() {
-        return Answer::OverBound;
+        return Listed {
+            answer: Answer::OverBound,
+            many: 0,
+        };
     }
     let mut ends = [0usize; 5];
     let n = part_texts(input, &mut ends);
     if n == 0 {
-        return of_one(call, text_at(input, &ends, n, 0), out);
+        return Listed {
+            answer: of_one(call, text_at(input, &ends, n, 0), out),
+            many: 0,
+        };
     }
     if n == 1 {
-        return of_two(
+        return of_two_listed(
             call,
             text_at(input, &ends, n, 0),
             text_at(input, &ends, n, 1),
             out,
+            list,
         );
     }
     if n == 4 {
-        return of_five(
+        let a = of_five(
             call,
             text_at(input, &ends, n, 0),
             text_at(input, &ends, n, 1),
@@ -151,8 +174,12 @@ pub fn answer(call: u32, input: &[u8], out: &mut [u8]) -> Answer
             text_at(input, &ends, n, 4),
             out,
         );
+        return Listed { answer: a, many: 0 };
     }
-    Answer::Malformed
+    Listed {
+        answer: Answer::Malformed,
+        many: 0,
+    }
 }
 
 const REFUSED: [u8; 8] = *b"refused\t";
@@ -175,6 +202,50 @@ pub fn put_printed(answer: Answer, out: &mut [u8]) -> usize
         return size_of(answer);
     }
     put_refusal(n, out)
+}
+
+const LEFT: [u8; 4] = *b"left";
+
+// Fields of a line: a tab and a number each.
+fn put_fields(list: &[u16], out: &mut [u8], at: usize) -> usize
+    ensures { λ r. ⌜ em r (now (out .exit)) ≡ puts (fieldsOf (now (list .entry))) (em at (now (out .entry))) ⌝ }
+{
+    let mut to = at;
+    let mut j = 0;
+    while j < list.len() {
+        let tab = put(out, to, 9);
+        to = put_decimal(out, tab, wide(list[j]));
+        j += 1;
+    }
+    to
+}
+
+// The line `left` of the numbers, from the buffer's start on: how many bytes, none without numbers.
+pub fn put_left(list: &[u16], out: &mut [u8]) -> usize
+    ensures { λ r. ⌜ (length (leftLine (now (list .entry))) ≤ length (now (out .entry)) → take r (now (out .exit)) ≡ leftLine (now (list .entry))) ⌝ }
+{
+    if list.len() == 0 {
+        return 0;
+    }
+    let a = put_all(out, 0, &LEFT);
+    let b = put_fields(list, out, a);
+    put(out, b, 10)
+}
+
+// The first numbers of a list, as far as there are any.
+pub fn first_of(list: &[u16], many: usize) -> &[u16]
+    ensures { λ r. ⌜ now r ≡ take many (now (list .entry)) ⌝ }
+{
+    if list.len() <= many {
+        return list;
+    }
+    &list[..many]
+}
+
+// The line `left`, if there are numbers: whether all was written.
+pub fn write_left(fd: i32, list: &[u16], many: usize, out: &mut [u8]) -> bool {
+    let size = put_left(first_of(list, many), out);
+    io::write_all(fd, piece(out, 0, size))
 }
 
 // The answer's bytes, or the line `refused` with its number: whether all was written.

@@ -57,3 +57,7 @@ both-none (written b) before after lent r a =
 -- what the texts say decides
 pub answered-both : (o q : Outcome) (xs ys : List ℕ) (before after : Bytes) (lent left : List ℕ) (r : Answer) (m : ℕ) → q ≡ o → ys ≡ xs → AnsweredBoth o xs before after lent left r m → AnsweredBoth q ys before after lent left r m
 answered-both o q xs ys before after lent left r m e f h = subst (λ (x : Outcome). AnsweredBoth x ys before after lent left r m) (sym e) (subst (λ (zs : List ℕ). AnsweredBoth o zs before after lent left r m) (sym f) h)
+
+-- what is reported of an answer's number and size
+pub reported-both : (o : Outcome) (xs : List ℕ) (before after : Bytes) (lent left : List ℕ) (r : Answer) (k m n s : ℕ) → AnsweredBoth o xs before after lent left r k → n ≡ number r → s ≡ size r → m ≡ k → ReportedBoth o xs before after lent left n s m
+reported-both o xs before after lent left r k m n s h p q e = rw (p, q, e) h

@@ -1,7 +1,10 @@
-// Reads a call's texts from standard input, and writes its answer. The first argument is the call's name.
+// Reads a call's texts from standard input, and writes its answer, and its list to standard error. The first argument is the call's name.
+use algebra::ENTRIES;
 use answering::answer;
 use answering::call_number;
 use answering::write_answer;
+use answering::write_left;
+use libc::STDERR_FILENO;
 use libc::STDIN_FILENO;
 
 fn main() {
@@ -10,6 +13,9 @@ fn main() {
     let mut input = [0u8; 65537];
     let n = io::read_full(STDIN_FILENO, &mut input);
     let mut out = [0u8; 65536];
-    let answer = answer(call_number(&name[..size]), &input[..n], &mut out);
+    let mut list = [0u16; ENTRIES];
+    let listed = answer(call_number(&name[..size]), &input[..n], &mut out, &mut list);
+    let answer = listed.answer;
     write_answer(answer, &mut out);
+    write_left(STDERR_FILENO, &list, listed.many, &mut out);
 }

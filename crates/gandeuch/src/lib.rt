@@ -10,8 +10,10 @@ use negating::negate;
 use renaming::rename::rename;
 use surveying::scope::scope;
 ghost use Rattle.answers.specs.Outcome.{Reported};
+ghost use Rattle.answers.specs.Both.{ReportedBoth};
 ghost use Rattle.filtering.specs.Bindings.{bindingsOutcome};
 ghost use Rattle.filtering.specs.Filters.{filtersOutcome};
+ghost use Rattle.filtering.specs.NotPlaced.{filtersNotPlaced};
 ghost use Rattle.surveying.specs.Scope.{scopeOutcome};
 ghost use Rattle.renaming.specs.Rename.{renameOutcome};
 ghost use Rattle.merging.specs.Merge.{mergePatternsOutcome, mergeQueriesOutcome};
@@ -119,17 +121,21 @@ pub extern "C" fn gandeuch_bindings(
     number(a)
 }
 
-// filters: tree and filters to tree.
+// filters: tree and filters to tree, and the numbers of the filters that were not placed.
 #[no_mangle]
 pub extern "C" fn gandeuch_filters(
     tree: &[u8],
     filters: &[u8],
     out: &mut [u8],
     size: &mut usize,
+    list: &mut [u16],
+    many: &mut usize,
 ) -> u8
-    ensures { λ r. ⌜ Reported (filtersOutcome (now (tree .entry)) (now (filters .entry))) (now (out .entry)) (now (out .exit)) r (now (size .exit)) ⌝ }
+    ensures { λ r. ⌜ ReportedBoth (filtersOutcome (now (tree .entry)) (now (filters .entry))) (filtersNotPlaced (now (tree .entry)) (now (filters .entry))) (now (out .entry)) (now (out .exit)) (now (list .entry)) (now (list .exit)) r (now (size .exit)) (now (many .exit)) ⌝ }
 {
-    let a = filters::filters(tree, filters, out);
+    let listed = filters::filters(tree, filters, out, list);
+    let a = listed.answer;
     *size = size_of(a);
+    *many = listed.many;
     number(a)
 }

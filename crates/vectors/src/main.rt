@@ -1,13 +1,24 @@
-// The calls' answers: for each record of the file `cases` a line of its label, then what the program `call` writes for its text.
+// The calls' answers: for each record of the file `cases` a line of its label, then what the program `call` writes for its text, its list last.
 // A record's kind is its call's number: 0 scope, 1 rename, 2 merge, 3 merge_queries, 4 push, 5 negate, 6 bindings and 7 filters.
+use algebra::ENTRIES;
 use answering::answer;
 use answering::write_answer;
+use answering::write_left;
 use libc::STDOUT_FILENO;
 use records::LIMIT;
 use records::NONE;
 use records::read_record;
 use text::piece;
 ghost use Prim.Native.Nat.{_<_};
+
+// A call's answer to an input, and its list.
+fn tell(call: u32, input: &[u8], out: &mut [u8]) {
+    let mut list = [0u16; ENTRIES];
+    let listed = answer(call, input, out, &mut list);
+    let answer = listed.answer;
+    write_answer(answer, out);
+    write_left(STDOUT_FILENO, &list, listed.many, out);
+}
 
 // The record at a place of the file, and where the next one starts.
 fn turn(fd: i32, at: u64, window: &mut [u8], out: &mut [u8]) -> u64
@@ -25,8 +36,7 @@ fn turn(fd: i32, at: u64, window: &mut [u8], out: &mut [u8]) -> u64
     }
     io::write_all(STDOUT_FILENO, piece(window, r.label, r.label_size));
     io::write_all(STDOUT_FILENO, b"\n");
-    let answer = answer(r.kind, piece(window, r.text, r.text_size), out);
-    write_answer(answer, out);
+    tell(r.kind, piece(window, r.text, r.text_size), out);
     next
 }
 

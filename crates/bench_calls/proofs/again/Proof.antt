@@ -6,11 +6,11 @@ use Rattle.bench_calls.proofs.again.Statement.{statement}
 use Rattle.bench_calls.proofs.again.Tie as tie
 
 abbrev Inv-loop : tie.InvT-loop
-Inv-loop call input out₀ times mix₀ k₀ out mix k =
-    length out ≡ length out₀
+Inv-loop call input out₀ list₀ times mix₀ k₀ out list mix k =
+    (length out ≡ length out₀) × (length list ≡ length list₀)
 
 abbrev μ-loop : tie.MeasureT-loop
-μ-loop call input out₀ times mix₀ k₀ out mix k =
+μ-loop call input out₀ list₀ times mix₀ k₀ out list mix k =
     k
 
 pub again-spec : {M : Type 1} → statement M
@@ -21,6 +21,7 @@ again-spec =
     μ-loop
     (λ c. search needs)
     (λ c κs. search needs)
+    (λ c. search needs)
     (λ c. search needs)
     (λ c. search needs)
     (λ c. search needs)

@@ -1,6 +1,7 @@
 -- `gandeuch::gandeuch_filters` meets its contract. Assumes nothing.
 use borrow.Author.Needs.{needs}
-use Rattle.answers.proofs.Answers as A
+use mathlib.Core.Path.{refl}
+use Rattle.answers.proofs.Both as Both
 use Rattle.gandeuch.proofs.gandeuch_filters.Statement.{statement}
 use Rattle.gandeuch.proofs.gandeuch_filters.Tie as tie
 
@@ -12,4 +13,5 @@ gandeuch-filters-spec =
     (λ c κs. search needs)
     (λ c κs. search needs)
     (λ c. search needs)
-    (λ c. A.reported _ _ _ (c .before .before .before .before .filters .result) _ _ (c .before .before .before .before .filters .ensures) (c .number .ensures) (c .before .size-of .ensures)))
+    (λ c. search needs)
+    (λ c. let f = c .before .before .before .before .before .before .filters in Both.reported-both _ _ _ _ _ _ (f .result .answer) (f .result .many) _ _ _ (f .ensures) (c .number .ensures) (c .before .size-of .ensures) refl))
