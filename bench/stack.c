@@ -20,9 +20,11 @@ static int number;
 
 #define GIVEN(i) texts[i], sizes[i]
 #define OUT answer, sizeof answer, &size
+#define LIST list, GANDEUCH_LIST_ROOM, &many
 
 static int made(void) {
-    size_t size;
+    size_t size, many;
+    uint16_t list[GANDEUCH_LIST_ROOM];
     if (!strcmp(call, "scope")) return gandeuch_scope(GIVEN(0), OUT);
     if (!strcmp(call, "rename")) return gandeuch_rename(GIVEN(0), GIVEN(1), OUT);
     if (!strcmp(call, "merge")) return gandeuch_merge_patterns(GIVEN(0), GIVEN(1), GIVEN(2), GIVEN(3), GIVEN(4), OUT);
@@ -30,7 +32,7 @@ static int made(void) {
     if (!strcmp(call, "push")) return gandeuch_push_constants(GIVEN(0), GIVEN(1), OUT);
     if (!strcmp(call, "negate")) return gandeuch_negate(GIVEN(0), OUT);
     if (!strcmp(call, "bindings")) return gandeuch_bindings(GIVEN(0), GIVEN(1), OUT);
-    if (!strcmp(call, "filters")) return gandeuch_filters(GIVEN(0), GIVEN(1), OUT);
+    if (!strcmp(call, "filters")) return gandeuch_filters(GIVEN(0), GIVEN(1), OUT, LIST);
     return -1;
 }
 

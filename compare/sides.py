@@ -40,6 +40,11 @@ class Driver:
         return [answer if len(answer) <= ROOM else b"refused\t6\n" for answer in answers]
 
 
+def without_left(shown):
+    """An answer without the line `left` behind it, which the Rust doesn't have; no line of a tree or a query begins so."""
+    return re.sub(rb"(?m)^left\t.*\n\Z", b"", shown)
+
+
 class Batch:
     """The program `vectors` of a folder: what the program `call` writes for a name, for all cases in one process."""
 
@@ -47,6 +52,10 @@ class Batch:
         self.path = pathlib.Path(folder).resolve() / "vectors"
 
     def answers(self, program, cases):
+        return list(map(without_left, self.shown(program, cases)))
+
+    def shown(self, program, cases):
+        """The answers, each with its line `left`, if it has one."""
         with tempfile.TemporaryDirectory() as room:
             with open(pathlib.Path(room) / "cases", "wb") as file:
                 for number, case in enumerate(cases):
@@ -65,10 +74,14 @@ class Programs:
         self.folder = pathlib.Path(folder).resolve()
 
     def answer(self, program, case):
-        done = subprocess.run([self.folder / "call", program], input=case, stdout=subprocess.PIPE, timeout=60)
-        return done.stdout if done.returncode >= 0 else b"stopped by signal %d\n" % -done.returncode
+        done = subprocess.run([self.folder / "call", program], input=case, stdout=subprocess.PIPE, stderr=subprocess.PIPE, timeout=60)
+        return done.stdout + done.stderr if done.returncode >= 0 else b"stopped by signal %d\n" % -done.returncode
 
     def answers(self, program, cases):
+        return list(map(without_left, self.shown(program, cases)))
+
+    def shown(self, program, cases):
+        """The answers, each with its line `left`, if it has one."""
         with concurrent.futures.ThreadPoolExecutor(os.cpu_count()) as pool:
             return list(pool.map(lambda case: self.answer(program, case), cases))
 

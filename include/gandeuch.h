@@ -3,7 +3,9 @@
  *
  * A text is a pointer and a number of bytes; no byte is special, and no zero byte ends it. A call returns a number: 0, and the answer
  * stands in the first `*size` bytes of `out`, the bytes behind it unchanged; or the number of a refusal, and `*size` is 0 and `out` is
- * unchanged. Texts are checked in the order of the parameters (1, 2); then come 5, 4, 3, 10, 7, 6 in this order, as far as a call has them.
+ * unchanged. Texts are checked in the order of the parameters (1, 2); then come 5, 4, 3, 10, 7, 6, 9 in this order, as far as a call has
+ * them. `gandeuch_filters` also lists numbers: they stand in the first `*many` entries of `list`, those behind them unchanged; after a
+ * refusal `*many` is 0 and `list` is unchanged.
  *
  * An empty file is a tree: each call reads a tree of no bytes, and a query of its head line alone, as if the lines `project` and `bgp 0`
  * stood there, and writes them where it copies.
@@ -11,10 +13,10 @@
  * Every text is allowed. What a caller owes is what C asks of any such call, as nothing in C can test it:
  *
  * - no pointer is null, also where the number of bytes beside it is 0: an empty text is "" and 0;
- * - each pointer is good for as many bytes as the number beside it says, at most PTRDIFF_MAX, and a text's bytes have
- *   values;
- * - `out` overlaps no text, and `size` lies in none of them, nor in `out`;
- * - nothing else writes the texts, or reads or writes `out` and `size`, before the call returns;
+ * - each pointer is good for as many bytes, or entries of `list`, as the number beside it says, at most PTRDIFF_MAX bytes, and a
+ *   text's bytes have values;
+ * - `out` overlaps no text, `list` neither a text nor `out`, and `size` and `many` lie in none of them, nor in each other;
+ * - nothing else writes the texts, or reads or writes `out`, `size`, `list` and `many`, before the call returns;
  * - GANDEUCH_STACK bytes of stack are left.
  *
  * The calls keep nothing between calls, so threads may call them at the same time, and use no heap.
@@ -25,19 +27,20 @@
 #include <stddef.h>
 #include <stdint.h>
 
-#define GANDEUCH_VERSION "0.1.0"
+#define GANDEUCH_VERSION "0.2.0"
 
 /* What a call returns. A new call may bring new numbers; every number but 0 is a refusal. */
 enum {
-    GANDEUCH_WRITTEN = 0,       /* the answer stands in `out` */
-    GANDEUCH_MALFORMED = 1,     /* a text is malformed */
-    GANDEUCH_OVER_BOUND = 2,    /* a text is over a bound */
-    GANDEUCH_OUTSIDE = 3,       /* a position is outside its projection */
-    GANDEUCH_NOT_PROJECT = 4,   /* a root isn't project */
-    GANDEUCH_NOT_MERGEABLE = 5, /* the heads of two queries differ, or their kind can't be merged */
-    GANDEUCH_TOO_SHORT = 6,     /* the answer is longer than `out_size` */
-    GANDEUCH_NOT_USABLE = 7,    /* a value can't be used */
-    GANDEUCH_REPEATED = 10      /* a join list has a position twice on one side */
+    GANDEUCH_WRITTEN = 0,        /* the answer stands in `out` */
+    GANDEUCH_MALFORMED = 1,      /* a text is malformed */
+    GANDEUCH_OVER_BOUND = 2,     /* a text is over a bound */
+    GANDEUCH_OUTSIDE = 3,        /* a position is outside its projection */
+    GANDEUCH_NOT_PROJECT = 4,    /* a root isn't project */
+    GANDEUCH_NOT_MERGEABLE = 5,  /* the heads of two queries differ, or their kind can't be merged */
+    GANDEUCH_TOO_SHORT = 6,      /* the answer is longer than `out_size` */
+    GANDEUCH_NOT_USABLE = 7,     /* a value can't be used */
+    GANDEUCH_LIST_TOO_SHORT = 9, /* more numbers are to be listed than `list_size` */
+    GANDEUCH_REPEATED = 10       /* a join list has a position twice on one side */
 };
 
 /* The stack that a call needs, with room to spare: bench/stack measures it. */
@@ -56,6 +59,9 @@ enum {
 #define GANDEUCH_NEGATE_ROOM(query_size) ((size_t)(query_size) + 38)
 #define GANDEUCH_BINDINGS_ROOM(tree_size, sets_size) ((size_t)(tree_size) + 65 * (size_t)(sets_size) + 14)
 #define GANDEUCH_FILTERS_ROOM(tree_size, filters_size) ((size_t)(tree_size) + 24 * (size_t)(filters_size) + 14)
+
+/* How many entries to lend as `list`: a call that is lent so many never returns GANDEUCH_LIST_TOO_SHORT. It is proved too. */
+#define GANDEUCH_LIST_ROOM ((size_t)64)
 
 #ifdef __cplusplus
 extern "C" {
@@ -106,10 +112,13 @@ uint8_t gandeuch_bindings(const uint8_t *tree, size_t tree_size,
                           uint8_t *out, size_t out_size, size_t *size);
 
 /* filters: the tree with those filters that can be expressed in SPARQL put below its outermost projection. It is copied if there is none, or no
- * such projection. Numbers 1, 2, 3, 6; 3 for any reference outside the projection, also in a filter that can't be expressed. */
+ * such projection. The filters that were not placed are listed by their numbers, counted from 0, rising: those that can't be expressed, those
+ * that are always true, and all of them where there is no such projection. Numbers 1, 2, 3, 6, 9; 3 for any reference outside the
+ * projection, also in a filter that can't be expressed. */
 uint8_t gandeuch_filters(const uint8_t *tree, size_t tree_size,
                          const uint8_t *filters, size_t filters_size,
-                         uint8_t *out, size_t out_size, size_t *size);
+                         uint8_t *out, size_t out_size, size_t *size,
+                         uint16_t *list, size_t list_size, size_t *many);
 
 #ifdef __cplusplus
 }

@@ -12,7 +12,7 @@ import subprocess
 import sys
 
 HERE = os.path.dirname(os.path.abspath(__file__))
-Row = collections.namedtuple("Row", "name kinds c rust room")
+Row = collections.namedtuple("Row", "name kinds c rust room list")
 
 
 def rows():
@@ -20,12 +20,12 @@ def rows():
     with open(os.path.join(HERE, "calls.txt"), encoding="utf8") as file:
         lines = [line.split() for line in file if not line.startswith("#")]
     assert [int(line[0]) for line in lines] == list(range(len(lines))), "calls.txt: the numbers go from 0"
-    return [Row(name, kinds.split(","), c, rust, room) for _, name, kinds, c, rust, room in lines]
+    return [Row(name, kinds.split(","), *others) for _, name, kinds, *others in lines]
 
 
 ROWS = rows()
 NAMES = [row.name for row in ROWS]
-COUNT = {"one": 1, "two": 2, "five": 5}
+COUNT = {"one": 1, "two": 2, "five": 5, "listing": 2}
 
 
 def read(path):
@@ -61,6 +61,16 @@ def rooms(case):
     return sorted({case(row.room) for row in ROWS})
 
 
+def listing(name):
+    """By the table: a field of the calls that list numbers."""
+    return [getattr(row, name) for row in ROWS if row.list != "-"]
+
+
+def lending(path, head, text):
+    """The functions of a file that have a list."""
+    return [name for name, count in functions(path, head, text).items() if count]
+
+
 def files(folder, ends):
     return sorted(name + end for name in NAMES for end in ends), sorted(os.listdir(os.path.join(HERE, folder)))
 
@@ -71,14 +81,19 @@ def pairs():
     table = read("crates/answering/specs/Answering.antt").split("\ncalls =\n")[1].split("[]")[0]
     yield "answering/specs", {name: COUNT[count] for count, name in re.findall(r'(\w+) "(\w+)"', table)}, counted("name")
     yield "answering/specs, in order", re.findall(r'"(\w+)"', table), NAMES
-    yield "answering/src", named("crates/answering/src/lib.rt", r'= \*b"(\w+)";'), NAMES
+    yield "answering/specs, lists", re.findall(r'listing "(\w+)"', table), listing("name")
+    yield "gandeuch/src, lists", lending("crates/gandeuch/src/lib.rt", r'extern "C" fn ', ": &mut [u16]"), listing("c")
+    yield "include, lists", lending("include/gandeuch.h", r"\nuint8_t ", "uint16_t *"), listing("c")
+    yield "rust/src/ffi.rs, lists", lending("rust/src/ffi.rs", "pub fn ", "*mut u16"), listing("c")
+    yield "rust/src/lib.rs, lists", named("rust/src/lib.rs", r"\npub fn (\w+)\([^)]*\) -> Result<\(Vec<u8>, Vec<u16>\)"), listing("rust")
+    yield "answering/src", named("crates/answering/src/lib.rt", r'= \*b"(\w+)";'), [*NAMES, *sorted({row.list for row in ROWS} - {"-"})]
     yield "gandeuch/src", functions("crates/gandeuch/src/lib.rt", r'extern "C" fn ', ": &[u8]"), counted("c")
     yield "include", functions("include/gandeuch.h", r"\nuint8_t ", "const uint8_t *"), counted("c")
     yield "rust/src/ffi.rs", functions("rust/src/ffi.rs", "pub fn ", "*const u8"), counted("c")
     yield "rust/src/lib.rs", functions("rust/src/lib.rs", "\npub fn ", ": &[u8]"), counted("rust")
     yield "rooms for C", sorted(named("include/gandeuch.h", r"#define GANDEUCH_(\w+)_ROOM\(")), rooms(str)
     yield "rooms for Rust", sorted(named("rust/src/room.rs", r"pub fn (\w+)\(")), rooms(str.lower)
-    yield "rooms proved", sorted(named("crates/room/specs/Room.antt", r"pub (\w+)Room :")), rooms(str.lower)
+    yield "rooms proved", sorted(named("crates/room/specs/Room.antt", r"pub (\w+)Room :")), sorted([*rooms(str.lower), "list"])
     yield "run --help", helped(), counted("name")
     yield "run", {name: int(count) - 1 for count, name in named("run", r'"([0-9]) (\w+)"') if name in NAMES}, counted("name")
     yield "install", {"call", "merge"} - set(named("install", r'programs="(.*)"')[0].split()), set()
@@ -94,7 +109,8 @@ def pairs():
     yield "rust/tests", set(NAMES) - set(named("rust/tests/answers.rs", r'\("(\w+)"')), set()
     yield "tests/c", {row.c for row in ROWS} - set(named("tests/c/calls.c", r"\b(gandeuch_\w+)\(")), set()
     yield ("tests/vectors", *files("vectors", [".txt"]))
-    yield ("tests/calls", *files("calls", [".stdin", ".stdout"]))
+    stored, found = files("calls", [".stdin", ".stdout"])
+    yield "tests/calls", sorted(stored + [name + ".stderr" for name in listing("name")]), found
 
 
 def main():

@@ -7,7 +7,8 @@ writes OUTDIR/cases and OUTDIR/expected, the same bytes each time. First come
 the cases of vectors/, whose answers are those of nemo's Rust, then the inputs
 below, in written_merges.py, written_placings.py and written_empty.py, whose
 answers are written by hand from the rules of docs/SPECIFICATION.md, then the
-calls of that page. It stops where second_calls.py writes another answer.
+calls of that page. It stops where second_calls.py writes another answer or lists
+other filters. The Rust lists none, so that its cases have the list of second_calls.py.
 
 vectors/NAME.txt: a head, then the cases; a line ==== follows each of them. A
 case is what the call NAME reads, a line ->, and what it must write. `%` and
@@ -15,7 +16,7 @@ two hexadecimal digits stand for a byte.
 
 cases: for each record a line `DIGIT TAB LENGTH TAB LABEL`, then LENGTH bytes
 and a line end; DIGIT is the call's number in calls.txt. expected: for each record
-a line with its label, then what the program `call` writes.
+a line with its label, then what the program `call` writes, the line `left` last.
 """
 import os
 import sys
@@ -84,7 +85,7 @@ WRITTEN = [
 def records():
     for program in calls.NAMES:
         for number, (given, answer) in enumerate(recorded(program), 1):
-            yield program, "%s-%d" % (program, number), given, answer
+            yield program, "%s-%d" % (program, number), given, answer + second_calls.left(program, given)
     for program, name, given, answer in WRITTEN + written_merges.WRITTEN + written_placings.WRITTEN + written_empty.WRITTEN:
         yield program, "%s-%s" % (program, name), given, answer
     for program, name, given, answer in specification.calls():
@@ -95,7 +96,7 @@ def main(outdir):
     os.makedirs(outdir, exist_ok=True)
     with open(os.path.join(outdir, "cases"), "wb") as cases, open(os.path.join(outdir, "expected"), "wb") as expected:
         for program, label, given, answer in records():
-            assert second_calls.answer(program, given) == answer, label
+            assert second_calls.shown(program, given) == answer, label
             cases.write(b"%d\t%d\t%s\n" % (calls.NAMES.index(program), len(given), label.encode()))
             cases.write(given + b"\n")
             expected.write(label.encode() + b"\n" + answer)

@@ -1,11 +1,12 @@
 #!/usr/bin/env python3
 """The calls a second time, from docs/SPECIFICATION.md alone.
 
-answer(program, data) is what the call of that name writes. It shares no code
-with the product: texts are judged by second_reader.py, a tree is a line's fields
-with the nodes below it, and every rule is told as its section tells it.
+answer(program, data) is what the call of that name writes, left(program, data)
+the line `left` that goes to standard error, and shown(program, data) is both. It
+shares no code with the product: texts are judged by second_reader.py, a tree is a
+line's fields with the nodes below it, and every rule is told as its section tells it.
 
-    python3 second_calls.py PROGRAM FILE    writes the answer
+    python3 second_calls.py PROGRAM FILE    writes both
 """
 import sys
 
@@ -280,13 +281,24 @@ def expression(part, names):
     return None
 
 
+def placed_expression(part, names):
+    """The expression of a filter that is placed, or None: one that is always true isn't."""
+    return None if part.fields[:3] == [b"leaf", b"Boolean", b"true"] else expression(part, names)
+
+
+def not_placed(root, filters):
+    """The numbers of the filters that are not placed."""
+    found = projection(root)
+    return [number for number, part in enumerate(filters) if not found or placed_expression(part, columns(found)) is None]
+
+
 def with_filters(root, filters):
     found = projection(root)
     if not found:
         return root
     for part in filters:
         inside(references(part), columns(found))
-    placed = [expression(part, columns(found)) for part in filters if part.fields[:3] != [b"leaf", b"Boolean", b"true"]]
+    placed = [placed_expression(part, columns(found)) for part in filters]
     placed = [each for each in placed if each]
     if placed:
         condition = placed[0]
@@ -358,8 +370,22 @@ def answer(program, data):
         return b"refused\t%d\n" % refusal.args[0]
 
 
+def left(program, data):
+    """The line `left` of the filters that were not placed, if there are any."""
+    if program != "filters" or answer(program, data).startswith(b"refused\t"):
+        return b""
+    first, second = parted(data)
+    numbers = not_placed(tree(first), nodes(records(second)))
+    return b"\t".join([b"left", *(b"%d" % number for number in numbers)]) + b"\n" if numbers else b""
+
+
+def shown(program, data):
+    """What the program `vectors` shows of an input: the answer, and behind it the line `left`."""
+    return answer(program, data) + left(program, data)
+
+
 if __name__ == "__main__":
     if len(sys.argv) != 3 or sys.argv[1] not in TEXTS:
         sys.exit("usage: second_calls.py " + "|".join(TEXTS) + " FILE")
     with open(sys.argv[2], "rb") as file:
-        sys.stdout.buffer.write(answer(sys.argv[1], file.read()))
+        sys.stdout.buffer.write(shown(sys.argv[1], file.read()))

@@ -11,7 +11,8 @@ section that is cited is there. make_texts.py and make_vectors.py take the
 examples from here, so that the proved checks and programs are run on them.
 
 A fenced block headed `KIND` or `KIND NUMBER` is a text, one headed `call
-PROGRAM` what a program reads, a line ->, and what it writes, one headed `rows`
+PROGRAM` what a program reads, a line ->, and what it writes, the line `left` of
+standard error last, one headed `rows`
 an evaluation as counting/evaluations.py has it. In a table a column headed by
 a kind or a call has one example a cell, with a space for a tab and ` / `
 between lines; the answer of a call stands in the column `->`.
@@ -22,7 +23,7 @@ import re
 import sys
 
 from random_texts import WORDS
-from second_calls import TEXTS, answer
+from second_calls import TEXTS, answer, shown
 from second_reader import KINDS, number
 
 HERE = os.path.dirname(os.path.abspath(__file__))
@@ -104,10 +105,10 @@ def hold_texts():
 
 def hold_calls():
     for program, label, given, written in calls():
-        found = answer(program, given)
+        found = shown(program, given)
         assert found == written, "%s: %r on the page, %r by the second calls" % (label, written, found)
         if program != "scope" and not written.startswith(b"refused"):
-            assert number(TEXTS[program][0], written) == 0, "%s: %r" % (label, written)
+            assert number(TEXTS[program][0], answer(program, given)) == 0, "%s: %r" % (label, written)
 
 
 def hold_rows():

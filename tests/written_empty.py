@@ -80,7 +80,7 @@ PLACINGS = [
     bindings("empty-sets-malformed", 1, "", "set 0"), bindings("empty-sets-over", 2, "", "/".join(["set 0 0/at"] * 65)), bindings("empty-line", 1, b"\n"),
     filters("empty", LINES, ""), filters("empty-constant", 'project/filter/bgp 0/term "false"^^<d>', "", "leaf Boolean false <d>"),
     filters("empty-two", 'project/filter/bgp 0/and/term <k>/eq/term "1"/term "1"', "", "leaf Iri k -/bin Equals/leaf PlainString 1 -/leaf PlainString 1 -"),
-    filters("empty-true", LINES, "", "leaf Boolean true <d>"), filters("empty-dropped", LINES, "", "nary f 0"), filters("empty-reference", 3, "", "ref 0"),
+    filters("empty-true", LINES, "", "leaf Boolean true <d>", [0]), filters("empty-dropped", LINES, "", "nary f 0", [0]), filters("empty-reference", 3, "", "ref 0"),
     filters("empty-reference-dropped", 3, "", "nary f 1/ref 0"), filters("empty-filters-malformed", 1, "", "un f"),
     filters("empty-filters-over", 2, "", "/".join(["nary f 0"] * 65)), filters("empty-line", 1, b"\n"),
 ]

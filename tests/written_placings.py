@@ -7,8 +7,10 @@ def bindings(name, expected, tree, sets=""):
     return "bindings", name, parted(tree, sets), answer(expected)
 
 
-def filters(name, expected, tree, placed=""):
-    return "filters", name, parted(tree, placed), answer(expected)
+def filters(name, expected, tree, placed="", left=()):
+    """`left` are the numbers of the filters that are not placed, in a line of their own behind the answer."""
+    line = "left " + " ".join(map(str, left)) if left else ""
+    return "filters", name, parted(tree, placed), answer(expected) + (text(line) if line else b"")
 
 
 TREE = "project ?a ?b/bgp 1/t ?a <p> ?b"
@@ -48,7 +50,7 @@ VALUES = [
     filters("tagged-string", filtered('eq/term ?a/term "x"@en-gb'), TREE, "bin Equals/ref 0/leaf LanguageTaggedString x en-gb"),
     filters("iri", filtered("eq/term ?a/term <x>"), TREE, "bin Equals/ref 0/leaf Iri x -"),
     *[filters("typed-" + name, filtered('eq/term ?b/term "1"^^<d>'), TREE, "bin Equals/ref 1/leaf %s 1 <d>" % name) for name in TYPED],
-    *[filters("dropped-" + name, TREE, TREE, "bin Equals/ref 0/leaf %s x %s" % (name, extra))
+    *[filters("dropped-" + name, TREE, TREE, "bin Equals/ref 0/leaf %s x %s" % (name, extra), [0])
       for name, extra in (("Null", "-"), ("Tuple", "-"), ("Map", "-"), ("Other", "<d>"))],
 ]
 
@@ -79,17 +81,17 @@ BINDINGS = [
 # What is expressed, dropped, placed and refused.
 FILTERS = [
     filters("no-filters", TREE, TREE),
-    filters("no-projection", NONE, NONE, "ref 9"),
+    filters("no-projection", NONE, NONE, "ref 9", [0]),
     filters("reference", filtered("term ?b"), TREE, "ref 1"),
     filters("unequals", filtered("not/eq/term ?a/term ?b"), TREE, "bin Unequals/ref 0/ref 1"),
     filters("datatype", filtered("call DATATYPE 1/term ?a"), TREE, "un Datatype/ref 0"),
     filters("language-tag", filtered("call LANG 1/term ?a"), TREE, "un LanguageTag/ref 0"),
     filters("nested-left", filtered("and/and/term ?a/term ?b/call LANG 1/term ?a"), TREE, "ref 0/ref 1/un LanguageTag/ref 0"),
-    filters("always-true", TREE, TREE, "leaf Boolean true <d>"),
+    filters("always-true", TREE, TREE, "leaf Boolean true <d>", [0]),
     filters("false-stays", filtered('term "false"^^<d>'), TREE, "leaf Boolean false <d>"),
     filters("true-inside", filtered('eq/term "true"^^<d>/term ?a'), TREE, "bin Equals/leaf Boolean true <d>/ref 0"),
-    filters("one-part-drops-all", filtered("term ?b"), TREE, "bin Equals/un Other/ref 0/ref 1/ref 1"),
-    filters("other-shapes", TREE, TREE, "un Equals/ref 0/bin Datatype/ref 0/ref 0/tern Equals/ref 0/ref 0/ref 0/nary Equals 2/ref 0/ref 1"),
+    filters("one-part-drops-all", filtered("term ?b"), TREE, "bin Equals/un Other/ref 0/ref 1/ref 1", [0]),
+    filters("other-shapes", TREE, TREE, "un Equals/ref 0/bin Datatype/ref 0/ref 0/tern Equals/ref 0/ref 0/ref 0/nary Equals 2/ref 0/ref 1", [0, 1, 2, 3]),
     filters("below-slice", "slice 0 5/project ?a/filter/bgp 0/term ?a", "slice 0 5/project ?a/bgp 0", "ref 0"),
     filters("outside", 3, TREE, "ref 2"),
     filters("outside-though-dropped", 3, TREE, "nary Other 1/ref 2"),
@@ -100,4 +102,26 @@ FILTERS = [
     ("filters", "two-bars", text(TREE) + BAR + BAR, refused(1)),
 ]
 
-WRITTEN = VALUES + BINDINGS + FILTERS
+# Which filters are listed, by number from 0.
+LISTS = [
+    filters("left-first", filtered("term ?b"), TREE, "un Other/ref 0/ref 1", [0]),
+    filters("left-last", filtered("term ?b"), TREE, "ref 1/un Other/ref 0", [1]),
+    filters("left-between", filtered("and/term ?a/term ?b"), TREE, "ref 0/un Other/ref 0/ref 1", [1]),
+    filters("left-around", filtered("term ?a"), TREE, "leaf Boolean true <d>/ref 0/nary f 0", [0, 2]),
+    filters("left-counts-filters", filtered("term ?b"), TREE, "bin Equals/un Other/ref 0/ref 1/tern x/ref 0/ref 0/ref 0/ref 1/nary x 1/ref 0", [0, 1, 3]),
+    filters("left-true-whatever-datatype", TREE, TREE, "leaf Boolean true <d>/leaf Boolean true <e>", [0, 1]),
+    filters("left-not-true", filtered('and/term "True"^^<d>/term "true"'), TREE, "leaf Boolean True <d>/leaf PlainString true -"),
+    filters("left-true-below-not", filtered('eq/term "true"^^<d>/term "true"^^<d>'), TREE, "bin Equals/leaf Boolean true <d>/leaf Boolean true <d>"),
+    filters("left-all-not-found", "minus/project ?a/bgp 0/bgp 0", "minus/project ?a/bgp 0/bgp 0", "ref 9/leaf Boolean false <d>/leaf Boolean true <d>/ref 0", [0, 1, 2, 3]),
+    filters("left-none-not-found", NONE, NONE),
+    filters("left-below-group", "group 0 0/cols/project ?a/filter/bgp 0/term ?a", "group 0 0/cols/project ?a/bgp 0", "nary x 0/ref 0", [0]),
+    filters("left-two-digits", "project ?a/filter/bgp 0/term ?a", "project ?a/bgp 0", "/".join(["nary x 0"] * 10 + ["ref 0"] + ["nary x 0"] * 2), [*range(10), 11, 12]),
+    filters("left-64", "project ?a/bgp 0", "project ?a/bgp 0", "/".join(["nary x 0"] * 64), range(64)),
+    filters("left-64-not-found", NONE, NONE, "/".join(["ref 9"] * 64), range(64)),
+    filters("left-last-of-64", "project ?a/filter/bgp 0/" + "and/" * 62 + "/".join(["term ?a"] * 63), "project ?a/bgp 0", "/".join(["ref 0"] * 63 + ["nary x 0"]), [63]),
+    filters("left-none-of-64", "project ?a/filter/bgp 0/" + "and/" * 63 + "/".join(["term ?a"] * 64), "project ?a/bgp 0", "/".join(["ref 0"] * 64)),
+    filters("refused-lists-none", 3, TREE, "nary x 0/ref 2"),
+    filters("too-long-lists-none", 6, "project ?%s/bgp 0" % ("a" * 128), "nary x 0/nary x 0" + ("/bin Equals" * 9 + "/ref 0" * 10) * 62),
+]
+
+WRITTEN = VALUES + BINDINGS + FILTERS + LISTS

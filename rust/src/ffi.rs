@@ -87,5 +87,8 @@ unsafe extern "C" {
         out: *mut u8,
         out_size: usize,
         size: *mut usize,
+        list: *mut u16,
+        list_size: usize,
+        many: *mut usize,
     ) -> u8;
 }

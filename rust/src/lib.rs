@@ -81,19 +81,27 @@ pub use refusal::Refusal;
 
 /// What a call answers to its texts, in a buffer with room for it.
 macro_rules! answer {
-    ($call:ident, $room:expr, $($text:ident),+) => {{
+    ($call:ident, $room:expr, $($text:ident),+ $(; $list:ident, $many:ident)?) => {{
         $(let $text: &[u8] = $text;)+
         answered($room, |out: &mut [u8], size: &mut usize| {
             // SAFETY: gandeuch.h asks for five things.
             // "no pointer is null, also where the number of bytes beside it is 0": pointers of slices never are.
-            // "each pointer is good for as many bytes as the number beside it says, at most PTRDIFF_MAX, and a text's bytes
-            // have values": each pointer goes with its own slice's length, and a slice promises just this.
-            // "`out` overlaps no text, and `size` lies in none of them, nor in `out`": both are lent exclusively.
-            // "nothing else writes the texts, or reads or writes `out` and `size`, before the call returns": the texts
-            // are lent until then, the other two exclusively.
+            // "each pointer is good for as many bytes, or entries of `list`, as the number beside it says, at most PTRDIFF_MAX
+            // bytes, and a text's bytes have values": each pointer goes with its own slice's length, and a slice promises
+            // just this.
+            // "`out` overlaps no text, `list` neither a text nor `out`, and `size` and `many` lie in none of them, nor in each
+            // other": the four are lent exclusively.
+            // "nothing else writes the texts, or reads or writes `out`, `size`, `list` and `many`, before the call returns":
+            // the texts are lent until then, the other four exclusively.
             // "GANDEUCH_STACK bytes of stack are left": `answered` has touched more than that before it comes here.
             unsafe {
-                ffi::$call($($text.as_ptr(), $text.len(),)+ out.as_mut_ptr(), out.len(), size)
+                ffi::$call(
+                    $($text.as_ptr(), $text.len(),)+
+                    out.as_mut_ptr(),
+                    out.len(),
+                    size
+                    $(, $list.as_mut_ptr(), $list.len(), &mut $many)?
+                )
             }
         })
     }};
@@ -215,24 +223,26 @@ pub fn bindings(tree: &[u8], sets: &[u8]) -> Result<Vec<u8>, Refusal> {
 }
 
 /// The tree with those filters that can be expressed in SPARQL put below its outermost projection. It is copied if there is none,
-/// or no such projection. A filter that can't be expressed, or that is always true, is left out without a word.
+/// or no such projection. Beside it are the numbers of the filters that were not placed, counted from 0 and rising: those that can't
+/// be expressed, those that are always true, and all of them where there is no such projection.
 ///
 /// ```
 /// let tree = b"project\t?event\t?relay\nbgp\t1\nt\t?event\t<by>\t?relay\n";
-/// let filtered = gandeuch::filters(tree, b"bin\tUnequals\nref\t1\nleaf\tIri\tr7\t-\n")?;
+/// let given = b"un\tStringLength\nref\t0\nbin\tUnequals\nref\t1\nleaf\tIri\tr7\t-\n";
+/// let (filtered, left) = gandeuch::filters(tree, given)?;
 /// assert_eq!(
 ///     filtered,
 ///     b"project\t?event\t?relay\nfilter\nbgp\t1\nt\t?event\t<by>\t?relay\nnot\neq\nterm\t?relay\nterm\t<r7>\n"
 /// );
+/// assert_eq!(left, [0]);
 /// # Ok::<(), gandeuch::Refusal>(())
 /// ```
-pub fn filters(tree: &[u8], filters: &[u8]) -> Result<Vec<u8>, Refusal> {
-    answer!(
-        gandeuch_filters,
-        room::filters(tree, filters),
-        tree,
-        filters
-    )
+pub fn filters(tree: &[u8], filters: &[u8]) -> Result<(Vec<u8>, Vec<u16>), Refusal> {
+    let (mut list, mut many) = (vec![0; room::LIST], 0);
+    let room = room::filters(tree, filters);
+    let answer = answer!(gandeuch_filters, room, tree, filters; list, many)?;
+    list.truncate(many);
+    Ok((answer, list))
 }
 
 /// More than any answer has.
@@ -249,7 +259,10 @@ fn touch_stack() {
 }
 
 /// The answer of a call that is lent a buffer of `room` bytes. These suffice; should a call say that they don't, it is lent more.
-fn answered(room: usize, call: impl Fn(&mut [u8], &mut usize) -> u8) -> Result<Vec<u8>, Refusal> {
+fn answered(
+    room: usize,
+    mut call: impl FnMut(&mut [u8], &mut usize) -> u8,
+) -> Result<Vec<u8>, Refusal> {
     touch_stack();
     let mut room = room;
     loop {

@@ -22,6 +22,8 @@ pub enum Refusal {
     TooShort,
     /// A value can't be used: a tuple or a map.
     NotUsable,
+    /// More numbers are to be listed than there is room for. No function of this crate returns it, as they make room for all.
+    ListTooShort,
     /// A join list has a position twice on one side.
     Repeated,
     /// A number that this version of the crate has no name for.
@@ -38,6 +40,7 @@ impl Refusal {
         Self::NotMergeable,
         Self::TooShort,
         Self::NotUsable,
+        Self::ListTooShort,
         Self::Repeated,
     ];
 
@@ -51,6 +54,7 @@ impl Refusal {
             Self::NotMergeable => 5,
             Self::TooShort => 6,
             Self::NotUsable => 7,
+            Self::ListTooShort => 9,
             Self::Repeated => 10,
             Self::Other(number) => number,
         }
@@ -76,6 +80,7 @@ impl Display for Refusal {
             Self::NotMergeable => "the heads of two queries differ, or can't be merged",
             Self::TooShort => "the answer is longer than the room for it",
             Self::NotUsable => "a value can't be used",
+            Self::ListTooShort => "more numbers are to be listed than there is room for",
             Self::Repeated => "a join list has a position twice on one side",
             Self::Other(number) => return write!(f, "refused by the number {number}"),
         })

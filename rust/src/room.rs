@@ -36,3 +36,6 @@ pub fn bindings(tree: &[u8], sets: &[u8]) -> usize {
 pub fn filters(tree: &[u8], filters: &[u8]) -> usize {
     length(tree) + 24 * length(filters) + 14
 }
+
+/// Entries of a list: as many as there are filters at most.
+pub const LIST: usize = 64;

@@ -97,6 +97,7 @@ fn from_c(parameter: &str) -> String {
     let kinds = [
         ("const uint8_t *", "*const u8"),
         ("uint8_t *", "*mut u8"),
+        ("uint16_t *", "*mut u16"),
         ("size_t *", "*mut usize"),
         ("size_t ", "usize"),
     ];
@@ -159,6 +160,7 @@ fn rooms_are_those_of_the_header() {
             room::filters(&tree, &list),
             354,
         ),
+        ("LIST_ROOM(64)", room::LIST, 64),
         ("TEXT(16384)", room::scope(&[0; 20_000]), 16_391),
         ("STACK(262144)", STACK, 262_144 + 4_096),
     ];

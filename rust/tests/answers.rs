@@ -19,7 +19,7 @@ fn call(name: &str, texts: &[Vec<u8>]) -> Result<Vec<u8>, Refusal> {
         ("push", [query, constants]) => gandeuch::push_constants(query, constants),
         ("negate", [query]) => gandeuch::negate(query),
         ("bindings", [tree, sets]) => gandeuch::bindings(tree, sets),
-        ("filters", [tree, filters]) => gandeuch::filters(tree, filters),
+        ("filters", [tree, filters]) => gandeuch::filters(tree, filters).map(|(answer, _)| answer),
         _ => panic!("{name} with {} texts is no call", texts.len()),
     }
 }
@@ -83,11 +83,12 @@ fn empty_files() {
         (gandeuch::push_constants(head, b""), [head, lines].concat()),
         (gandeuch::negate(head), [head, negated].concat()),
         (gandeuch::bindings(b"", b""), lines.to_vec()),
-        (gandeuch::filters(b"", b"nary\tf\t0\n"), lines.to_vec()),
     ];
     for (answer, expected) in answers {
         assert_eq!(answer, Ok(expected));
     }
+    let filtered = gandeuch::filters(b"", b"nary\tf\t0\n");
+    assert_eq!(filtered, Ok((lines.to_vec(), vec![0])));
     let outside = gandeuch::merge_patterns(b"", TREE, b"0\t0\n", b"", b"");
     assert_eq!(outside, Err(Refusal::Outside));
     let heads = gandeuch::merge_queries(head, other, b"", b"", b"");
@@ -110,10 +111,22 @@ fn bindings_and_filters() {
     assert_eq!(tuple, Err(Refusal::NotUsable));
 
     let filter = b"bin\tUnequals\nref\t1\nleaf\tPlainString\tspare\t-\n";
+    let placed = b"project\t?r\t?bay\nfilter\nbgp\t1\nt\t?r\t<in>\t?bay\nnot\neq\nterm\t?bay\nterm\t\"spare\"\n";
     assert_eq!(
-        gandeuch::filters(TREE, filter).map(String::from_utf8),
-        Ok(Ok("project\t?r\t?bay\nfilter\nbgp\t1\nt\t?r\t<in>\t?bay\nnot\neq\nterm\t?bay\nterm\t\"spare\"\n".to_string()))
+        gandeuch::filters(TREE, filter),
+        Ok((placed.to_vec(), vec![]))
     );
+    let others = [
+        b"leaf\tBoolean\ttrue\t<d>\n",
+        &filter[..],
+        b"un\tOther\nref\t0\n",
+    ];
+    assert_eq!(
+        gandeuch::filters(TREE, &others.concat()),
+        Ok((placed.to_vec(), vec![0, 2]))
+    );
+    let all = gandeuch::filters(b"bgp\t0\n", &b"ref\t9\n".repeat(64));
+    assert_eq!(all, Ok((b"bgp\t0\n".to_vec(), (0..64).collect())));
     assert_eq!(gandeuch::filters(TREE, b"ref\t2\n"), Err(Refusal::Outside));
     assert_eq!(gandeuch::filters(TREE, b"un\t"), Err(Refusal::Malformed));
 }
@@ -121,7 +134,7 @@ fn bindings_and_filters() {
 #[test]
 fn numbers_and_messages() {
     let numbers: Vec<_> = Refusal::ALL.iter().map(|refusal| refusal.number()).collect();
-    assert_eq!(numbers, [1, 2, 3, 4, 5, 6, 7, 10]);
+    assert_eq!(numbers, [1, 2, 3, 4, 5, 6, 7, 9, 10]);
     for &refusal in Refusal::ALL {
         let error: Box<dyn std::error::Error> = Box::new(refusal);
         assert!(!error.to_string().is_empty());

@@ -113,7 +113,8 @@ fn the_deepest_answer_is_read() {
     let tree = [text("distinct").repeat(62), text("project|?a/bgp|0")].concat();
     let first = [text("bin|Unequals").repeat(63), text("ref|0").repeat(64)].concat();
     let filters = [first, text("ref|0").repeat(63)].concat();
-    let answer = gandeuch::filters(&tree, &filters).expect("an answer");
+    let (answer, left) = gandeuch::filters(&tree, &filters).expect("an answer");
+    assert!(left.is_empty());
     let read = layout::read_pattern(&answer).expect("a tree");
     assert_eq!(layout::write_pattern(&read), Ok(answer));
 }

@@ -6,7 +6,7 @@
 
 #include "gandeuch.h"
 
-enum { AROUND = 64, ROOM = 1024, BUFFER = AROUND + ROOM + AROUND, LONGEST = 16384, ENTRIES = 64, TEXTS = 5, MADE = 12 };
+enum { AROUND = 64, ROOM = 1024, BUFFER = AROUND + ROOM + AROUND, LONGEST = 16384, ENTRIES = 64, TEXTS = 5, MADE = 14 };
 
 #define TREE "project\t?a\t?b\nminus\nbgp\t1\nt\t?a\t<p>\t?b\nservice\t?s\t0\nbgp\t1\nt\t?b\t<q>\t?c\n"
 #define SCOPE "in\t?a\t?b\nhid\t?a\t?b\t?c\n"
@@ -76,8 +76,13 @@ static uint8_t bindings(const struct text *texts, uint8_t *out, size_t out_size,
     return gandeuch_bindings(GIVEN(0), GIVEN(1), out, out_size, size);
 }
 
+/* The list that is lent to filters, with entries around it, how many of it are lent, and how many numbers were written. */
+static uint16_t list[AROUND + ENTRIES + AROUND];
+static size_t lent = ENTRIES, many;
+
 static uint8_t filters(const struct text *texts, uint8_t *out, size_t out_size, size_t *size) {
-    return gandeuch_filters(GIVEN(0), GIVEN(1), out, out_size, size);
+    many = 12345;
+    return gandeuch_filters(GIVEN(0), GIVEN(1), out, out_size, size, list + AROUND, lent, &many);
 }
 
 static int failures = 0;
@@ -251,6 +256,67 @@ static void bindings_of_sets(void) {
     expect("bindings-not-usable", bindings, TEXTS_OF(LEFT, "set\t1\t1\nat\t0\nrow\tTuple\tx\t-\n"), 0, 7, "");
 }
 
+/* An entry that stands at a place before the call. */
+static uint16_t entry_before(size_t place) {
+    return (uint16_t)(place * 257 + 4099);
+}
+
+/* What is wrong with the list after a call, or a null pointer. */
+static const char *list_fault(const uint16_t *numbers, size_t count) {
+    if (many != count)
+        return "another number of numbers";
+    for (size_t i = 0; i < AROUND + ENTRIES + AROUND; i++) {
+        int inside = AROUND <= i && i < AROUND + count;
+        if (list[i] != (inside ? numbers[i - AROUND] : entry_before(i)))
+            return inside ? "another list" : "an entry changed that is not the list's";
+    }
+    return NULL;
+}
+
+#define NUMBERS(...) ((const uint16_t[]){__VA_ARGS__}), sizeof((const uint16_t[]){__VA_ARGS__}) / sizeof(uint16_t)
+
+/* The call filters with so much room and so many entries lent. A refusal has the answer "" and no numbers. */
+static void expect_list(const char *label, const char *const given[TEXTS], size_t room, size_t entries, uint8_t number, const char *answer,
+                        const uint16_t *numbers, size_t count) {
+    for (size_t i = 0; i < AROUND + ENTRIES + AROUND; i++)
+        list[i] = entry_before(i);
+    lent = entries;
+    expect(label, filters, given, room, number, answer);
+    lent = ENTRIES;
+    const char *wrong = list_fault(numbers, count);
+    printf("%s-list\t%zu\t%s\n", label, many, wrong ? wrong : "ok");
+    failures += wrong != NULL;
+}
+
+#define OTHERS "un\tOther\nref\t0\n" FILTER "leaf\tBoolean\ttrue\t<d>\n"
+
+static void filters_listed(void) {
+    const char *const given[TEXTS] = {DISTINCT, OTHERS}, *const missed[TEXTS] = {BELOW_JOIN, OTHERS};
+    size_t exact = strlen(WITH_FILTER);
+    expect_list("listed", given, ROOM, ENTRIES, 0, WITH_FILTER, NUMBERS(0, 2));
+    expect_list("listed-exact", given, exact, 2, 0, WITH_FILTER, NUMBERS(0, 2));
+    expect_list("listed-short-by-one", given, exact, 1, 9, "", NULL, 0);
+    expect_list("listed-no-entries", given, exact, 0, 9, "", NULL, 0);
+    expect_list("listed-six-before-nine", given, exact - 1, 1, 6, "", NULL, 0);
+    expect_list("listed-six", given, exact - 1, ENTRIES, 6, "", NULL, 0);
+    expect_list("listed-none", TEXTS_OF(DISTINCT, FILTER), exact, 0, 0, WITH_FILTER, NULL, 0);
+    expect_list("listed-no-filters", TEXTS_OF(DISTINCT), ROOM, 0, 0, DISTINCT, NULL, 0);
+    expect_list("listed-not-found", missed, ROOM, 3, 0, BELOW_JOIN, NUMBERS(0, 1, 2));
+    expect_list("listed-not-found-short", missed, ROOM, 2, 9, "", NULL, 0);
+    expect_list("listed-not-found-six", missed, strlen(BELOW_JOIN) - 1, 0, 6, "", NULL, 0);
+    expect_list("listed-none-placed", TEXTS_OF(LEFT, "nary\tf\t0\n"), strlen(LEFT), 1, 0, LEFT, NUMBERS(0));
+    expect_list("listed-none-placed-short", TEXTS_OF(LEFT, "nary\tf\t0\n"), strlen(LEFT), 0, 9, "", NULL, 0);
+    expect_list("listed-empty-file", TEXTS_OF("", "nary\tf\t0\n"), ROOM, 1, 0, EMPTY, NUMBERS(0));
+    expect_list("listed-empty-file-short", TEXTS_OF("", "nary\tf\t0\n"), ROOM, 0, 9, "", NULL, 0);
+    expect_list("listed-outside", TEXTS_OF(LEFT, "nary\tf\t1\nref\t2\n"), 0, 0, 3, "", NULL, 0);
+    expect_list("listed-malformed", TEXTS_OF(LEFT, "un\n"), 0, 0, 1, "", NULL, 0);
+    expect_list("listed-over", TEXTS_OF(LEFT, repeated("", "nary\tf\t0\n", ENTRIES + 1, "")), 0, 0, 2, "", NULL, 0);
+    uint16_t all[ENTRIES];
+    for (uint16_t i = 0; i < ENTRIES; i++)
+        all[i] = i;
+    expect_list("listed-all", TEXTS_OF(LEFT, repeated("", "nary\tf\t0\n", ENTRIES, "")), ROOM, GANDEUCH_LIST_ROOM, 0, LEFT, all, ENTRIES);
+}
+
 static void filters_placed(void) {
     expect_in_rooms("filters", filters, TEXTS_OF(DISTINCT, FILTER), WITH_FILTER);
     expect("filters-none", filters, TEXTS_OF(DISTINCT), ROOM, 0, DISTINCT);
@@ -272,5 +338,6 @@ int main(void) {
     negations();
     bindings_of_sets();
     filters_placed();
+    filters_listed();
     return failures ? EXIT_FAILURE : EXIT_SUCCESS;
 }

@@ -14,6 +14,7 @@ _Static_assert(GANDEUCH_PUSH_ROOM(LONGEST, LONGEST) == 65578, "push");
 _Static_assert(GANDEUCH_NEGATE_ROOM(LONGEST) == 16422, "negate");
 _Static_assert(GANDEUCH_BINDINGS_ROOM(LONGEST, LONGEST) == 1081358, "bindings");
 _Static_assert(GANDEUCH_FILTERS_ROOM(LONGEST, LONGEST) == 409614, "filters");
+_Static_assert(GANDEUCH_LIST_ROOM == 64, "list");
 
 /* A text, and a byte more for the zero that ends it while it is made. */
 struct text {
@@ -106,7 +107,9 @@ static void placings(void) {
     uint8_t number = gandeuch_bindings(tree.bytes, tree.size, sets.bytes, sets.size, out, room, &size);
     held("bindings", number, size, room, tree.size + 64 * sets.size);
     room = GANDEUCH_FILTERS_ROOM(tree.size, filters.size);
-    number = gandeuch_filters(tree.bytes, tree.size, filters.bytes, filters.size, out, room, &size);
+    uint16_t list[GANDEUCH_LIST_ROOM];
+    size_t many;
+    number = gandeuch_filters(tree.bytes, tree.size, filters.bytes, filters.size, out, room, &size, list, GANDEUCH_LIST_ROOM, &many);
     held("filters", number, size, room, tree.size + 23 * filters.size);
 }
 

@@ -9,10 +9,8 @@ use lib.ListN.{length, take}
 use lib.Dec.{leb, eqb}
 use Rattle.text.specs.Text.{Bytes}
 use Rattle.parted.specs.Parted.{texts}
-use Rattle.algebra.specs.Tree.{Pattern}
-use Rattle.algebra.specs.Query.{Query, Filter, mapping}
+use Rattle.algebra.specs.Query.{Query, mapping}
 use Rattle.algebra.specs.Tally.{bounds}
-use Rattle.algebra.specs.Reader.{Outcome as Reading, reads, refuses}
 use Rattle.algebra.specs.Texts.{readPairs, readSets, readFilters}
 use Rattle.algebra.specs.Given.{readGivenTree, readGivenQuery}
 use Rattle.answers.specs.declared.Answer.{Answer}
@@ -34,8 +32,8 @@ use Rattle.negating.specs.Projections.{outermostProjection}
 use Rattle.filtering.specs.IfFound.{ifFound}
 use Rattle.filtering.specs.Bindings.{positionsInside, valuesUsable, bindingsOutcome}
 use Rattle.filtering.specs.Filters.{referencesInside, filtersOutcome}
-use Rattle.filtering.specs.NotPlaced.{noneOr, notPlaced, filtersNotPlaced}
-use Rattle.filtering.proofs.NotPlaced.{listed-in-bounds}
+use Rattle.filtering.specs.NotPlaced.{filtersNotPlaced}
+use Rattle.filtering.proofs.NotPlaced.{list-in-bounds}
 use Rattle.answering.specs.Answering.{called, callInput, calledList, inputList}
 use Rattle.answering.specs.Printed.{printed, leftLine, printedList, Prints}
 use Rattle.answering.proofs.Printed.{Few, left-printed, list-length}
@@ -104,12 +102,7 @@ call-input-numbered k s = either-numbered (leb (length s) 65536) (called k (text
 -- at most as many numbers as a list of filters has entries, each below that
 listed-few : (tree filters : Bytes) → Few (filtersNotPlaced tree filters)
 unfolding filtersNotPlaced Few
-listed-few tree filters = go (readTree tree) (readFilters filters) refl
-  where
-    go : (t : Reading Pattern) (f : Reading (List Filter)) → readFilters filters ≡ f → Few (noneOr t λ p. noneOr f λ fs. notPlaced (outermostProjection p) fs)
-    go (refuses n) f e = (omega arith, refl)
-    go (reads p) (refuses n) e = (omega arith, refl)
-    go (reads p) (reads fs) e = listed-in-bounds (outermostProjection p) filters fs e
+listed-few tree filters = list-in-bounds (readGivenTree tree) filters
 
 pub input-list-few : (k : ℕ) (s : Bytes) → Few (inputList k s)
 unfolding inputList calledList Few

@@ -14,7 +14,7 @@ use Rattle.text.proofs.Basics.{and-left, and-right, and-both, deeper}
 use Rattle.algebra.specs.Tree.{Pattern, Expression}
 use Rattle.algebra.specs.Query.{Filter, leaf, ref, function}
 use Rattle.algebra.specs.Tally.{bounds}
-use Rattle.algebra.specs.Reader.{Outcome, reads}
+use Rattle.algebra.specs.Reader.{Outcome, reads, refuses}
 use Rattle.algebra.specs.Texts.{readFilters}
 use Rattle.algebra.proofs.Theorem.{filters-exactly}
 use Rattle.algebra.proofs.Lines.{lines-are-filters}
@@ -24,7 +24,7 @@ use Rattle.merging.specs.Request.{Projection}
 use Rattle.negating.specs.Projections.{outermostProjection}
 use Rattle.filtering.specs.Functions.{tryExpressionFromTree, isConstantTrue}
 use Rattle.filtering.specs.Filters.{placedExpression, andThose, expressions}
-use Rattle.filtering.specs.NotPlaced.{isPlaced, numbersFailing, notPlaced, notPlacedRead, failsAt, rises}
+use Rattle.filtering.specs.NotPlaced.{isPlaced, numbersFailing, notPlaced, noneOr, notPlacedRead, failsAt, rises}
 use Rattle.filtering.specs.bridge.FilterLines.{placedFilters}
 use Rattle.filtering.proofs.PlacedLines.{foundExpression, foundExpressions, PlacedAs, filters-placed}
 use Rattle.filtering.proofs.Read.{filters-at}
@@ -141,6 +141,17 @@ listed-in-bounds o filters fs e =
     let h = filters-exactly filters fs .0 e .2 .entries in
     let f = not-placed-few o fs in
     (omega arith, not-placed-below o fs (bounds .entries) h)
+
+-- so is the list of any two texts
+pub list-in-bounds : (tree : Outcome Pattern) (filters : Bytes) → (length (notPlacedRead tree filters) ≤ bounds .entries) × (all (λ k. ltb k (bounds .entries)) (notPlacedRead tree filters) ≡ true)
+unfolding all
+list-in-bounds tree filters = go tree (readFilters filters) refl
+  where
+    go : (t : Outcome Pattern) (r : Outcome (List Filter)) → readFilters filters ≡ r
+        → (length (noneOr t λ p. noneOr r λ fs. notPlaced (outermostProjection p) fs) ≤ bounds .entries) × (all (λ k. ltb k (bounds .entries)) (noneOr t λ p. noneOr r λ fs. notPlaced (outermostProjection p) fs) ≡ true)
+    go (refuses n) r e = (omega arith, refl)
+    go (reads p) (refuses n) e = (omega arith, refl)
+    go (reads p) (reads fs) e = listed-in-bounds (outermostProjection p) filters fs e
 
 -- ---- line by line
 

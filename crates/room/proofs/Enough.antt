@@ -1,7 +1,9 @@
 -- Outcomes that a room is enough for: bytes of at most that many, or a refusal that isn't 6. Assumes nothing.
 use Prim.Native.Nat.{ℕ, _≤_}
-use mathlib.Core.Path.{_≡_, sym, subst, _∙_}
+use mathlib.Core.Path.{_≡_, sym, ap, subst, _∙_}
 use mathlib.Core.Bool.{Bool, true, false}
+use mathlib.Core.List.{List}
+use mathlib.Core.Logic.{inl, inr}
 use mathlib.Core.Option.{Option, none, some}
 use mathlib.Core.Path.{refl}
 use native.Mathlib.Omega.{arith}
@@ -9,7 +11,8 @@ use lib.ListN.{length}
 use Rattle.text.specs.Text.{Bytes}
 use Rattle.algebra.specs.Reader.{Outcome as Reading, reads, refuses, malformed, overBound}
 use Rattle.answers.specs.Outcome.{Outcome, refused, written, then, orRefused, refusedUnless, Reported}
-use Rattle.room.specs.Room.{Suffices}
+use Rattle.answers.specs.Both.{ReportedBoth}
+use Rattle.room.specs.Room.{Suffices, SufficesBoth}
 
 unfoldable pub Enough : ℕ → Outcome → Type 0
 Enough room (refused k) = k ≡ 6 → ⊥
@@ -48,3 +51,8 @@ pub suffices : (room : ℕ) (o : Outcome) → Enough room o → Suffices room o
 unfolding Enough Suffices Reported
 suffices room (refused k) h before after n s l r e = h (sym (r .0) ∙ e)
 suffices room (written b) h before after n s l r e = let z = r .0 (omega arith) .0 in omega arith
+
+pub suffices-both : (room entries : ℕ) (o : Outcome) (xs : List ℕ) → Enough room o → length xs ≤ entries → SufficesBoth room entries o xs
+unfolding Enough SufficesBoth ReportedBoth
+suffices-both room entries (refused k) xs h i before after lent left n s m p q r = inl (ap refused (sym (r .0)))
+suffices-both room entries (written b) xs h i before after lent left n s m p q r = inr (r .2 (omega arith) (omega arith) .0)

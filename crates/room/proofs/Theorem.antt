@@ -10,9 +10,12 @@ use Rattle.merging.specs.Merge.{mergePatternsOutcome, mergeQueriesOutcome}
 use Rattle.merging.specs.Push.{pushConstantsOutcome}
 use Rattle.merging.specs.Negate.{negateOutcome}
 use Rattle.filtering.specs.Bindings.{bindingsOutcome}
+use Rattle.algebra.specs.Given.{readGivenTree}
 use Rattle.filtering.specs.Filters.{filtersOutcome}
-use Rattle.room.specs.Room.{scopeRoom, renameRoom, mergeRoom, pushRoom, negateRoom, bindingsRoom, filtersRoom, Suffices}
-use Rattle.room.proofs.Enough.{written-fits, suffices}
+use Rattle.filtering.specs.NotPlaced.{filtersNotPlaced}
+use Rattle.filtering.proofs.NotPlaced.{list-in-bounds}
+use Rattle.room.specs.Room.{scopeRoom, renameRoom, mergeRoom, pushRoom, negateRoom, bindingsRoom, filtersRoom, listRoom, Suffices, SufficesBoth}
+use Rattle.room.proofs.Enough.{written-fits, suffices, suffices-both}
 use Rattle.room.proofs.Scope.{scope-enough}
 use Rattle.room.proofs.Rename.{rename-enough}
 use Rattle.room.proofs.Merge.{merge-patterns-enough, merge-queries-enough}
@@ -84,5 +87,9 @@ bindings-never-short tree sets = suffices (bindingsRoom (length tree) (length se
 pub filters-room : (tree filters b : Bytes) → filtersOutcome tree filters ≡ written b → length b ≤ filtersRoom (length tree) (length filters)
 filters-room tree filters b e = written-fits (filtersRoom (length tree) (length filters)) (filtersOutcome tree filters) b (filters-enough tree filters) e
 
-pub filters-never-short : (tree filters : Bytes) → Suffices (filtersRoom (length tree) (length filters)) (filtersOutcome tree filters)
-filters-never-short tree filters = suffices (filtersRoom (length tree) (length filters)) (filtersOutcome tree filters) (filters-enough tree filters)
+pub filters-list-room : (tree filters : Bytes) → length (filtersNotPlaced tree filters) ≤ listRoom
+unfolding filtersNotPlaced
+filters-list-room tree filters = list-in-bounds (readGivenTree tree) filters .0
+
+pub filters-never-short : (tree filters : Bytes) → SufficesBoth (filtersRoom (length tree) (length filters)) listRoom (filtersOutcome tree filters) (filtersNotPlaced tree filters)
+filters-never-short tree filters = suffices-both (filtersRoom (length tree) (length filters)) listRoom (filtersOutcome tree filters) (filtersNotPlaced tree filters) (filters-enough tree filters) (filters-list-room tree filters)

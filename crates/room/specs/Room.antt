@@ -1,10 +1,13 @@
--- How many bytes to lend for a call's answer, from its texts' lengths alone: with so many the call is never refused by 6. Assumes nothing.
+-- How many bytes to lend for a call's answer, from its texts' lengths alone: with so many the call is never refused by 6, nor by 9. Assumes nothing.
 use Prim.Native.Nat.{ℕ, _+_, _*_, _≤_}
 use mathlib.Core.Path.{_≡_}
+use mathlib.Core.List.{List}
+use mathlib.Core.Logic.{_⊎_}
 use lib.ListN.{length}
 use Rattle.text.specs.Text.{Bytes}
 use Rattle.algebra.specs.Tally.{bounds}
-use Rattle.answers.specs.Outcome.{Outcome, Reported}
+use Rattle.answers.specs.Outcome.{Outcome, refused, Reported}
+use Rattle.answers.specs.Both.{ReportedBoth}
 
 -- ---- the bytes to lend
 
@@ -36,6 +39,10 @@ bindingsRoom tree sets = tree + 65 * sets + 14
 unfoldable pub filtersRoom : ℕ → ℕ → ℕ
 filtersRoom tree filters = tree + 24 * filters + 14
 
+-- and its list: as many numbers as a list of filters may have entries
+abbrev pub listRoom : ℕ
+listRoom = bounds .entries
+
 -- the longest text that isn't refused for its length: room for it is room for every text
 abbrev pub longest : ℕ
 longest = bounds .bytes
@@ -46,3 +53,9 @@ longest = bounds .bytes
 unfoldable pub Suffices : ℕ → Outcome → Type 0
 unfolding Reported
 Suffices room o = (before after : Bytes) (n s : ℕ) → room ≤ length before → Reported o before after n s → n ≡ 6 → ⊥
+
+-- whoever lends so many bytes and so many entries or more is told what the texts alone decide: their refusal, or 0
+unfoldable pub SufficesBoth : ℕ → ℕ → Outcome → List ℕ → Type 0
+unfolding ReportedBoth
+SufficesBoth room entries o xs =
+    (before after : Bytes) (lent left : List ℕ) (n s m : ℕ) → room ≤ length before → entries ≤ length lent → ReportedBoth o xs before after lent left n s m → (o ≡ refused n) ⊎ (n ≡ 0)
