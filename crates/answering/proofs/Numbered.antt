@@ -11,8 +11,8 @@ use Rattle.text.specs.Text.{Bytes}
 use Rattle.parted.specs.Parted.{texts}
 use Rattle.algebra.specs.Query.{Query, mapping}
 use Rattle.algebra.specs.Tally.{bounds}
-use Rattle.algebra.specs.Texts.{readPairs, readSets, readFilters}
 use Rattle.algebra.specs.Given.{readGivenTree, readGivenQuery}
+use Rattle.algebra.specs.Texts.{readPairs, readSets, readFilters}
 use Rattle.answers.specs.declared.Answer.{Answer}
 use Rattle.answers.specs.Outcome.{Outcome, refused, number, size}
 use Rattle.answers.specs.Both.{AnsweredBoth}

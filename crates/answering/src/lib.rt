@@ -1,4 +1,7 @@
 // The calls by number and name: an input's texts go to one, and its answer and its list are printed.
+mod fields;
+
+use crate::fields::put_fields;
 use answers::Answer;
 use answers::Listed;
 use answers::number;
@@ -12,7 +15,6 @@ use joining::push::push_constants;
 use joining::queries::merge_queries;
 use libc::STDOUT_FILENO;
 use naming::numbers::put_decimal;
-use naming::numbers::wide;
 use negating::negate;
 use parted::part_texts;
 use parted::text_at;
@@ -26,10 +28,8 @@ ghost use Prim.Native.Nat.{_≤_};
 ghost use lib.ListN.{length, take};
 ghost use Rattle.answers.specs.Outcome.{Answered};
 ghost use Rattle.answers.specs.Both.{AnsweredBoth};
-ghost use Rattle.emit.specs.bridge.Emit.{em, puts};
 ghost use Rattle.answering.specs.Answering.{called, callInput, callNumber, calledList, inputList};
 ghost use Rattle.answering.specs.Printed.{refusalLine, leftLine, Prints};
-ghost use Rattle.answering.specs.bridge.Fields.{fieldsOf};
 
 // The bytes of the longest input, and of the longest answer.
 const LIMIT: usize = 65536;
@@ -205,20 +205,6 @@ pub fn put_printed(answer: Answer, out: &mut [u8]) -> usize
 }
 
 const LEFT: [u8; 4] = *b"left";
-
-// Fields of a line: a tab and a number each.
-fn put_fields(list: &[u16], out: &mut [u8], at: usize) -> usize
-    ensures { λ r. ⌜ em r (now (out .exit)) ≡ puts (fieldsOf (now (list .entry))) (em at (now (out .entry))) ⌝ }
-{
-    let mut to = at;
-    let mut j = 0;
-    while j < list.len() {
-        let tab = put(out, to, 9);
-        to = put_decimal(out, tab, wide(list[j]));
-        j += 1;
-    }
-    to
-}
 
 // The line `left` of the numbers, from the buffer's start on: how many bytes, none without numbers.
 pub fn put_left(list: &[u16], out: &mut [u8]) -> usize

@@ -36,7 +36,7 @@ use Rattle.filtering.specs.NotPlaced.{numbersFailing}
 use Rattle.filtering.specs.bridge.AsIs.{filtersAsIs, notPlacedAsIs}
 use Rattle.filtering.proofs.FilterLines.{references-lines}
 use Rattle.filtering.proofs.PlacedLines.{putExpressions, placed-lines, foundExpression, foundExpressions, found-all, PlacedAs}
-use Rattle.filtering.proofs.NotPlaced.{lines-placed, list-found, list-not-found}
+use Rattle.filtering.proofs.ListedLines.{lines-placed, list-found, list-not-found}
 use Rattle.filtering.proofs.Theorem.{found-same, filters-not-found}
 use Rattle.filtering.proofs.Read.{tree-text, filters-at}
 use Rattle.placing.specs.bridge.Fields.{columnsOn}

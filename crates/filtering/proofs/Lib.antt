@@ -13,3 +13,4 @@ pub mod Copying
 pub mod Read
 pub mod Given
 pub mod NotPlaced
+pub mod ListedLines

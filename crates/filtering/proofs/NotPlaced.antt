@@ -1,33 +1,29 @@
--- The list of filters that were not placed: which numbers stand in it, in which order, how many, and its lines. Assumes nothing.
+-- The list of filters that were not placed: which numbers stand in it, in which order, and how many. Assumes nothing.
 use Prim.Native.Nat.{ℕ, zero, suc, _+_, _≤_, _<_}
-use mathlib.Core.Path.{_≡_, refl, sym, ap, ap₂, subst, _∙_}
-use mathlib.Core.Bool.{Bool, true, false, cond, not, _&&_, _||_}
+use mathlib.Core.Path.{_≡_, refl, ap, ap₂, _∙_}
+use mathlib.Core.Bool.{Bool, true, false, cond, not, _||_}
 use mathlib.Core.List.{List, [], _∷_}
 use mathlib.Core.Option.{Option, none, some}
 use native.Mathlib.Omega.{arith}
 use lib.ListN.{length}
 use lib.Dec.{eqb, leb, ltb}
 use borrow.Author.Tests.{leb-true, le-leb, lt-ltb, eq-eqb, ne-eqb}
-use Rattle.text.specs.Text.{Bytes, Line, linesFrom}
+use Rattle.text.specs.Text.{Bytes}
 use Rattle.text.specs.Field.{given}
-use Rattle.text.proofs.Basics.{and-left, and-right, and-both, deeper}
+use Rattle.text.proofs.Basics.{and-left, and-right, and-both}
 use Rattle.algebra.specs.Tree.{Pattern, Expression}
-use Rattle.algebra.specs.Query.{Filter, leaf, ref, function}
+use Rattle.algebra.specs.Query.{Filter}
 use Rattle.algebra.specs.Tally.{bounds}
 use Rattle.algebra.specs.Reader.{Outcome, reads, refuses}
 use Rattle.algebra.specs.Texts.{readFilters}
 use Rattle.algebra.proofs.Theorem.{filters-exactly}
-use Rattle.algebra.proofs.Lines.{lines-are-filters}
 use Rattle.scoping.specs.Sets.{all, any}
 use Rattle.merging.specs.Names.{from}
 use Rattle.merging.specs.Request.{Projection}
 use Rattle.negating.specs.Projections.{outermostProjection}
-use Rattle.filtering.specs.Functions.{tryExpressionFromTree, isConstantTrue}
+use Rattle.filtering.specs.Functions.{isConstantTrue}
 use Rattle.filtering.specs.Filters.{placedExpression, andThose, expressions}
 use Rattle.filtering.specs.NotPlaced.{isPlaced, numbersFailing, notPlaced, noneOr, notPlacedRead, failsAt, rises}
-use Rattle.filtering.specs.bridge.FilterLines.{placedFilters}
-use Rattle.filtering.proofs.PlacedLines.{foundExpression, foundExpressions, PlacedAs, filters-placed}
-use Rattle.filtering.proofs.Read.{filters-at}
 
 -- ---- numbers of those that fail a test
 
@@ -152,27 +148,3 @@ list-in-bounds tree filters = go tree (readFilters filters) refl
     go (refuses n) r e = (omega arith, refl)
     go (reads p) (refuses n) e = (omega arith, refl)
     go (reads p) (reads fs) e = listed-in-bounds (outermostProjection p) filters fs e
-
--- ---- line by line
-
--- a walk over the lines places and lists the filters of a text that is read
-pub lines-placed : (found : Bool) (cs : List Bytes) (filters : Bytes) (fs : List Filter) → readFilters filters ≡ reads fs
-    → PlacedAs (placedFilters found cs (bounds .lines) 0 (bounds .entries) (linesFrom filters 0)) (foundExpressions found cs fs) (numbersFailing (λ f. given (foundExpression found cs f)) 0 fs)
-lines-placed found cs filters fs e =
-    let x = filters-exactly filters fs .0 e in
-    let l = x .2 .lines in
-    let k = lines-are-filters fs in
-    subst (λ (ls : List Line). PlacedAs (placedFilters found cs (bounds .lines) 0 (bounds .entries) ls) (foundExpressions found cs fs) (numbersFailing (λ f. given (foundExpression found cs f)) 0 fs)) (sym (filters-at filters fs e))
-    (filters-placed found cs (bounds .lines) 0 (bounds .entries) fs (x .1) (omega arith) (x .2 .entries))
-
--- the others are the call's list, whatever the tree is read as: with the columns of the projection that was found
-pub list-found : (tree : Outcome Pattern) (filters : Bytes) (p : Pattern) (fs : List Filter) → tree ≡ reads p → readFilters filters ≡ reads fs → (x : Projection) → outermostProjection p ≡ some x
-    → notPlacedRead tree filters ≡ placedFilters true (x .columns) (bounds .lines) 0 (bounds .entries) (linesFrom filters 0) .others
-unfolding notPlaced isPlaced
-list-found tree filters p fs e f x o = rw (e, f, o) (sym (lines-placed true (x .columns) filters fs f .others))
-
--- or where none was
-pub list-not-found : (tree : Outcome Pattern) (filters : Bytes) (p : Pattern) (fs : List Filter) → tree ≡ reads p → readFilters filters ≡ reads fs → outermostProjection p ≡ none → (cs : List Bytes)
-    → notPlacedRead tree filters ≡ placedFilters false cs (bounds .lines) 0 (bounds .entries) (linesFrom filters 0) .others
-unfolding notPlaced isPlaced
-list-not-found tree filters p fs e f o cs = rw (e, f, o) (sym (lines-placed false cs filters fs f .others))

@@ -1,4 +1,4 @@
--- `answering::put_fields` meets its contract. Assumes nothing.
+-- `answering::fields/put_fields` meets its contract. Assumes nothing.
 use borrow.Author.Needs.{needs}
 use Prim.Native.Nat.{_-_}
 use mathlib.Core.Path.{_≡_, refl, ap, _∙_}
@@ -7,8 +7,8 @@ use Rattle.text.specs.Field.{decimal}
 use Rattle.emit.specs.bridge.Emit.{em, puts}
 use Rattle.answering.specs.bridge.Fields.{fieldsOf}
 use Rattle.answering.proofs.Printed.{fields-next, fields-done}
-use Rattle.answering.proofs.put_fields.Statement.{statement}
-use Rattle.answering.proofs.put_fields.Tie as tie
+use Rattle.answering.proofs.fields.put_fields.Statement.{statement}
+use Rattle.answering.proofs.fields.put_fields.Tie as tie
 
 abbrev Inv-loop : tie.InvT-loop
 Inv-loop list out₀ at to₀ j₀ out to j = (length out ≡ length out₀) × (puts (fieldsOf (drop j list)) (em to out) ≡ puts (fieldsOf list) (em at out₀))
