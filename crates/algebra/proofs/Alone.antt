@@ -66,7 +66,7 @@ module _ (s : Bytes) (end : ℕ) (first : First 10 s 0 (length s) end) where
 -- ---- a line that stands alone
 
 -- the line machine over the lines as they are read
-pub given-checked : (s : Bytes) → length s ≤ 16384 → run bounds (queryLines (linesOf s)) done (want heads (bounds .depth) 0 ∷ []) start ≡ checked tallyQuery (readGivenQuery s)
+given-checked : (s : Bytes) → length s ≤ 16384 → run bounds (queryLines (linesOf s)) done (want heads (bounds .depth) 0 ∷ []) start ≡ checked tallyQuery (readGivenQuery s)
 unfolding readGivenQuery run
 given-checked s short =
     query-runs bounds 0 (queryLines (linesOf s)) start done []
@@ -95,7 +95,6 @@ module _ (s : Bytes) (l : Line) (alone : linesOf s ≡ l ∷ []) (short : length
   unfolding run
   head-refused n e = sym (rw e) ∙ behind-head
 
-  -- it counts as a line, and no more
   pub head-good : (n : ℕ) (m : Tally) → lineOf bounds (want heads (bounds .depth) 0) (l ∷ []) start ≡ got (want patterns (bounds .depth) n ∷ []) [] m → m .lines ≡ 1 → m .wide ≤ bounds .columns → length (m .names) ≤ 1024
       → good (noted [] (headed [] m)) ≡ checked tallyQuery (readGivenQuery s)
   unfolding run headed noted notes within

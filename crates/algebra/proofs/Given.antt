@@ -6,7 +6,7 @@ use Prim.Native.Nat.{ℕ, _+_, _≤_}
 use native.Mathlib.Omega.{arith}
 use lib.Dec.{ltb, eqb}
 use borrow.Author.Tests.{ltb-false, le-ltb}
-use lib.ListN.{length}
+use lib.ListN.{length, length-append}
 use Rattle.text.specs.Text.{Bytes, Line, same, ended, textOf, onto, split, linesIn, linesOf}
 use Rattle.text.specs.Word.{bytes, spelled}
 use Rattle.text.specs.Field.{digitsOf, numberOf, digits, decimal, allFit, form, opaque}
@@ -22,7 +22,7 @@ use Rattle.algebra.specs.Reading.{patternAfter, inside, tree}
 use Rattle.algebra.specs.ListReading.{query}
 use Rattle.algebra.specs.Texts.{readTree, readQuery}
 use Rattle.algebra.specs.Bounded.{layoutQuery}
-use Rattle.algebra.specs.Given.{emptyTree, emptyLines, treeLines, queryLines, readGivenTree, readGivenQuery}
+use Rattle.algebra.specs.Given.{emptyTree, emptyLines, emptyText, treeLines, queryLines, readGivenTree, readGivenQuery}
 use Rattle.algebra.proofs.Grow.{counts}
 use Rattle.algebra.proofs.Exactly.{all-read, short}
 use Rattle.algebra.proofs.Theorem.{tree-matches, query-matches}
@@ -66,10 +66,10 @@ empty-reads = refl
 
 -- so a tree's text is read as this one as it stands
 abbrev pub treeText : Bytes → Bytes
-treeText [] = bytes "project\nbgp\t0\n"
+treeText [] = emptyText
 treeText (b ∷ s) = b ∷ s
 
-pub text-none : (s : Bytes) → length s ≡ 0 → treeText s ≡ bytes "project\nbgp\t0\n"
+pub text-none : (s : Bytes) → length s ≡ 0 → treeText s ≡ emptyText
 text-none [] e = refl
 text-none (b ∷ s) e = absurd (omega arith)
 
@@ -125,23 +125,14 @@ ended-behind [] x y = refl
 ended-behind (f ∷ []) x y = sym (append-assoc f (10 ∷ x) y)
 ended-behind (f ∷ g ∷ fs) x y = ap (λ (t : Bytes). f ++ (9 ∷ t)) (ended-behind (g ∷ fs) x y) ∙ sym (append-assoc f (9 ∷ ended (g ∷ fs) x) y)
 
-append-length : (x y : Bytes) → length (x ++ y) ≡ length x + length y
-append-length [] y = omega arith
-append-length (b ∷ x) y = omega (arith, append-length x y)
-
 -- the text of lines as they are read
 tree-size : (s : Bytes) (ls : List Line) → linesOf s ≡ ls → Ended (treeLines ls) → length (textOf (treeLines ls)) ≤ length s + 14
 unfolding textOf ended
 tree-size s [] e n = omega arith
 tree-size s (l ∷ ls) e n = omega (arith, ap length (ap textOf (sym e) ∙ text-back s (subst Ended (sym e) n)))
 
--- one line, and whatever is written behind it
-pub line-before : (s : Bytes) (l : Line) → linesOf s ≡ l ∷ [] → Ended (l ∷ []) → (t : Bytes) → ended l t ≡ s ++ t
-unfolding textOf
-line-before s l e n t = ended-behind l [] t ∙ ap (λ (b : Bytes). b ++ t) (ap textOf (sym e) ∙ text-back s (subst Ended (sym e) n))
-
 -- the text of one line, and the two lines behind it
-pub behind-line : (s : Bytes) (l : Line) → linesOf s ≡ l ∷ [] → Ended (l ∷ []) → textOf (l ∷ emptyLines) ≡ s ++ textOf emptyLines
+behind-line : (s : Bytes) (l : Line) → linesOf s ≡ l ∷ [] → Ended (l ∷ []) → textOf (l ∷ emptyLines) ≡ s ++ textOf emptyLines
 unfolding textOf
 behind-line s l e n = ended-behind l [] (textOf emptyLines) ∙ ap (λ (t : Bytes). t ++ textOf emptyLines) (ap textOf (sym e) ∙ text-back s (subst Ended (sym e) n))
 
@@ -152,7 +143,7 @@ empty-ended (f ∷ fs) ls n = tt
 query-size : (s : Bytes) (ls : List Line) → linesOf s ≡ ls → Ended (queryLines ls) → length (textOf (queryLines ls)) ≤ length s + 14
 unfolding textOf ended
 query-size s [] e n = omega arith
-query-size s (l ∷ []) e n = omega (arith, ap length (behind-line s l e (empty-ended l emptyLines n)), append-length s (textOf emptyLines))
+query-size s (l ∷ []) e n = omega (arith, ap length (behind-line s l e (empty-ended l emptyLines n)), length-append s (textOf emptyLines))
 query-size s (l ∷ m ∷ ls) e n = omega (arith, ap length (ap textOf (sym e) ∙ text-back s (subst Ended (sym e) n)))
 
 pub tree-given : (s : Bytes) (p : Pattern) → readGivenTree s ≡ reads p → TreeGiven s p
@@ -195,14 +186,6 @@ query-given s q e =
       size = subst (λ (ls : List Line). length (textOf ls) ≤ length s + 14) (x .2 .0) (query-size s (linesOf s) refl n);
     }
 
--- where a head line stands alone, the query's text is that line and the two lines: so a call that copies writes them
-pub head-alone : (s : Bytes) (q : Query) (l : Line) → linesOf s ≡ l ∷ [] → readGivenQuery s ≡ reads q → layoutQuery q ≡ s ++ bytes "project\nbgp\t0\n"
-unfolding layoutQuery textOf ended
-head-alone s q l h e =
-    let k = query-given s q e .lines ∙ ap queryLines h in
-    let n : Ended (l ∷ emptyLines) = subst Ended k (neat-ended (putQuery q []) (query-matches bounds .neat q (query-given s q e .valid))) in
-    ap textOf k ∙ behind-line s l h (empty-ended l emptyLines n)
-
 -- a head line alone of up to 16,384 bytes is read: the two lines are not counted
 pub head-reads : (s kind dataset base : Bytes) → linesOf s ≡ (bytes "query" ∷ kind ∷ dataset ∷ base ∷ []) ∷ [] → Fits form kind → Fits opaque dataset → Fits opaque base → length s ≤ 16384
     → readGivenQuery s ≡ reads (record { kind = kind; dataset = dataset; base = base; tree = emptyTree })
@@ -211,14 +194,3 @@ head-reads s kind dataset base e k d b h =
     let q : Query = record { kind = kind; dataset = dataset; base = base; tree = emptyTree } in
     let r = query-matches bounds .back q (k, d, b, (refl, (omega arith, tt))) (omega arith) (omega arith) refl in
     rw (le-ltb 16384 (length s) h, e, r)
-
--- where a head line stands alone, whatever tree comes under its head is written behind it
-pub head-line : (s : Bytes) (q : Query) (l : Line) → linesOf s ≡ l ∷ [] → readGivenQuery s ≡ reads q → (t : Bytes) → ended (bytes "query" ∷ q .kind ∷ q .dataset ∷ q .base ∷ []) t ≡ s ++ t
-unfolding putQuery
-head-line s q l h e t =
-    let k = query-given s q e .lines ∙ ap queryLines h in
-    let n : Ended (l ∷ emptyLines) = subst Ended k (neat-ended (putQuery q []) (query-matches bounds .neat q (query-given s q e .valid))) in
-    ap (λ (z : Line). ended z t) (first-line k) ∙ line-before s l h (empty-ended l emptyLines n) t
-  where
-    first-line : {a b : Line} {ms ns : List Line} → a ∷ ms ≡ b ∷ ns → a ≡ b
-    first-line e = cc

@@ -20,6 +20,10 @@ emptyTree = project [] (bgp [])
 abbrev pub emptyLines : List Line
 emptyLines = (bytes "project" ∷ []) ∷ (bytes "bgp" ∷ bytes "0" ∷ []) ∷ []
 
+-- and their text
+abbrev pub emptyText : Bytes
+emptyText = bytes "project\nbgp\t0\n"
+
 -- the lines of a tree as they are read
 abbrev pub treeLines : List Line → List Line
 treeLines [] = emptyLines
@@ -30,7 +34,7 @@ abbrev pub queryLines : List Line → List Line
 queryLines [] = []
 queryLines (l ∷ ls) = l ∷ treeLines ls
 
--- the whole length is that of the text as it stands, without the two lines; then line by line
+-- the whole length is that of the text as it stands, without the two lines; then line by line, those that are put there too
 abbrev pub readAs : {A : Type 0} → (List Line → List Line) → Reader A → Bytes → Outcome A
 readAs given r s = cond (ltb (bounds .bytes) (length s)) (refuses overBound) (outcome (r (given (linesOf s)) start))
 

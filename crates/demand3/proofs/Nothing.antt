@@ -36,7 +36,7 @@ use Rattle.merging.proofs.TreeRead.{TreeRead, tree-read}
 use Rattle.demand3.specs.Names.{columnPositions, columnName, columnNames, mergedNames}
 use Rattle.demand3.specs.Expected.{expectedCount}
 use Rattle.demand3.specs.Demand3.{Supposed, Premises, Counted}
-use Rattle.demand3.specs.Empty.{nothing, Kept}
+use Rattle.demand3.specs.Empty.{emptyProjection, Kept}
 use Rattle.demand3.proofs.Fit.{SideFit}
 use Rattle.demand3.proofs.Fits.{sides-fit}
 use Rattle.demand3.proofs.Side.{or-none}
@@ -72,10 +72,10 @@ join-left g p =
 
 -- ---- what is known of the empty file
 
-nothing-read : TreeRead nothing
-nothing-read = tree-read [] nothing empty-reads
+nothing-read : TreeRead emptyProjection
+nothing-read = tree-read [] emptyProjection empty-reads
 
-nothing-supposed : Supposed nothing
+nothing-supposed : Supposed emptyProjection
 unfolding isCountable extendsFresh valuesOnce expressionsKnown all different numbered inScopeByPlace hiddenByPlace byPlace tally tallyTriples noted headed notes keep variablesInPattern tripleVariables
 nothing-supposed = record { countable = refl; extends-fresh = refl; values-once = refl; expressions-known = refl; no-label = refl; columns-once = refl }
 
@@ -108,10 +108,10 @@ keep-every f (x ∷ xs) h = ap₂ (λ (b : Bool) (l : List _). cond b (x ∷ l) 
 
 module _ (x : Projection) where
   abbrev onRight : Request
-  onRight = request x nothing [] [] []
+  onRight = request x emptyProjection [] [] []
 
   abbrev onLeft : Request
-  onLeft = request nothing x [] [] []
+  onLeft = request emptyProjection x [] [] []
 
   abbrev leftName : Bytes → Bytes
   leftName = sideName prefixL (x .columns) (x .inner) []
@@ -168,8 +168,8 @@ module _ (x : Projection) where
     unfolding mergeProjectPatterns merged
     right-sum g row =
         let p : Premises onRight = record { left = s; right = nothing-supposed } in
-        let l = left-known onRight [] [] [] a nothing-read (no-lists x nothing) (all-inside x nothing) none-twice in
-        let r = right-known onRight [] [] [] a nothing-read (no-lists x nothing) (all-inside x nothing) none-twice in
+        let l = left-known onRight [] [] [] a nothing-read (no-lists x emptyProjection) (all-inside x emptyProjection) none-twice in
+        let r = right-known onRight [] [] [] a nothing-read (no-lists x emptyProjection) (all-inside x emptyProjection) none-twice in
         sym (counts-named onRight l r p g row)
         ∙ ap (λ (cs : List Bytes). count sameRow row (answer cs g (mergeProjectPatterns onRight))) (sym (columns-named onRight l r p) ∙ root right-tree)
         ∙ ap (count sameRow row) (same-right (sides-fit onRight l r p .left) g)
@@ -178,8 +178,8 @@ module _ (x : Projection) where
     unfolding mergeProjectPatterns merged
     left-sum g row =
         let p : Premises onLeft = record { left = nothing-supposed; right = s } in
-        let l = left-known onLeft [] [] [] nothing-read a (no-lists nothing x) (all-inside nothing x) none-twice in
-        let r = right-known onLeft [] [] [] nothing-read a (no-lists nothing x) (all-inside nothing x) none-twice in
+        let l = left-known onLeft [] [] [] nothing-read a (no-lists emptyProjection x) (all-inside emptyProjection x) none-twice in
+        let r = right-known onLeft [] [] [] nothing-read a (no-lists emptyProjection x) (all-inside emptyProjection x) none-twice in
         sym (counts-named onLeft l r p g row)
         ∙ ap (λ (cs : List Bytes). count sameRow row (answer cs g (mergeProjectPatterns onLeft))) (sym (columns-named onLeft l r p) ∙ root left-tree)
         ∙ ap (count sameRow row) (same-left (sides-fit onLeft l r p .right) g)

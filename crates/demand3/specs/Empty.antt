@@ -13,10 +13,10 @@ use Rattle.merging.specs.Request.{Projection, tree}
 use Rattle.demand3.specs.Names.{columnNames}
 
 -- no columns over no triples: what an empty file is read as
-abbrev pub nothing : Projection
-nothing = record { columns = []; inner = bgp [] }
+abbrev pub emptyProjection : Projection
+emptyProjection = record { columns = []; inner = bgp [] }
 
--- the text is one tree's, a project of x's columns under their new names, and each row stands in its answer as often as in the answer to x
+-- the text is one tree's, a project of x's columns under their new names, whose prefix is the byte `l` or `r`, and each row stands in its answer as often as in the answer to x
 pub record Kept (prefix : ℕ) (x : Projection) (text : Bytes) : Type 0 where
   pub merged : Projection
   pub read : readAnyTree text ≡ reads (tree merged)

@@ -6,7 +6,6 @@ use native.Mathlib.Omega.{arith}
 use lib.ListN.{length, take, drop, length-drop}
 use lib.Seq.{take-all}
 use Rattle.text.specs.Text.{Bytes, Line, part, textOf, ended, linesOf, linesFrom}
-use Rattle.text.specs.Word.{bytes}
 use Rattle.text.specs.Field.{decimal, digits}
 use Rattle.text.proofs.Texts.{lines-back, neat-ended}
 use Rattle.text.proofs.Places.{lines-start}
@@ -16,7 +15,7 @@ use Rattle.algebra.specs.Valid.{Valid, ValidQuery}
 use Rattle.algebra.specs.Layout.{put, putTriples, layout}
 use Rattle.algebra.specs.Bounded.{layoutQuery}
 use Rattle.algebra.specs.Reader.{reads}
-use Rattle.algebra.specs.Given.{emptyTree, readGivenQuery}
+use Rattle.algebra.specs.Given.{emptyTree, emptyText, readGivenQuery}
 use Rattle.algebra.proofs.Neat.{neat}
 use Rattle.algebra.proofs.Given.{query-given}
 use Rattle.heads.specs.bridge.TreeAt.{HeadOf, GivenAt, Parts}
@@ -24,7 +23,7 @@ use Rattle.heads.proofs.Cut.{text-from}
 use Rattle.heads.proofs.Queries.{over-layout}
 
 -- the text of an empty file's tree
-pub empty-text : layout emptyTree ≡ bytes "project\nbgp\t0\n"
+pub empty-text : layout emptyTree ≡ emptyText
 unfolding layout put putTriples textOf ended decimal digits
 empty-text = refl
 
@@ -43,7 +42,7 @@ module _ (s : Bytes) (q : Query) (e : readGivenQuery s ≡ reads q) (r : ℕ) (g
         valid = tree-valid;
       }
 
-  pub parts-alone : r ≤ length s → length s ≤ r → Parts s (bytes "project\nbgp\t0\n") q
+  pub parts-alone : r ≤ length s → length s ≤ r → Parts s (emptyText) q
   parts-alone high low =
       let last : r ≡ length s = omega arith in
       record {

@@ -44,9 +44,5 @@ module _ (s : Bytes) (q : Query) (e : readQuery s ≡ reads q) where
   pub query-text : s ≡ ended (headLine q) [] ++ layout (q .tree)
   query-text = sym query-layout ∙ over-layout q (q .tree)
 
-  pub query-lines : linesFrom s 0 ≡ headLine q ∷ put (q .tree) []
-  unfolding layoutQuery putQuery
-  query-lines = sym (lines-start s) ∙ ap linesOf (sym query-layout) ∙ lines-back (putQuery q []) (query-neat q [] (query-exactly s q .0 e .1) tt)
-
   pub tree-ended : Ended (put (q .tree) [])
   tree-ended = neat-ended (put (q .tree) []) (neat (q .tree) [] query-valid tt)

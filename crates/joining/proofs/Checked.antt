@@ -13,7 +13,7 @@ use Rattle.algebra.specs.Tree.{Pattern}
 use Rattle.algebra.specs.Query.{Query}
 use Rattle.algebra.specs.Reader.{Outcome as Reading, reads, refuses, malformed, overBound}
 use Rattle.algebra.specs.Texts.{readTree, readQuery}
-use Rattle.algebra.specs.Given.{emptyTree, readGivenQuery}
+use Rattle.algebra.specs.Given.{emptyTree, emptyText, readGivenQuery}
 use Rattle.algebra.proofs.Given.{treeText, given-as-text, empty-reads}
 use Rattle.checking.specs.declared.check.Noting.{Noting}
 use Rattle.checking.specs.declared.check.Noting.the-variants.{Good, Malformed, OverBound}
@@ -28,9 +28,9 @@ use Rattle.names.specs.bridge.Names.{startsOf, sizesOf}
 use Rattle.sides.specs.declared.side.Standing.{Standing}
 use Rattle.sides.specs.bridge.Side.{Stands}
 use Rattle.projects.specs.bridge.Joining.{StandsAt, HasRoom, HasNodes, half, rest}
-use Rattle.projects.proofs.Known.{tree-stands, query-stands, tree-count, query-count, good-tree, good-query, tree-nodes, query-nodes, tree-shaped, query-shaped}
+use Rattle.projects.proofs.Known.{tree-stands, query-stands, tree-count, query-count, good-tree, good-query, tree-nodes, query-nodes, tree-shaped, query-shaped, nodes-kept}
 use Rattle.projects.proofs.Halves.{shaped-in, half-room, half-nodes, room-left, nodes-left}
-use Rattle.joining.specs.bridge.Form.{headless, readForm, headOf, HeadIs, mayMerge, StartsAt, emptyText, standsIn, standsFrom, RoomFor, HalvesFor, NotedTree, GoodForm, NotedForm}
+use Rattle.joining.specs.bridge.Form.{headless, readForm, headOf, HeadIs, mayMerge, StartsAt, standsIn, standsFrom, RoomFor, HalvesFor, NotedTree, GoodForm, NotedForm}
 
 -- ---- the functions of a form, by its two ways
 
@@ -230,10 +230,6 @@ module _ (s : Bytes) (from : ℕ) (spots nodes : List (List ℕ)) (w : RoomFor s
       go true = w .nodes-for
       go false = w .nodes-empty
 
--- an array that keeps its length keeps its room
-space-kept : (s : Bytes) (b c : List (List ℕ)) → length c ≡ length b → HasNodes s b → HasNodes s c
-space-kept s b c e h short m g l = let r = h short m g l in omega (arith, e, r)
-
 pub half-for : (s : Bytes) (v u : List (List ℕ)) → HalvesFor s v u → RoomFor s (half v) (half u)
 half-for s v u w = record { spots-for = half-room s v (w .spots-for); nodes-for = half-nodes s u (w .nodes-for); spots-empty = half-room emptyText v (w .spots-empty); nodes-empty = half-nodes emptyText u (w .nodes-empty) }
 
@@ -261,7 +257,7 @@ module _ {query : Bool} {s : Bytes} {from : ℕ} {a l : List ℕ} {v u after wor
 
   module _ (kept : length b ≡ length u) where
     space : HasNodes (standsIn s from) b
-    space = space-kept (standsIn s from) u b kept (space-in s from v u w)
+    space = nodes-kept (standsIn s from) u b kept (space-in s from v u w)
 
     pub good-nodes : m ≤ length b
     good-nodes = g .tree .few-nodes (room-in s from v u w) space

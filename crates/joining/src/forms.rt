@@ -17,9 +17,10 @@ ghost use Prim.Native.Nat.{_≤_};
 ghost use lib.Dec.{ltb};
 ghost use lib.ListN.{length};
 ghost use Rattle.algebra.specs.Query.{Query};
+ghost use Rattle.algebra.specs.Given.{emptyText};
 ghost use Rattle.names.specs.bridge.Names.{startsOf, sizesOf};
 ghost use Rattle.words.specs.bridge.Words.{Worded};
-ghost use Rattle.joining.specs.bridge.Form.{HeadIs, mayMerge, StartsAt, emptyText, standsIn, standsFrom, NotedForm};
+ghost use Rattle.joining.specs.bridge.Form.{HeadIs, mayMerge, StartsAt, standsIn, standsFrom, NotedForm};
 
 // Where the tree starts.
 pub fn start_of(query: bool, text: &[u8]) -> usize

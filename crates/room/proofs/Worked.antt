@@ -51,7 +51,7 @@ measured [] cs = []
 measured (o ∷ os) [] = []
 measured (o ∷ os) (c ∷ cs) = took (lengthOf o) (roomOf (c .call)) ∷ measured os cs
 
--- what each call of merging's table writes, and its room: "that merge" first, the two negates last
+-- what each call of merging's table writes, and its room: "that merge" first, then in the order of the table
 pub merges-measured : measured (map (λ (c : Case). outcomeOf (c .call)) cases) cases ≡ took 67 342 ∷ took 47 234 ∷ took 0 195 ∷ took 0 195 ∷ took 0 195 ∷ took 0 201 ∷ took 37 204 ∷ took 0 195 ∷ took 0 201 ∷ took 0 213 ∷ took 0 153 ∷ took 0 306 ∷ took 68 159 ∷ took 44 183 ∷ took 37 147 ∷ took 29 135 ∷ took 29 135 ∷ took 25 84 ∷ took 0 135 ∷ took 46 237 ∷ took 31 93 ∷ took 33 105 ∷ took 52 52 ∷ took 0 38 ∷ took 0 51 ∷ took 0 50 ∷ took 0 52 ∷ took 86 312 ∷ took 107 228 ∷ took 76 174 ∷ took 37 159 ∷ took 43 177 ∷ took 0 141 ∷ took 67 81 ∷ took 36 74 ∷ []
 unfolding mergeRoom pushRoom negateRoom
 merges-measured = ap (λ (os : List Outcome). measured os cases) worked
@@ -67,7 +67,7 @@ scope-reached = ap lengthOf scope-empty
 abbrev wide : String
 wide = "project\t?aaaaaaaaaaaaaaaaaaaaaaaaaaaaaaaaaaaaaaaaaaaaaaaaaaaaaaaaaaaaaaaaaaaaaaaaaaaaaaaaaaaaaaaaaaaaaaaaaaaaaaaaaaaaaaaaaaaaaaaaaaaaaaaa\nbgp\t0\n"
 
--- two bytes short of the room of `ref 0`
+-- 16 bytes short of the room of `ref 0`
 pub filters-near : lengthOf (filtersOutcome (bytes wide) (bytes "ref\t0\n")) ≡ size wide + 142
 unfolding filtersOutcome readGivenTree readFilters readText within noted headed notes mem inside several one end tooMany kept rest times expressions orders aggregates patternAfter expressionAfter parts partAfter filterIn linesOf linesIn split onto same spelled numberOf digitsOf fits isKind clean isVar isIri isLiteral isBlank isDash isFlag isTag isRegion isDatatype isForm allFit layout put putTriples putRows putArity decimal digits textOf ended
 filters-near = refl

@@ -19,11 +19,11 @@ scopeRoom tree = tree + 7
 unfoldable pub renameRoom : ℕ → ℕ
 renameRoom tree = 44 * tree + 14
 
--- merge patterns and merge queries: a variable of 2 bytes can become one of 6, as `?l1000`; a term of a constant is written once; two empty files are 28 bytes, and three times that
+-- merge patterns and merge queries: a variable of 2 bytes can become one of 6, as `?l1000`; a term of a constant is written once; two empty files count as their 28 bytes, which is safe and not tight
 unfoldable pub mergeRoom : ℕ → ℕ → ℕ → ℕ → ℕ
 mergeRoom left right leftConstants rightConstants = 3 * (left + right) + leftConstants + rightConstants + 84
 
--- push constants: the same for one query
+-- push constants: the same for one query, and one empty file
 unfoldable pub pushRoom : ℕ → ℕ → ℕ
 pushRoom query constants = 3 * query + constants + 42
 
@@ -31,11 +31,11 @@ pushRoom query constants = 3 * query + constants + 42
 unfoldable pub negateRoom : ℕ → ℕ
 negateRoom query = query + 38
 
--- bindings: a position of 1 byte can become a column of 129
+-- bindings: a position of 1 byte can become a column of 129; an empty file becomes two lines
 unfoldable pub bindingsRoom : ℕ → ℕ → ℕ
 bindingsRoom tree sets = tree + 65 * sets + 14
 
--- filters: `ref 0`, 6 bytes, can become `term` and a column of 129 bytes, under `filter` or `and`
+-- filters: `ref 0`, 6 bytes, can become `term` and a column of 129 bytes, under `filter` or `and`; an empty file becomes two lines
 unfoldable pub filtersRoom : ℕ → ℕ → ℕ
 filtersRoom tree filters = tree + 24 * filters + 14
 

@@ -6,12 +6,11 @@ use mathlib.Core.Bool.{Bool, true, false, cond}
 use lib.Dec.{ltb}
 use lib.ListN.{length, take}
 use Rattle.text.specs.Text.{Bytes, ended}
-use Rattle.text.specs.Word.{bytes}
 use Rattle.algebra.specs.Tree.{Pattern}
 use Rattle.algebra.specs.Query.{Query}
 use Rattle.algebra.specs.Layout.{layout}
 use Rattle.algebra.specs.Reader.{Outcome as Reading, reads, refuses, malformed, overBound}
-use Rattle.algebra.specs.Given.{readGivenTree, readGivenQuery}
+use Rattle.algebra.specs.Given.{emptyText, readGivenTree, readGivenQuery}
 use Rattle.answers.specs.Outcome.{Outcome, written, then, refusedUnless}
 use Rattle.checking.specs.declared.check.Noting.{Noting}
 use Rattle.checking.specs.declared.check.Noting.the-variants.{Good, Malformed, OverBound}
@@ -80,10 +79,6 @@ pushWith q constants = then (readConstants constants) λ ks. pushConstants q ks
 unfoldable pub StartsAt : Bool → Bytes → ℕ → Type 0
 StartsAt false s r = r ≡ 0
 StartsAt true s r = Starts s r
-
--- the lines that an empty file is read as
-abbrev pub emptyText : Bytes
-emptyText = bytes "project\nbgp\t0\n"
 
 -- the text in which the tree stands, and where it does: this one, or those lines if nothing follows
 abbrev pub standsIn : Bytes → ℕ → Bytes
