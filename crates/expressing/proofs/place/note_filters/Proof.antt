@@ -30,7 +30,7 @@ note-filters-spec =
     (λ c κs. search needs)
     (λ c. search needs)
     (λ c. let g = c .before .before .before .before .before .before .before .loop .inv in let l = g .low in let s = g .starts-long in let t = c .before .before .before .before .before .before .loop-test .taken in omega (arith, l, s, t))
-    (λ c. let t = c .before .before .before .before .before .before .loop-test .taken in omega (arith, t))
+    (λ c. let l = c .before .before .before .before .before .before .before .loop .inv .low in let t = c .before .before .before .before .before .before .loop-test .taken in omega (arith, l, t))
     (λ c. let l = c .before .before .before .before .before .before .before .loop .inv .low in omega (arith, l))
     (λ c. search needs)
     (λ c. let g = c .before .before .before .before .before .before .before .loop .inv in let l = g .low in let s = g .numbers-long in let t = c .before .before .before .before .before .before .loop-test .taken in omega (arith, l, s, t))
