@@ -52,7 +52,7 @@ agree-cong : (vs : List Bytes) (a b a′ b′ : Row) → ((v : Bytes) → mem v 
 unfolding agree
 agree-cong vs a b a′ b′ p q = all-cong _ _ vs (λ v m. ap₂ compatible (p v m) (q v m))
 
-agree-flip : (vs : List Bytes) (a b : Row) → agree vs a b ≡ true → agree vs b a ≡ true
+pub agree-flip : (vs : List Bytes) (a b : Row) → agree vs a b ≡ true → agree vs b a ≡ true
 agree-flip vs a b h = agree-from vs b a (λ v m. compatible-flip (a v) (b v) (compatible-at vs a b h v m))
 
 -- what agrees with a union of two agrees with both; and the other way round

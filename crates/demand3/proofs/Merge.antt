@@ -61,7 +61,7 @@ cond-three true true false d = refl
 cond-three true false c d = refl
 cond-three false b c d = refl
 
-or-assoc : (x k y : Cell) → orCell (orCell x k) y ≡ orCell x (orCell k y)
+pub or-assoc : (x k y : Cell) → orCell (orCell x k) y ≡ orCell x (orCell k y)
 or-assoc none k y = refl
 or-assoc (some a) k y = refl
 

@@ -10,7 +10,7 @@ use Rattle.merging.specs.Asked.{Trees, Lists, queryOf, Queries, behindHead}
 use Rattle.demand3.specs.Demand3.{Counted}
 use Rattle.demand3.proofs.Theorem.{merge-patterns-counts, merge-queries-counts}
 
-read-once : {A : Type 0} (o : Reading A) (a b : A) → o ≡ reads a → o ≡ reads b → a ≡ b
+pub read-once : {A : Type 0} (o : Reading A) (a b : A) → o ≡ reads a → o ≡ reads b → a ≡ b
 read-once o a b p q = cc
 
 tree-once : (x y : Projection) → tree x ≡ tree y → x ≡ y

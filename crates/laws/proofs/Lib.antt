@@ -1,0 +1,12 @@
+pub mod Twice
+pub mod Composed
+pub mod Through
+pub mod Deep
+pub mod Middle
+pub mod ComposedWorked
+pub mod Inside
+pub mod Swap
+pub mod Swapped
+pub mod SwapBytes
+pub mod SwapWorked
+pub mod Theorem
