@@ -1,39 +1,27 @@
 -- The composed list takes a name where the two mappings take it, and is a mapping itself. Assumes nothing.
-use mathlib.Core.Path.{_≡_, refl, sym, ap, ap₂, subst, fun-ext, _∙_}
+use mathlib.Core.Path.{_≡_, refl, sym, ap, ap₂, subst, _∙_}
 use mathlib.Core.Bool.{Bool, true, false, cond, not, _||_, false≢true}
 use mathlib.Core.List.{List, [], _∷_, _++_, map, append-assoc, append-nil}
 use mathlib.Core.Option.{Option, some}
-use Prim.Native.Nat.{ℕ, _+_, _≤_}
+use Prim.Native.Nat.{_+_, _≤_}
 use native.Mathlib.Omega.{arith}
 use lib.ListN.{length, length-append}
-use Rattle.text.specs.Text.{Bytes, same, split, linesIn, linesOf}
+use Rattle.text.specs.Text.{Bytes, same}
 use Rattle.text.specs.Field.{clean, isVar, isKind, fits, variable}
 use Rattle.text.proofs.Basics.{same-eq, and-right}
-use Rattle.algebra.specs.Tree.{Pattern}
 use Rattle.algebra.specs.Query.{Pair, mapping}
-use Rattle.algebra.specs.Reader.{Outcome as Reading, reads, refuses, number-of, malformed, overBound, one, readText}
-use Rattle.algebra.specs.Layout.{layout}
+use Rattle.algebra.specs.Reader.{reads}
 use Rattle.algebra.specs.Bounded.{layoutPairs}
 use Rattle.algebra.specs.Tally.{bounds, Tally, start, paired, tallyPairs}
-use Rattle.algebra.specs.Valid.{Fits, mem, Valid, ValidPairs}
-use Rattle.algebra.specs.Texts.{readTree, readPairs}
-use Rattle.algebra.specs.Given.{readGivenTree}
-use Rattle.algebra.proofs.Given.{tree-as-it-is, tree-given}
-use Rattle.algebra.proofs.Theorem.{tree-exactly, pairs-exactly}
-use Rattle.algebra.proofs.Roomy.{layout-injective}
-use Rattle.scoping.specs.Rename.{renameInGraphPattern}
+use Rattle.algebra.specs.Valid.{Fits, mem, ValidPairs}
+use Rattle.algebra.specs.Texts.{readPairs}
+use Rattle.algebra.proofs.Theorem.{pairs-exactly}
 use Rattle.scoping.specs.Standardize.{Entry, entry, get, orSelf, renamed}
 use Rattle.scoping.proofs.Sets.{mem-append}
 use Rattle.scoping.specs.Sets.{keep}
 use Rattle.scoping.proofs.Basics.{clash, not-true, either, or-cases, or-inl, or-inr}
-use Rattle.answers.specs.Outcome.{written, then}
-use Rattle.merging.proofs.Given.{then-written}
-use Rattle.merging.proofs.Valid.{renamed-valid}
-use Rattle.answers.proofs.Answers.{bytes-of}
-use Rattle.demand3.proofs.Once.{read-once}
-use Rattle.renaming.specs.Rename.{becomes, renameOutcome}
-use Rattle.laws.specs.Composed.{listed, onward, composed}
-use Rattle.laws.proofs.Twice.{tree-twice}
+use Rattle.renaming.specs.Rename.{becomes}
+use Rattle.laws.specs.Composed.{listedNames, onward, composed}
 
 -- ---- what a name becomes
 
@@ -56,7 +44,7 @@ unfolding becomes renamed
 becomes-is xs v = refl
 
 -- through the first mapping's lines, taken on
-through : (ys zs xs : List Pair) (v : Bytes) → (mem v (listed xs) ≡ false → get v (lines zs) ≡ get v (lines ys)) → orSelf (get v (lines (map (onward ys) xs ++ zs))) v ≡ becomes ys (orSelf (get v (lines xs)) v)
+through : (ys zs xs : List Pair) (v : Bytes) → (mem v (listedNames xs) ≡ false → get v (lines zs) ≡ get v (lines ys)) → orSelf (get v (lines (map (onward ys) xs ++ zs))) v ≡ becomes ys (orSelf (get v (lines xs)) v)
 unfolding get mem
 through ys zs [] v h = ap (λ (o : Option Bytes). orSelf o v) (h refl) ∙ sym (becomes-is ys v)
 through ys zs (x ∷ xs) v h = go (same v (x .first)) refl (λ e. through ys zs xs v (λ n. h (ap₂ _||_ e n)))
@@ -71,7 +59,7 @@ pub becomes-composed : (xs ys : List Pair) (v : Bytes) → becomes (composed xs 
 unfolding composed
 becomes-composed xs ys v =
     becomes-is (composed xs ys) v
-    ∙ through ys (keep (λ y. not (mem (y .first) (listed xs))) ys) xs v (λ n. get-kept (listed xs) v n ys)
+    ∙ through ys (keep (λ y. not (mem (y .first) (listedNames xs))) ys) xs v (λ n. get-kept (listedNames xs) v n ys)
     ∙ ap (becomes ys) (sym (becomes-is xs v))
 
 -- ---- a mapping that was read makes variables of variables
@@ -96,12 +84,12 @@ becomes-variable seen (x ∷ xs) k v h = go (same v (x .first)) (becomes-variabl
 
 -- ---- the composed list is a mapping
 
-first-valid : (seen : List Bytes) (xs zs : List Pair) (f : Bytes → Bytes) → ((v : Bytes) → Fits variable v → Fits variable (f v)) → ValidPairs mapping seen xs → ValidPairs mapping (seen ++ listed xs) zs
+first-valid : (seen : List Bytes) (xs zs : List Pair) (f : Bytes → Bytes) → ((v : Bytes) → Fits variable v → Fits variable (f v)) → ValidPairs mapping seen xs → ValidPairs mapping (seen ++ listedNames xs) zs
     → ValidPairs mapping seen (map (λ x. record { first = x .first; second = f (x .second) }) xs ++ zs)
 unfolding ValidPairs
 first-valid seen [] zs f to k h = subst (λ (l : List Bytes). ValidPairs mapping l zs) (append-nil seen) h
 first-valid seen (x ∷ xs) zs f to k h =
-    (k .0, to (x .second) (k .1), k .2, first-valid (seen ++ (x .first ∷ [])) xs zs f to (k .3) (subst (λ (l : List Bytes). ValidPairs mapping l zs) (sym (append-assoc seen (x .first ∷ []) (listed xs))) h))
+    (k .0, to (x .second) (k .1), k .2, first-valid (seen ++ (x .first ∷ [])) xs zs f to (k .3) (subst (λ (l : List Bytes). ValidPairs mapping l zs) (sym (append-assoc seen (x .first ∷ []) (listedNames xs))) h))
 
 -- what is seen of the composed list is listed by the first or seen of the second
 Covered : List Bytes → List Bytes → List Bytes → Type 0
@@ -137,10 +125,10 @@ second-valid fs s t (y ∷ ys) c k =
 
 pub composed-valid : (xs ys : List Pair) → ValidPairs mapping [] xs → ValidPairs mapping [] ys → ValidPairs mapping [] (composed xs ys)
 unfolding composed Covered
-composed-valid xs ys k h = first-valid [] xs (keep (λ y. not (mem (y .first) (listed xs))) ys) (becomes ys) (becomes-fits [] ys h) k (second-valid (listed xs) [] (listed xs) ys listed-covers h)
+composed-valid xs ys k h = first-valid [] xs (keep (λ y. not (mem (y .first) (listedNames xs))) ys) (becomes ys) (becomes-fits [] ys h) k (second-valid (listedNames xs) [] (listedNames xs) ys listed-covers h)
   where
-    listed-covers : (v : Bytes) → mem v (listed xs) ≡ true → (mem v (listed xs) || mem v []) ≡ true
-    listed-covers v m = or-inl (mem v (listed xs)) (mem v []) m
+    listed-covers : (v : Bytes) → mem v (listedNames xs) ≡ true → (mem v (listedNames xs) || mem v []) ≡ true
+    listed-covers v m = or-inl (mem v (listedNames xs)) (mem v []) m
 
 -- ---- its bounds
 

@@ -1,6 +1,6 @@
 -- Renaming in two steps and in one, at work; and why a middle text needs its own bound on variables. Assumes nothing.
 use mathlib.Core.Path.{_≡_, refl}
-use mathlib.Core.List.{List, [], _∷_}
+use mathlib.Core.List.{List, [], _∷_, map}
 use Prim.Native.String.{String}
 use Rattle.text.specs.Text.{Bytes, same, ended, textOf, onto, split, linesIn, linesOf}
 use Rattle.text.specs.Word.{bytes, spelled}
@@ -22,7 +22,7 @@ use Rattle.scoping.specs.Rename.{renameInTerm, renameInGraphPattern}
 use Rattle.scoping.specs.Premises.{columnsAt, sideName}
 use Rattle.answers.specs.Outcome.{written}
 use Rattle.algebra.specs.Query.{Pair}
-use Rattle.renaming.specs.Rename.{renameOutcome}
+use Rattle.renaming.specs.Rename.{becomes, renameOutcome}
 use Rattle.laws.specs.Composed.{composed}
 
 abbrev p : String → String → Pair
@@ -39,7 +39,11 @@ list : layoutPairs (composed xs ys) ≡ bytes "?a\t?c\n?b\t?x\n?d\t?e\n"
 unfolding layoutPairs putPairs textOf ended composed
 list = refl
 
--- ?z stands in neither list
+-- so each name goes where the two take it, one after the other; ?z stands in neither list
+names : map (becomes (composed xs ys)) (bytes "?a" ∷ bytes "?b" ∷ bytes "?d" ∷ bytes "?z" ∷ []) ≡ bytes "?c" ∷ bytes "?x" ∷ bytes "?e" ∷ bytes "?z" ∷ []
+unfolding composed
+names = refl
+
 abbrev tree : Bytes
 tree = bytes "bgp\t2\nt\t?a\t?b\t?d\nt\t?z\t<p>\t\"l\"\n"
 

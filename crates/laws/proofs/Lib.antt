@@ -6,6 +6,7 @@ pub mod Middle
 pub mod ComposedWorked
 pub mod Inside
 pub mod Swap
+pub mod Readable
 pub mod Swapped
 pub mod SwapBytes
 pub mod SwapWorked

@@ -16,7 +16,6 @@ use Rattle.counting.specs.Row.{sameRow}
 use Rattle.counting.specs.Answer.{answer}
 use Rattle.merging.specs.Sides.{Pair, lefts, rights}
 use Rattle.scoping.specs.Premises.{inside, differentPositions}
-use Rattle.scoping.proofs.Basics.{map-map}
 use Rattle.answers.specs.Outcome.{Outcome, written, then, refusedUnless}
 use Rattle.merging.specs.Request.{tree, asProject, readJoins, Request, request, allInside}
 use Rattle.merging.specs.Merge.{mergeProjectPatterns, mergeSides, mergeTrees, mergePatternsOutcome, isSelectOrAsk, mergeable, over, mergeQueriesOutcome}
@@ -27,14 +26,9 @@ use Rattle.merging.specs.bridge.Twice.{noneTwice}
 use Rattle.demand3.proofs.Once.{read-once, merge-patterns-counts-read, merge-queries-counts-read}
 use Rattle.demand3.proofs.Theorem.{head-is}
 use Rattle.laws.specs.Swapped.{turned, swapped, rowOf, SwapCounted}
-use Rattle.laws.proofs.Swapped.{swapped-expected}
+use Rattle.laws.proofs.Readable.{row-read}
+use Rattle.laws.proofs.Swapped.{lefts-turned, rights-turned, swapped-expected}
 use Rattle.laws.proofs.Inside.{Inside, inside-of, once-of}
-
-lefts-turned : (js : List Pair) → lefts (map turned js) ≡ rights js
-lefts-turned js = map-map (λ (j : Pair). j .left) turned js
-
-rights-turned : (js : List Pair) → rights (map turned js) ≡ lefts js
-rights-turned js = map-map (λ (j : Pair). j .right) turned js
 
 -- ---- the premises of the swapped merge
 
@@ -64,6 +58,7 @@ promised m b b′ i o c d = record {
   merged′ = d .merged;
   read = c .read;
   read′ = d .read;
+  rows = row-read m (once-of (m .joins) o .1);
   counts = λ s k g x y h.
       let t = inside-of m i in
       let u = once-of (m .joins) o in

@@ -1,4 +1,4 @@
--- A swapped merge at work; and a merge with a constant on one half of a join pair, whose swapped merge has another column more. Assumes nothing.
+-- A swapped merge at work, and the smallest merge with a constant on one half of a join pair only, whose swapped merge has a column more. Assumes nothing.
 use mathlib.Core.Path.{_≡_, refl}
 use mathlib.Core.Bool.{true, false}
 use mathlib.Core.List.{List, [], _∷_}
@@ -8,7 +8,7 @@ use Prim.Native.String.{String}
 use Rattle.text.specs.Text.{Bytes, same, ended, textOf, onto, split, linesIn, linesOf}
 use Rattle.text.specs.Word.{bytes, spelled}
 use Rattle.text.specs.Field.{digits, decimal, isVar, digitsOf, numberOf, clean, isIri, isLiteral, isBlank, isDash, isFlag, isTag, isRegion, isDatatype, isForm, isKind, fits, allFit}
-use Rattle.algebra.specs.Tree.{values}
+use Rattle.algebra.specs.Tree.{bgp, values}
 use Rattle.algebra.specs.Valid.{mem, different}
 use Rattle.algebra.specs.Tally.{notes, noted, headed, tallyRows, tally, paired, within, tallyTriples}
 use Rattle.algebra.specs.Layout.{putTriples, putRows, putArity, put, layout, putQuery}
@@ -28,7 +28,6 @@ use Rattle.counting.specs.Row.{Cell}
 use Rattle.counting.specs.Countable.{isCountable, extendsFresh, valuesOnce, expressionsKnown}
 use Rattle.merging.specs.Sides.{Constant}
 use Rattle.merging.specs.Request.{Projection, Request, request}
-use Rattle.demand3.specs.Names.{mergedNames}
 use Rattle.demand3.specs.Expected.{expectedCount}
 use Rattle.demand3.specs.Demand3.{Premises}
 use Rattle.answers.specs.Outcome.{written}
@@ -77,20 +76,6 @@ counts : expectedCount (asked [] []) [] (rowOf (asked [] []) (two "<e>" "<1>") (
 unfolding rowOf expectedCount numbered inScopeByPlace hiddenByPlace byPlace tally tallyRows noted headed notes mem isVar same keep variablesOf variablesInPattern generated decimal digits
 counts = refl
 
--- ---- with a constant on one half of the join pair only
-
-abbrev lopsided : Request
-lopsided = asked (record { position = 1; term = bytes "<1>" } ∷ []) []
-
-uneven : bothOrNeither lopsided ≡ false
-unfolding bothOrNeither
-uneven = refl
-
--- the join column is gone on one side and stands on the other
-columns : mergedNames lopsided ∷ mergedNames (swapped lopsided) ∷ [] ≡ (bytes "?l0" ∷ bytes "?r1" ∷ []) ∷ (bytes "?j0" ∷ bytes "?l1" ∷ bytes "?r0" ∷ []) ∷ []
-unfolding mergedNames numbered inScopeByPlace hiddenByPlace byPlace tally tallyRows noted headed notes mem isVar same keep variablesOf variablesInPattern generated decimal digits
-columns = refl
-
 -- ---- the same from bytes
 
 abbrev leftText : Bytes
@@ -105,3 +90,26 @@ texts : mergePatternsOutcome leftText rightText (bytes "1\t0\n") [] [] ∷ merge
     ∷ written (bytes "project\t?j0\t?l1\t?r0\njoin\nvalues\t2\t3\ncols\t?j0\t?l1\nrow\t<1>\t<a>\nrow\t<1>\t<a>\nrow\t<2>\t<b>\nvalues\t2\t3\ncols\t?r0\t?j0\nrow\t<e>\t<1>\nrow\t<e>\t<1>\nrow\t<f>\t-\n") ∷ []
 unfolding mergePatternsOutcome readGivenTree readPairs readText within noted headed paired notes mem inside several one end tooMany kept rest times expressions orders aggregates patternAfter expressionAfter linesOf linesIn split onto same spelled numberOf digitsOf fits isKind clean isVar isIri isLiteral isBlank isDash isFlag isTag isRegion isDatatype isForm allFit layout layoutQuery put putTriples putRows putArity putQuery decimal digits textOf ended sideName columnsAt renameInGraphPattern renameInTerm renamed standardizeVariables pushAll push get insert base isLabel generated numbered inScopeByPlace hiddenByPlace byPlace tally tallyTriples tallyRows keep variablesOf tripleVariables variablesInPattern
 texts = refl
+
+-- ---- a constant on one half of a join pair only
+
+abbrev lopsided : Request
+lopsided = record {
+  left = record { columns = bytes "?a" ∷ []; inner = bgp [] };
+  right = record { columns = bytes "?b" ∷ []; inner = bgp [] };
+  joins = record { left = 0; right = 0 } ∷ [];
+  left-constants = record { position = 0; term = bytes "<k>" } ∷ [];
+  right-constants = [];
+}
+
+uneven : bothOrNeither lopsided ≡ false
+unfolding bothOrNeither
+uneven = refl
+
+-- the join column is gone where its left half has the constant, and stands where its right half has it
+columns : mergePatternsOutcome (bytes "project\t?a\nbgp\t0\n") (bytes "project\t?b\nbgp\t0\n") (bytes "0\t0\n") (bytes "0\t<k>\n") []
+    ∷ mergePatternsOutcome (bytes "project\t?b\nbgp\t0\n") (bytes "project\t?a\nbgp\t0\n") (bytes "0\t0\n") [] (bytes "0\t<k>\n") ∷ []
+    ≡ written (bytes "project\njoin\njoin\nbgp\t0\nvalues\t1\t1\ncols\t?j0\nrow\t<k>\nbgp\t0\n")
+    ∷ written (bytes "project\t?j0\njoin\nbgp\t0\njoin\nbgp\t0\nvalues\t1\t1\ncols\t?j0\nrow\t<k>\n") ∷ []
+unfolding mergePatternsOutcome readGivenTree readPairs readText within noted headed paired notes mem inside several one end tooMany kept rest times expressions orders aggregates patternAfter expressionAfter linesOf linesIn split onto same spelled numberOf digitsOf fits isKind clean isVar isIri isLiteral isBlank isDash isFlag isTag isRegion isDatatype isForm allFit layout layoutQuery put putTriples putRows putArity putQuery decimal digits textOf ended sideName columnsAt renameInGraphPattern renameInTerm renamed standardizeVariables pushAll push get insert base isLabel generated numbered inScopeByPlace hiddenByPlace byPlace tally tallyTriples tallyRows keep variablesOf tripleVariables variablesInPattern
+columns = refl

@@ -29,6 +29,14 @@ use Rattle.algebra.proofs.Lines.{or-neither, not-no}
 use Rattle.laws.specs.Swapped.{turned, swapped, leftShown, rightShown, rowOf, eitherSide, alike, bothOrNeither}
 use Rattle.laws.proofs.Swap.{letter, other, back, named-other, at-other, shift, makes-shift, sum-by, sum-swap}
 
+-- ---- join pairs turned round
+
+pub lefts-turned : (js : List Pair) → lefts (map turned js) ≡ rights js
+lefts-turned js = map-map (λ (j : Pair). j .left) turned js
+
+pub rights-turned : (js : List Pair) → rights (map turned js) ≡ lefts js
+rights-turned js = map-map (λ (j : Pair). j .right) turned js
+
 -- ---- names on the other side
 
 left-other : (x : Projection) (is : List ℕ) (i : ℕ) → columnName prefixL x is i ≡ other (columnName prefixR x is i)
@@ -219,12 +227,6 @@ module _ (m : Request) (left-in : inside (m .left .columns) (lefts (m .joins)) �
   abbrev Q : ℕ → Bool
   Q i = not (isAt i (positions (m .right-constants)))
 
-  lefts-turned : lefts (map turned js) ≡ rights js
-  lefts-turned = map-map (λ (j : Pair). j .left) turned js
-
-  rights-turned : rights (map turned js) ≡ lefts js
-  rights-turned = map-map (λ (j : Pair). j .right) turned js
-
   -- the swapped merge's columns under the merge's own names
   abbrev columns : List Bytes
   columns = map NR (keep Q (columnPositions (m .right))) ++ map NL (keep (λ i. P i && not (isAt i (lefts js))) (columnPositions (m .left)))
@@ -232,14 +234,14 @@ module _ (m : Request) (left-in : inside (m .left .columns) (lefts (m .joins)) �
   columns-other : mergedNames (swapped m) ≡ map other columns
   unfolding mergedNames
   columns-other =
-      (λ i. map (columnName prefixL (m .right) (lefts-turned i)) (keep Q (columnPositions (m .right))) ++ map (columnName prefixR (m .left) (rights-turned i)) (keep (λ k. P k && not (isAt k (rights-turned i))) (columnPositions (m .left))))
+      (λ i. map (columnName prefixL (m .right) (lefts-turned js i)) (keep Q (columnPositions (m .right))) ++ map (columnName prefixR (m .left) (rights-turned js i)) (keep (λ k. P k && not (isAt k (rights-turned js i))) (columnPositions (m .left))))
       ∙ ap₂ _++_ (names-other (columnName prefixL (m .right) (rights js)) NR (left-other (m .right) (rights js)) (keep Q (columnPositions (m .right))))
       (names-other (columnName prefixR (m .left) (lefts js)) NL (right-other (m .left) (lefts js)) (keep (λ k. P k && not (isAt k (lefts js))) (columnPositions (m .left))))
       ∙ sym (map-append other (map NR (keep Q (columnPositions (m .right)))) (map NL (keep (λ k. P k && not (isAt k (lefts js))) (columnPositions (m .left)))))
 
   row-turned : (x y : ℕ → Cell) → rowOf (swapped m) y x ≡ map y (keep Q (columnPositions (m .right))) ++ map x (keep (λ i. P i && not (isAt i (lefts js))) (columnPositions (m .left)))
   unfolding rowOf leftShown rightShown
-  row-turned x y = λ i. map y (keep Q (columnPositions (m .right))) ++ map x (keep (λ k. P k && not (isAt k (rights-turned i))) (columnPositions (m .left)))
+  row-turned x y = λ i. map y (keep Q (columnPositions (m .right))) ++ map x (keep (λ k. P k && not (isAt k (rights-turned js i))) (columnPositions (m .left)))
 
   module _ (g : List Triple) (x y : ℕ → Cell) (sides : eitherSide m x y ≡ true) where
     abbrev l : Single
@@ -294,7 +296,7 @@ module _ (m : Request) (left-in : inside (m .left .columns) (lefts (m .joins)) �
     pub swapped-expected : expectedCount (swapped m) g (rowOf (swapped m) y x) ≡ expectedCount m g (rowOf m x y)
     unfolding expectedCount makes shift
     swapped-expected =
-        (λ i. sum (single prefixL (m .right) (lefts-turned i) (m .right-constants) g) (single prefixR (m .left) (rights-turned i) (m .left-constants) g) (columns-other i) (rowOf (swapped m) y x))
+        (λ i. sum (single prefixL (m .right) (lefts-turned js i) (m .right-constants) g) (single prefixR (m .left) (rights-turned js i) (m .left-constants) g) (columns-other i) (rowOf (swapped m) y x))
         ∙ (λ i. sum (single-other prefixL prefixR (m .right) (rights js) (m .right-constants) g (left-other (m .right) (rights js)) i) (single-other prefixR prefixL (m .left) (lefts js) (m .left-constants) g (right-other (m .left) (lefts js)) i) (map other columns) (rowOf (swapped m) y x))
         ∙ sum-by (shift r) (shift l) r l (map other columns) columns (rowOf (swapped m) y x) (rowOf (swapped m) y x) shift-rows shift-rows-l (makes-shift r l columns (rowOf (swapped m) y x))
         ∙ sym (sum-swap l r columns columns-in (rowOf (swapped m) y x))
