@@ -32,7 +32,7 @@ use Rattle.demand3.specs.Expected.{expectedCount}
 use Rattle.demand3.specs.Demand3.{Premises}
 use Rattle.answers.specs.Outcome.{written}
 use Rattle.merging.specs.Merge.{mergePatternsOutcome}
-use Rattle.laws.specs.Swapped.{swapped, rowOf, eitherSide, bothOrNeither}
+use Rattle.laws.specs.Swapped.{swapped, leftShown, rightShown, rowOf, eitherSide, bothOrNeither}
 
 abbrev left : Projection
 left = record { columns = bytes "?e" ∷ bytes "?r" ∷ []; inner = values (bytes "?e" ∷ bytes "?r" ∷ []) ((bytes "<e>" ∷ bytes "<1>" ∷ []) ∷ (bytes "<e>" ∷ bytes "<1>" ∷ []) ∷ (bytes "<f>" ∷ bytes "-" ∷ []) ∷ []) }
@@ -61,7 +61,8 @@ rows : rowOf (asked [] []) (two "<e>" "<1>") (two "<1>" "<a>") ∷ rowOf (swappe
 unfolding rowOf
 rows = refl
 
-sides : eitherSide (asked [] []) (two "<e>" "<1>") (two "<1>" "<a>") ≡ true
+-- the relay's cell is one, under either side
+sides : eitherSide (asked [] []) (two "<e>" "<1>") (two "<1>" "<a>") ∷ eitherSide (asked [] []) (two "<e>" "<1>") (two "<2>" "<a>") ∷ [] ≡ true ∷ false ∷ []
 unfolding eitherSide
 sides = refl
 
@@ -105,6 +106,11 @@ lopsided = record {
 uneven : bothOrNeither lopsided ≡ false
 unfolding bothOrNeither
 uneven = refl
+
+-- no column one way, one the other way
+shown : leftShown lopsided ∷ rightShown lopsided ∷ leftShown (swapped lopsided) ∷ rightShown (swapped lopsided) ∷ [] ≡ [] ∷ [] ∷ (0 ∷ []) ∷ [] ∷ []
+unfolding leftShown rightShown
+shown = refl
 
 -- the join column is gone where its left half has the constant, and stands where its right half has it
 columns : mergePatternsOutcome (bytes "project\t?a\nbgp\t0\n") (bytes "project\t?b\nbgp\t0\n") (bytes "0\t0\n") (bytes "0\t<k>\n") []
