@@ -1,7 +1,7 @@
 -- The laws of renaming twice and of a merge with its sides swapped, for all texts. Assumes nothing.
 use Prim.Native.Nat.{_≤_}
-use mathlib.Core.Path.{_≡_}
-use mathlib.Core.List.{List, map}
+use mathlib.Core.Path.{_≡_, refl}
+use mathlib.Core.List.{List, _++_, map}
 use lib.ListN.{length}
 use Rattle.text.specs.Text.{Bytes}
 use Rattle.algebra.specs.Tree.{Pattern}
@@ -11,15 +11,17 @@ use Rattle.algebra.specs.Query.{mapping}
 use Rattle.algebra.specs.Reader.{reads, number-of}
 use Rattle.algebra.specs.Bounded.{layoutPairs}
 use Rattle.algebra.specs.Texts.{readTree, readAnyTree, readPairs}
+use Rattle.scoping.specs.Label.{prefixL, prefixR}
 use Rattle.scoping.specs.Numbering.{byPlace}
 use Rattle.answers.specs.Outcome.{written}
 use Rattle.renaming.specs.Rename.{becomes, renameOutcome}
-use Rattle.merging.specs.Sides.{Pair}
+use Rattle.merging.specs.Sides.{Pair, lefts, rights}
 use Rattle.merging.specs.Request.{readJoins, Request}
 use Rattle.merging.specs.Merge.{mergePatternsOutcome, mergeQueriesOutcome}
 use Rattle.merging.specs.Asked.{Trees, Lists, Queries, behindHead}
+use Rattle.demand3.specs.Names.{columnName, mergedNames}
 use Rattle.laws.specs.Composed.{composed}
-use Rattle.laws.specs.Swapped.{turned, SwapCounted}
+use Rattle.laws.specs.Swapped.{turned, leftShown, rightShown, SwapCounted}
 use Rattle.laws.proofs.Through.{through-both, composed-once}
 use Rattle.laws.proofs.Middle.{middle-good}
 use Rattle.laws.proofs.SwapBytes.{patterns-swapped, queries-swapped}
@@ -50,13 +52,19 @@ middle-reads = middle-good
 
 -- ---- a merge with its sides swapped: where the one is written so is the other, and rows count the same
 
+-- the positions shown are those of the columns that demand 3 names, in their order
+pub columns-shown : (m : Request) → mergedNames m ≡ map (columnName prefixL (m .left) (lefts (m .joins))) (leftShown m) ++ map (columnName prefixR (m .right) (rights (m .joins))) (rightShown m)
+unfolding mergedNames leftShown rightShown
+columns-shown m = refl
+
+-- for trees
 pub swap-patterns-counts : (left right pairs pairs′ leftConstants rightConstants b : Bytes) (js : List Pair)
     → mergePatternsOutcome left right pairs leftConstants rightConstants ≡ written b → readJoins pairs ≡ reads js → readJoins pairs′ ≡ reads (map turned js)
     → (m : Request) × (b′ : Bytes) × Trees left right m × Lists pairs leftConstants rightConstants m
     × (mergePatternsOutcome right left pairs′ rightConstants leftConstants ≡ written b′) × SwapCounted m b b′
 swap-patterns-counts = patterns-swapped
 
--- both texts stand behind one head line
+-- for queries: both texts stand behind one head line
 pub swap-queries-counts : (left right pairs pairs′ leftConstants rightConstants b : Bytes) (js : List Pair)
     → mergeQueriesOutcome left right pairs leftConstants rightConstants ≡ written b → readJoins pairs ≡ reads js → readJoins pairs′ ≡ reads (map turned js)
     → (m : Request) × (kind dataset base text b′ text′ : Bytes) × Queries left right kind dataset base m × Lists pairs leftConstants rightConstants m
