@@ -1,2 +1,3 @@
 pub mod Variables
 pub mod Charted
+pub mod Head

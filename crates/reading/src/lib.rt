@@ -8,23 +8,25 @@ use checking::check::note_one;
 use cursor::Cursor;
 use lines::fields::Node;
 use lines::fields::Spot;
-use lines::line::Line;
-use lines::line::read_line;
-use lines::wanted::Wanted;
+use lines::fields::text_field;
 use names::Entry;
 use names::no_names;
+use words::keys;
 use words::table::WordRow;
+use words::word_at;
 ghost use mathlib.Core.Path.{_≡_};
-ghost use Prim.Native.Nat.{_+_};
-ghost use mathlib.Core.List.{[]};
+ghost use Prim.Native.Nat.{ℕ, _+_};
+ghost use mathlib.Core.List.{List, []};
 ghost use lib.ListN.{length, replicate};
 ghost use Rattle.text.specs.Text.{First};
 ghost use Rattle.algebra.specs.Texts.{readTree, readQuery, readSets, readFilters};
 ghost use Rattle.algebra.specs.Given.{readGivenQuery};
 ghost use Rattle.names.specs.bridge.Checked.{Checked};
+ghost use Rattle.lines.specs.bridge.Steps.{InLine, leftAt};
+ghost use Rattle.reading.specs.bridge.Head.{isHead};
 ghost use Rattle.reading.specs.bridge.Charted.{Charted, treeStart, queryStart};
 ghost use Rattle.reading.specs.bridge.Variables.{treeNames, queryNames, setNames, filterNames};
-ghost use Rattle.names.specs.bridge.Names.{startsOf, sizesOf, HoldsIn};
+ghost use Rattle.names.specs.bridge.Names.{startsOf, sizesOf, Holds};
 ghost use Rattle.words.specs.bridge.Words.{Worded};
 
 // A tree: its number, and the table of its distinct variables by first place.
@@ -57,32 +59,38 @@ pub fn note_tree(
     note_one(text, 2, DEPTH, words, table, hints, spots, nodes)
 }
 
-// A query's head line that stands alone.
-fn check_head(
-    text: &[u8],
-    line: Cursor,
-    words: &[WordRow; 56],
-    table: &mut [Entry; 1024],
-    hints: &mut [u16; 2048],
-) -> Answer
-    requires { ⌜ (line .at ≡ 0) × First 10 (now text) 0 (length (now text)) (line .end) × (line .end + 1 ≡ length (now text)) × HoldsIn (now text) (now table) (now hints) 0 [] × Worded (now words) ⌝ }
-    ensures { λ r. ⌜ Checked queryNames (now (text .entry)) (startsOf (now (table .exit))) (sizesOf (now (table .exit))) (now (hints .exit)) (readGivenQuery (now (text .entry))) r ⌝ }
+// The numbers of two kinds of field: a kind of query, and any bytes.
+const FORM: u8 = 14;
+
+const OPAQUE: u8 = 9;
+
+// The fields behind a head line's word: a kind of query, its dataset and its base, and no more.
+fn are_head_fields(s: &[u8], c: Cursor) -> bool
+    requires { ⌜ InLine (now s) c ⌝ }
+    ensures { λ r. ⌜ r ≡ isHead (leftAt (now (s .entry)) c) ⌝ }
+{
+    let kind = text_field(s, c, FORM);
+    let dataset = text_field(s, kind, OPAQUE);
+    let base = text_field(s, dataset, OPAQUE);
+    base.at == base.end + 1
+}
+
+// A query's head line that stands alone. It is told by itself, as the check of lines has no place for it.
+fn check_head(text: &[u8], line: Cursor) -> Answer
+    requires { ⌜ (line .at ≡ 0) × First 10 (now text) 0 (length (now text)) (line .end) × (line .end + 1 ≡ length (now text)) ⌝ }
+    ensures { λ r. ⌜ ((a l h : List ℕ) → Holds (now (text .entry)) a l h 0 [] → Checked queryNames (now (text .entry)) a l h (readGivenQuery (now (text .entry))) r) ⌝ }
 {
     if 16384 < text.len() {
         return Answer::OverBound;
     }
-    let mut no_spots: [Spot; 1] = [[0, 0, 0]];
-    let w = Wanted {
-        sort: 7,
-        level: DEPTH,
-        width: 0,
-        mark: 0,
-    };
-    match read_line(text, line, w, 0, words, table, hints, 0, &mut no_spots, 0) {
-        Line::Asks(a) => Answer::Good(a.names),
-        Line::Malformed => Answer::Malformed,
-        Line::OverBound => Answer::OverBound,
+    let word = word_at(text, line.at, line.end);
+    if word.key != keys::QUERY {
+        return Answer::Malformed;
     }
+    if are_head_fields(text, line.behind(word.end)) {
+        return Answer::Good(0);
+    }
+    Answer::Malformed
 }
 
 // A query: its head line, then a tree, or nothing, which is an empty file's tree.
@@ -100,7 +108,7 @@ pub fn check_query(
     if text.len() - line.end != 1 {
         return check_one(text, 7, DEPTH, words, table, hints);
     }
-    check_head(text, line, words, table, hints)
+    check_head(text, line)
 }
 
 // The same, and the spots and nodes of its tree.
