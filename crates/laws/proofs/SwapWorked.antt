@@ -66,7 +66,11 @@ sides : eitherSide (asked [] []) (two "<e>" "<1>") (two "<1>" "<a>") ∷ eitherS
 unfolding eitherSide
 sides = refl
 
-constants : bothOrNeither (asked [] []) ≡ true
+-- no constant, and one on each half of the pair
+abbrev held : String → List Constant
+held term = record { position = 1; term = bytes term } ∷ []
+
+constants : bothOrNeither (asked [] []) ∷ bothOrNeither (asked (held "<1>") (record { position = 0; term = bytes "<2>" } ∷ [])) ∷ [] ≡ true ∷ true ∷ []
 unfolding bothOrNeither
 constants = refl
 

@@ -3,7 +3,6 @@ use Prim.Native.Nat.{ℕ, _≤_}
 use mathlib.Core.Path.{_≡_, sym, ap, subst, _∙_}
 use mathlib.Core.Bool.{Bool, true, false}
 use mathlib.Core.List.{List}
-use mathlib.Core.Logic.{inl, inr}
 use mathlib.Core.Option.{Option, none, some}
 use mathlib.Core.Path.{refl}
 use native.Mathlib.Omega.{arith}
@@ -52,7 +51,23 @@ unfolding Enough Suffices Reported
 suffices room (refused k) h before after n s l r e = h (sym (r .0) ∙ e)
 suffices room (written b) h before after n s l r e = let z = r .0 (omega arith) .0 in omega arith
 
-pub suffices-both : (room entries : ℕ) (o : Outcome) (xs : List ℕ) → Enough room o → length xs ≤ entries → SufficesBoth room entries o xs
-unfolding Enough SufficesBoth ReportedBoth
-suffices-both room entries (refused k) xs h i before after lent left n s m p q r = inl (ap refused (sym (r .0)))
-suffices-both room entries (written b) xs h i before after lent left n s m p q r = inr (r .2 (omega arith) (omega arith) .0)
+-- a refusal that is 9 comes from no text either
+unfoldable pub NotNine : Outcome → Type 0
+NotNine (refused k) = k ≡ 9 → ⊥
+NotNine (written b) = Unit {0}
+
+pub then-not-nine : {A : Type 0} (o : Reading A) (k : A → Outcome) → ((a : A) → NotNine (k a)) → NotNine (then o k)
+unfolding NotNine
+then-not-nine (reads a) k f = f a
+then-not-nine (refuses malformed) k f = λ e. omega arith
+then-not-nine (refuses overBound) k f = λ e. omega arith
+
+pub test-not-nine : (n : ℕ) (t : Bool) (o : Outcome) → (n ≡ 9 → ⊥) → NotNine o → NotNine (refusedUnless n t o)
+unfolding NotNine
+test-not-nine n true o h f = f
+test-not-nine n false o h f = h
+
+pub suffices-both : (room entries : ℕ) (o : Outcome) (xs : List ℕ) → Enough room o → NotNine o → length xs ≤ entries → SufficesBoth room entries o xs
+unfolding Enough NotNine SufficesBoth ReportedBoth
+suffices-both room entries (refused k) xs h j i before after lent left n s m p q r = (λ e. h (sym (r .0) ∙ e), λ e. j (sym (r .0) ∙ e))
+suffices-both room entries (written b) xs h j i before after lent left n s m p q r = let z = r .2 (omega arith) (omega arith) .0 in (λ e. omega (arith, z, e), λ e. omega (arith, z, e))

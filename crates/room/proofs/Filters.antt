@@ -23,7 +23,7 @@ use Rattle.filtering.specs.IfFound.{ifFound}
 use Rattle.filtering.specs.Functions.{isConstantTrue, tryExpressionFromTree}
 use Rattle.filtering.specs.Filters.{placedExpression, andThose, expressions, both, conjunction, filtered, patternWithFilters, referencesInside, filtersOutcome}
 use Rattle.room.specs.Room.{filtersRoom}
-use Rattle.room.proofs.Enough.{Enough, then-enough, test-enough}
+use Rattle.room.proofs.Enough.{Enough, then-enough, test-enough, NotNine, then-not-nine, test-not-nine}
 use Rattle.walking.proofs.Sizes.{width, size, text-size, tree-size}
 use Rattle.room.proofs.Added.{put-same, putE-same}
 use Rattle.room.proofs.Modified.{modified-size}
@@ -79,3 +79,9 @@ filters-enough tree filters =
     let y = tree-given tree p e in
     let z = filters-exactly filters fs .0 i in
     omega (arith, with-filters-size p fs (y .valid) (z .1), tree-size p, tree-size (patternWithFilters p fs .pattern), y .size, filters-size fs, ap length (z .0))
+
+pub filters-not-nine : (tree filters : Bytes) → NotNine (filtersOutcome tree filters)
+unfolding filtersOutcome NotNine
+filters-not-nine tree filters =
+    then-not-nine (readGivenTree tree) _ λ p. then-not-nine (readFilters filters) _ λ fs.
+    test-not-nine 3 (ifFound (outermostProjection p) λ cs. all (referencesInside cs) fs) _ (λ z. omega arith) tt

@@ -22,7 +22,7 @@ use Rattle.room.proofs.Merge.{merge-patterns-enough, merge-queries-enou
 use Rattle.room.proofs.Push.{push-enough}
 use Rattle.room.proofs.Negate.{negate-enough}
 use Rattle.room.proofs.Bindings.{bindings-given-enough}
-use Rattle.room.proofs.Filters.{filters-enough}
+use Rattle.room.proofs.Filters.{filters-enough, filters-not-nine}
 
 -- ---- scope
 
@@ -92,4 +92,4 @@ unfolding filtersNotPlaced
 filters-list-room tree filters = list-in-bounds (readGivenTree tree) filters .0
 
 pub filters-never-short : (tree filters : Bytes) → SufficesBoth (filtersRoom (length tree) (length filters)) listRoom (filtersOutcome tree filters) (filtersNotPlaced tree filters)
-filters-never-short tree filters = suffices-both (filtersRoom (length tree) (length filters)) listRoom (filtersOutcome tree filters) (filtersNotPlaced tree filters) (filters-enough tree filters) (filters-list-room tree filters)
+filters-never-short tree filters = suffices-both (filtersRoom (length tree) (length filters)) listRoom (filtersOutcome tree filters) (filtersNotPlaced tree filters) (filters-enough tree filters) (filters-not-nine tree filters) (filters-list-room tree filters)

@@ -54,8 +54,8 @@ unfoldable pub Suffices : ℕ → Outcome → Type 0
 unfolding Reported
 Suffices room o = (before after : Bytes) (n s : ℕ) → room ≤ length before → Reported o before after n s → n ≡ 6 → ⊥
 
--- whoever lends so many bytes and so many entries or more is told what the texts alone decide: their refusal, or 0
+-- whoever lends so many bytes and so many entries or more is never told 6, nor 9, "list too short"
 unfoldable pub SufficesBoth : ℕ → ℕ → Outcome → List ℕ → Type 0
 unfolding ReportedBoth
 SufficesBoth room entries o xs =
-    (before after : Bytes) (lent left : List ℕ) (n s m : ℕ) → room ≤ length before → entries ≤ length lent → ReportedBoth o xs before after lent left n s m → (o ≡ refused n) ⊎ (n ≡ 0)
+    (before after : Bytes) (lent left : List ℕ) (n s m : ℕ) → room ≤ length before → entries ≤ length lent → ReportedBoth o xs before after lent left n s m → (n ≡ 6 → ⊥) × (n ≡ 9 → ⊥)
