@@ -12,7 +12,7 @@
  *
  * Every text is allowed. What a caller owes is what C asks of any such call, as nothing in C can test it:
  *
- * - no pointer is null, also where the number of bytes beside it is 0: an empty text is "" and 0;
+ * - no pointer is null, also where the number of bytes or entries beside it is 0: an empty text is "" and 0;
  * - each pointer is good for as many bytes, or entries of `list`, as the number beside it says, at most PTRDIFF_MAX bytes, and a
  *   text's bytes have values;
  * - `out` overlaps no text, `list` neither a text nor `out`, and `size` and `many` lie in none of them, nor in each other;

@@ -85,7 +85,7 @@ macro_rules! answer {
         $(let $text: &[u8] = $text;)+
         answered($room, |out: &mut [u8], size: &mut usize| {
             // SAFETY: gandeuch.h asks for five things.
-            // "no pointer is null, also where the number of bytes beside it is 0": pointers of slices never are.
+            // "no pointer is null, also where the number of bytes or entries beside it is 0": pointers of slices never are.
             // "each pointer is good for as many bytes, or entries of `list`, as the number beside it says, at most PTRDIFF_MAX
             // bytes, and a text's bytes have values": each pointer goes with its own slice's length, and a slice promises
             // just this.

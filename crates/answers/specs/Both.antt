@@ -1,4 +1,4 @@
--- What a call with two lent slices promises: bytes, and a list of numbers. docs/SPECIFICATION.md, "Filters". Assumes nothing.
+-- What a call with two lent slices promises: bytes, and a list of numbers. docs/SPECIFICATION.md, "Operation by operation". Assumes nothing.
 use Prim.Native.Nat.{ℕ, _≤_, _<_}
 use mathlib.Core.Path.{_≡_}
 use mathlib.Core.List.{List, _++_}

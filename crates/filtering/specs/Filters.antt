@@ -57,7 +57,7 @@ pub record WithFilters : Type 0 where
   pub pattern : Pattern
   pub remaining : List Filter
 
--- pattern_with_filters: its list of remaining filters is always empty
+-- pattern_with_filters: its list of remaining filters is always empty; what the call lists is `notPlaced`
 unfoldable pub patternWithFilters : Pattern → List Filter → WithFilters
 unfolding modifyOutermostProjection filtered expressions
 patternWithFilters p fs = record { pattern = modifyOutermostProjection (λ cs inner. filtered (expressions cs fs) inner) p; remaining = [] }

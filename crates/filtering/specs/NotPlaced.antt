@@ -1,4 +1,4 @@
--- The filters that the call filters did not place, by their numbers: docs/SPECIFICATION.md, "Filters". nemo's list of remaining filters is always empty. Assumes nothing.
+-- The filters that the call filters did not place, by their numbers: docs/SPECIFICATION.md, "filters". nemo's list of remaining filters is always empty. Assumes nothing.
 use Prim.Native.Nat.{ℕ, zero, suc}
 use mathlib.Core.Bool.{Bool, true, false, cond, not, _&&_}
 use mathlib.Core.List.{List, [], _∷_}
@@ -36,7 +36,7 @@ abbrev pub noneOr : {A : Type 0} → Outcome A → (A → List ℕ) → List ℕ
 noneOr (reads x) k = k x
 noneOr (refuses n) k = []
 
--- what the call filters writes into its second slice, beside `filtersRead`
+-- what the call filters writes into its second slice where it answers, beside `filtersRead`
 abbrev pub notPlacedRead : Outcome Pattern → Bytes → List ℕ
 notPlacedRead tree filters = noneOr tree λ p. noneOr (readFilters filters) λ fs. notPlaced (outermostProjection p) fs
 
@@ -47,7 +47,7 @@ filtersNotPlaced tree filters = notPlacedRead (readGivenTree tree) filters
 
 -- ---- what is said of that list
 
--- number k stands in the list, and fails the test
+-- there is an element number k, and it fails the test
 unfoldable pub failsAt : {A : Type 0} → (A → Bool) → ℕ → List A → Bool
 failsAt t k [] = false
 failsAt t zero (x ∷ xs) = not (t x)
