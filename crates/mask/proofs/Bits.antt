@@ -1,4 +1,4 @@
--- Masks: built from the lowest bit on, and how many ones they have. Assumes nothing.
+-- Bits as a number: built from the lowest on, and how many ones it has. Assumes nothing.
 use Prim.Native.Nat.{ℕ, suc, _+_, _*_, _/_, _%_, _^_, _≤_, _<_}
 use mathlib.Core.Path.{_≡_, refl, sym, ap, ap₂, _∙_}
 use mathlib.Core.List.{List, [], _∷_}
@@ -7,29 +7,15 @@ use native.Mathlib.Nat.{pow-suc, mul-assoc, mul-comm, add-mul, max-zero, max-eq-
 use native.Mathlib.Numerals.{add-one}
 use native.Mathlib.Omega.{arith}
 use lib.ListN.{length}
-use lib.Pow.{pow-mono, shl-exact}
 use lib.Count.{ones, ones-step}
 use lib.Bits.{bitOr, or-step, or-zero-r}
-use Rattle.columns.specs.bridge.Columns.{bitOf, maskOf}
+use Rattle.mask.specs.bridge.Mask.{bitOf, maskOf, countOf}
 
 -- ---- one bit more
 
 bit-small : (b : Bool) → bitOf b ≤ 1
 bit-small true = omega arith
 bit-small false = omega arith
-
-pub bit-none : (b : Bool) (g i : ℕ) → b ≡ false → g ≡ g + bitOf b * 2 ^ i
-bit-none b g i h = rw h (let z : g ≡ g + 0 * 2 ^ i = omega arith in z)
-
-pub bit-set : (b : Bool) (g i : ℕ) → b ≡ true → i < 64 → g + (1 * 2 ^ i) % 2 ^ 64 ≡ g + bitOf b * 2 ^ i
-bit-set b g i h l = rw h (ap (λ (n : ℕ). g + n) (shl-exact 1 i 64 (omega arith) (omega arith)))
-
-pub bit-room : (g i : ℕ) → i < 64 → g < 2 ^ i → g + (1 * 2 ^ i) % 2 ^ 64 < 2 ^ 64
-bit-room g i l h =
-    let a : (1 * 2 ^ i) % 2 ^ 64 ≡ 1 * 2 ^ i = shl-exact 1 i 64 (omega arith) (omega arith) in
-    let b : 2 ^ suc i ≤ 2 ^ 64 = pow-mono {i = suc i} {j = 64} (omega arith) in
-    let d : 2 ^ suc i ≡ 2 ^ i * 2 = pow-suc 2 i in
-    omega arith
 
 pub bit-below : (b : Bool) (g i : ℕ) → g < 2 ^ i → g + bitOf b * 2 ^ i < 2 ^ (i + 1)
 bit-below b g i h =
@@ -67,11 +53,6 @@ pub mask-high : (b : Bool) (bs : List Bool) → maskOf (b ∷ bs) / 2 ≡ maskOf
 unfolding maskOf
 mask-high true bs = omega arith
 mask-high false bs = omega arith
-
--- how many bits are set
-abbrev pub countOf : List Bool → ℕ
-countOf [] = 0
-countOf (b ∷ bs) = bitOf b + countOf bs
 
 pub mask-ones : (bs : List Bool) → ones (maskOf bs) ≡ countOf bs
 unfolding maskOf ones
