@@ -7,10 +7,11 @@ writes NAME.scope, NAME.rename, NAME.merge, NAME.push, NAME.bindings and NAME.fi
 lines10, lines50, lines200   ordinary queries of that many lines
 names1024                    16,384 bytes but for less than a line, with 1,024 short names
 names12                      16,384 bytes but for less than a line, with 12 names
-A mapping renames every third name of an ordinary query, and 64 names (or all) at the bounds. A merge has two such trees, without
+columns256                   16,384 bytes but for less than a line, with 300 names and 256 columns, where the others at the bounds have 64
+A mapping renames every third name of an ordinary query, and 64 names (256, or all) at the bounds. A merge has two such trees, without
 the `distinct` of the others. For an ordinary query it joins the first columns and has a constant on the left's last column; at the
-bounds it joins half of the columns, and a quarter has constants, on both sides. A push has the left side's constants. Bindings
-are a set of four rows at the first two columns, and at the bounds one of 16 rows at the first eight; filters are three, and at the bounds 64.
+bounds it joins half of the columns (all of 256), and a quarter has constants, on both sides. A push has the left side's constants. Bindings
+are a set of four rows at the first two columns, and at the bounds one of 16 rows at the first eight; filters are three, and at the bounds 64 (256).
 """
 
 import itertools
@@ -78,9 +79,9 @@ def short_names():
     return ["?" + first + second for first, second in itertools.product(letters, repeat=2)][: trees.NAMES]
 
 
-def at_bounds(names, room=trees.BYTES):
+def at_bounds(names, columns, room=trees.BYTES):
     """A projection over triples that go round the names, as long as whole lines allow."""
-    head, source, lines, text = laid("project " + " ".join(names[: trees.COLUMNS])), itertools.cycle(names), [], ""
+    head, source, lines, text = laid("project " + " ".join(names[:columns])), itertools.cycle(names), [], ""
     while len(text) <= room:
         shorter = text
         lines.append(f"t {next(source)} <{PROPERTIES[len(lines) % 10]}> {next(source)}")
@@ -109,10 +110,11 @@ def lists_of_ordinary(tree):
     return laid("0 0"), constants([tree.split("\n")[0].count("\t") - 1]), ""
 
 
-def lists_at_bounds(tree):
+def lists_at_bounds(tree, joined):
+    """So many joined columns, and constants on the quarter behind the first half."""
     width = tree.split("\n")[0].count("\t")
-    half, quarter = range(width // 2), range(width // 2, width // 2 + width // 4)
-    return "".join(f"{position}\t{position}\n" for position in half), constants(quarter), constants(quarter)
+    quarter = constants(range(width // 2, width // 2 + width // 4))
+    return "".join(f"{position}\t{position}\n" for position in range(min(joined, width))), quarter, quarter
 
 
 def bindings(width, rows):
@@ -146,9 +148,11 @@ def texts():
     for lines in (10, 50, 200):
         left = projected(lines)
         yield f"lines{lines}", input_texts(ordinary(lines), 3, left, projected(lines, 5), left, lists_of_ordinary(left), (bindings(2, 4), filters(2, 3)))
-    for name, own, step in (("names1024", short_names(), 16), ("names12", [thing(number) for number in range(12)], 1)):
-        tree = at_bounds(own)
-        yield name, input_texts(tree, step, tree, at_bounds(own[::-1]), at_bounds(own, trees.BYTES - len(HEAD)), lists_at_bounds(tree), (bindings(8, 16), filters(8, 64)))
+    few = [thing(number) for number in range(12)]
+    for name, own, step, columns, joined in (("names1024", short_names(), 16, 64, 32), ("names12", few, 1, 64, 6), ("columns256", short_names()[:300], 1, 256, 256)):
+        tree, right = at_bounds(own, columns), at_bounds(own[::-1], columns)
+        placed = bindings(8, 16), filters(8, columns)
+        yield name, input_texts(tree, step, tree, right, at_bounds(own, columns, trees.BYTES - len(HEAD)), lists_at_bounds(tree, joined), placed)
 
 
 def main():

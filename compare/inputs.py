@@ -112,7 +112,7 @@ class Inputs:
         return maker.text()
 
     def names(self, maker):
-        """64 columns over 1,024 names."""
+        """256 columns over 1,024 names."""
         maker.line(b"project", *[b"?%x" % number for number in self.rng.sample(range(trees.NAMES), trees.COLUMNS)])
         trees.many_names(maker)
 

@@ -7,7 +7,7 @@
 import random
 import sys
 
-BYTES, LINES, DEPTH, NAMES, COLUMNS, ENTRIES, NAME = 16384, 2048, 64, 1024, 64, 64, 128
+BYTES, LINES, DEPTH, NAMES, COLUMNS, ENTRIES, NAME = 16384, 2048, 64, 1024, 256, 256, 128
 
 # Words whose fields may be variables, and which fields those are; None for all.
 SLOTS = {
@@ -266,7 +266,7 @@ def deep(maker):
 
 
 def wide(maker):
-    """A projection of 64 columns."""
+    """A projection of 256 columns."""
     maker.line(b"project", *maker.variables(COLUMNS))
     maker.pattern(2, 20)
 

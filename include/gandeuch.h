@@ -61,7 +61,7 @@ enum {
 #define GANDEUCH_FILTERS_ROOM(tree_size, filters_size) ((size_t)(tree_size) + 24 * (size_t)(filters_size) + 14)
 
 /* How many entries to lend as `list`: a call that is lent so many never returns GANDEUCH_LIST_TOO_SHORT. It is proved too. */
-#define GANDEUCH_LIST_ROOM ((size_t)64)
+#define GANDEUCH_LIST_ROOM ((size_t)256)
 
 #ifdef __cplusplus
 extern "C" {

@@ -247,45 +247,45 @@ def names_bound(case):
     case(1, "tree", "names-1025-left-over", full + "/graph ?%%/bgp 0")
 
 
-# A project has at most 64 columns; values, group and at may have more.
+# A project has at most 256 columns; values, group and at may have more.
 
 def project(n, *more):
     return " ".join(["project", *names(n), *more])
 
 
 def columns_bound(case):
-    for n, expect in ((63, 0), (64, 0), (65, 2), (66, 2), (200, 2)):
+    for n, expect in ((255, 0), (256, 0), (257, 2), (258, 2), (400, 2)):
         case(expect, "tree", "columns-%d" % n, project(n) + "/bgp 0")
-    for n, expect in ((64, 0), (65, 2)):
+    for n, expect in ((256, 0), (257, 2)):
         case(expect, "tree", "columns-%d-inner" % n, "join/bgp 0/distinct/%s/bgp 0" % project(n))
         case(expect, "tree", "columns-%d-exists" % n, "filter/bgp 0/exists/%s/bgp 0" % project(n))
-        case(expect, "tree", "columns-%d-below-project" % n, "%s/%s/bgp 0" % (project(64), project(n)))
+        case(expect, "tree", "columns-%d-below-project" % n, "%s/%s/bgp 0" % (project(256), project(n)))
         case(expect, "tree", "columns-%d-repeated" % n, "project%s/bgp 0" % (" ?a" * n))
         for kind in ("select", "ask", "construct", "describe"):
             case(expect, "query", "columns-%d-%s" % (n, kind), "query %s - -/%s/bgp 0" % (kind, project(n)))
-    case(1, "tree", "columns-65-malformed", project(64, "?") + "/bgp 0")
-    case(1, "tree", "columns-66-malformed", project(65, "<k>") + "/bgp 0")
-    case(1, "tree", "columns-66-empty", project(65, "") + "/bgp 0")
-    case(1, "tree", "columns-65-unended", lines(project(65))[:-1])
-    case(2, "tree", "columns-65-then-missing", project(65))
-    case(2, "tree", "columns-65-then-malformed", project(65) + "/foo")
-    case(1, "tree", "columns-malformed-then-65", "distinct x/%s/bgp 0" % project(65))
-    case(1, "tree", "columns-65-left-over", "bgp 0/%s/bgp 0" % project(65))
-    case(1, "tree", "columns-65-not-wanted", "filter/bgp 0/%s/bgp 0" % project(65))
-    case(0, "tree", "columns-65-values", "values 65 1/cols%s/row%s" % (" ?a" * 65, " -" * 65))
-    case(0, "tree", "columns-65-group", "group 65 0/cols%s/bgp 0" % (" ?a" * 65))
-    case(0, "tree", "aggregates-65", "group 0 65/cols/bgp 0" + "/aggall ?v 0" * 65)
-    case(0, "tree", "conditions-65", "orderby 65/bgp 0" + "/asc/bound ?v" * 65)
-    case(0, "tree", "triples-65", "bgp 65" + "/t ?s ?p ?o" * 65)
-    case(0, "tree", "children-65", "filter/bgp 0/call f 65" + "/bound ?v" * 65)
-    case(0, "tree", "rows-65", "values 1 65/cols ?a" + "/row -" * 65)
-    case(0, "bindings", "columns-65-at", "set 65 0/at" + " 0" * 65)
-    case(0, "bindings", "columns-70-row", "set 70 1/at%s/row%s" % (" 0" * 70, " Null  -" * 70))
-    case(0, "bindings", "rows-65-bindings", "set 1 65/at 0" + "/row Null  -" * 65)
-    case(0, "filters", "parts-65", "nary f 65" + "/ref 0" * 65)
+    case(1, "tree", "columns-257-malformed", project(256, "?") + "/bgp 0")
+    case(1, "tree", "columns-258-malformed", project(257, "<k>") + "/bgp 0")
+    case(1, "tree", "columns-258-empty", project(257, "") + "/bgp 0")
+    case(1, "tree", "columns-257-unended", lines(project(257))[:-1])
+    case(2, "tree", "columns-257-then-missing", project(257))
+    case(2, "tree", "columns-257-then-malformed", project(257) + "/foo")
+    case(1, "tree", "columns-malformed-then-257", "distinct x/%s/bgp 0" % project(257))
+    case(1, "tree", "columns-257-left-over", "bgp 0/%s/bgp 0" % project(257))
+    case(1, "tree", "columns-257-not-wanted", "filter/bgp 0/%s/bgp 0" % project(257))
+    case(0, "tree", "columns-257-values", "values 257 1/cols%s/row%s" % (" ?a" * 257, " -" * 257))
+    case(0, "tree", "columns-257-group", "group 257 0/cols%s/bgp 0" % (" ?a" * 257))
+    case(0, "tree", "aggregates-257", "group 0 257/cols/bgp 0" + "/aggall ?v 0" * 257)
+    case(0, "tree", "conditions-257", "orderby 257/bgp 0" + "/asc/bound ?v" * 257)
+    case(0, "tree", "triples-257", "bgp 257" + "/t ?s ?p ?o" * 257)
+    case(0, "tree", "children-257", "filter/bgp 0/call f 257" + "/bound ?v" * 257)
+    case(0, "tree", "rows-257", "values 1 257/cols ?a" + "/row -" * 257)
+    case(0, "bindings", "columns-257-at", "set 257 0/at" + " 0" * 257)
+    case(0, "bindings", "columns-260-row", "set 260 1/at%s/row%s" % (" 0" * 260, " Null  -" * 260))
+    case(0, "bindings", "rows-257-bindings", "set 1 257/at 0" + "/row Null  -" * 257)
+    case(0, "filters", "parts-257", "nary f 257" + "/ref 0" * 257)
 
 
-# A list has at most 64 entries, a whole binding set or filter being one.
+# A list has at most 256 entries, a whole binding set or filter being one.
 
 LISTS = {"joins": "%d 0", "constants": "%d <k>", "mapping": "?m%d ?n", "bindings": "set 1 0/at %d",
          "filters": "un f/ref %d"}
@@ -297,10 +297,10 @@ def entries(kind, n):
 
 def entries_bound(case):
     for kind, entry in LISTS.items():
-        for n, expect in ((1, 0), (2, 0), (63, 0), (64, 0), (65, 2)):
+        for n, expect in ((1, 0), (2, 0), (255, 0), (256, 0), (257, 2)):
             case(expect, kind, "entries-%d-%s" % (n, kind), entries(kind, n))
-        full, first = entries(kind, 64), entry.split("/")[0].replace("%d", "64")
-        label = "entries-65-%s-" % kind
+        full, first = entries(kind, 256), entry.split("/")[0].replace("%d", "256")
+        label = "entries-257-%s-" % kind
         case(2, kind, label + "first-line", full + "/" + first)
         case(2, kind, label + "then-malformed", "%s/%s/foo" % (full, first))
         case(2, kind, label + "then-unended", lines(full + "/" + first) + b"x")
@@ -308,28 +308,28 @@ def entries_bound(case):
         case(1, kind, label + "empty", full + "/")
         case(1, kind, label + "field-more", "%s/%s 0" % (full, first))
         case(1, kind, label + "unended", lines(full + "/" + first)[:-1])
-        case(1, kind, label + "after-malformed", "%s/foo/%s" % (entries(kind, 63), first))
-        case(1, kind, label + "malformed-first", "foo/" + entries(kind, 65))
-    for kind, first, last in (("constants", "0 <k>", "63 <k>"), ("mapping", "?m0 ?x", "?m63 ?x")):
-        case(1, kind, "entries-65-%s-repeat" % kind, entries(kind, 64) + "/" + first)
-        case(1, kind, "entries-65-%s-repeat-last" % kind, entries(kind, 64) + "/" + last)
-        case(2, kind, "entries-65-%s-then-repeat" % kind, entries(kind, 65) + "/" + first)
+        case(1, kind, label + "after-malformed", "%s/foo/%s" % (entries(kind, 255), first))
+        case(1, kind, label + "malformed-first", "foo/" + entries(kind, 257))
+    for kind, first, last in (("constants", "0 <k>", "255 <k>"), ("mapping", "?m0 ?x", "?m255 ?x")):
+        case(1, kind, "entries-257-%s-repeat" % kind, entries(kind, 256) + "/" + first)
+        case(1, kind, "entries-257-%s-repeat-last" % kind, entries(kind, 256) + "/" + last)
+        case(2, kind, "entries-257-%s-then-repeat" % kind, entries(kind, 257) + "/" + first)
     for kind, entry, label in (("joins", b"0\t0\n", "repeated"), ("bindings", b"set\t0\t0\nat\n", "empty-sets"),
                                ("filters", b"ref\t0\n", "refs"), ("filters", b"un\tf\n" * 3 + b"ref\t0\n", "deep")):
-        case(0, kind, "entries-64-%s-%s" % (kind, label), entry * 64)
-        case(2, kind, "entries-65-%s-%s" % (kind, label), entry * 65)
-    sets_ = b"set\t0\t0\nat\n" * 64
-    case(2, "bindings", "entries-65-count-max", sets_ + b"set\t4294967295\t4294967295\n")
-    case(1, "bindings", "entries-64-left-over-row", sets_ + b"row\n")
-    case(2, "filters", "entries-65-missing-part", b"ref\t0\n" * 64 + b"bin\tf\n")
-    case(1, "filters", "entries-64-missing-part", b"ref\t0\n" * 63 + b"bin\tf\nref\t0\n")
-    case(1, "filters", "entries-65-malformed-part", b"ref\t0\n" * 64 + b"ref\t01\n")
+        case(0, kind, "entries-256-%s-%s" % (kind, label), entry * 256)
+        case(2, kind, "entries-257-%s-%s" % (kind, label), entry * 257)
+    sets_ = b"set\t0\t0\nat\n" * 256
+    case(2, "bindings", "entries-257-count-max", sets_ + b"set\t4294967295\t4294967295\n")
+    case(1, "bindings", "entries-256-left-over-row", sets_ + b"row\n")
+    case(2, "filters", "entries-257-missing-part", b"ref\t0\n" * 256 + b"bin\tf\n")
+    case(1, "filters", "entries-256-missing-part", b"ref\t0\n" * 255 + b"bin\tf\nref\t0\n")
+    case(1, "filters", "entries-257-malformed-part", b"ref\t0\n" * 256 + b"ref\t01\n")
 
 
 # The first bad line decides; on a line 1 comes before 2.
 
 def first_bad_line(case):
-    wide = "project" + " ?a" * 65
+    wide = "project" + " ?a" * 257
     case(2, "tree", "order-wide-then-malformed", wide + "/bgp x")
     case(1, "tree", "order-malformed-then-wide", "join/bgp x/%s/bgp 0" % wide)
     case(2, "tree", "order-wide-then-cut", "join/" + wide)

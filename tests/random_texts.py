@@ -302,12 +302,12 @@ def close_to_bound(kind, rng):
             lines += [b"join\n" if names else b"", b"values\t%d\t0\ncols\t" % len(some) + b"\t".join(some) + b"\n"]
         return head + b"".join(lines)
     if measure == "columns":
-        n = near(64)
+        n = near(256)
         above = [b"distinct\n", b"filter\n", b""][rng.randrange(3)]
         after = b"bound\t?x\n" if above == b"filter\n" else b""
         return head + above + b"project" + b"\t?x" * n + b"\nbgp\t0\n" + after
     if measure == "entries":
-        n = near(64)
+        n = near(256)
         line = {"joins": lambda i: b"0\t1\n", "constants": lambda i: b"%d\t<k>\n" % i,
                 "mapping": lambda i: b"?%d\t?x\n" % i, "bindings": lambda i: b"set\t0\t1\nat\nrow\n",
                 "filters": lambda i: joined(make.part(1))}[kind]

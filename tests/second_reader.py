@@ -114,8 +114,8 @@ class Text:
     def within(self, *terms, depth=1, columns=0, entry=1):
         """The bounds, for a line that is well formed; terms may be variables."""
         self.names.update(t for t in terms if variable(t))
-        bounds = {"2048 lines": self.lines > 2048, "depth 64": depth > 64, "64 columns": columns > 64,
-                  "64 entries": entry > 64, "1024 variables": len(self.names) > 1024}
+        bounds = {"2048 lines": self.lines > 2048, "depth 64": depth > 64, "256 columns": columns > 256,
+                  "256 entries": entry > 256, "1024 variables": len(self.names) > 1024}
         for bound, passed in bounds.items():
             if passed:
                 raise OverBound(bound)

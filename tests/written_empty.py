@@ -19,7 +19,7 @@ def rename(name, expected, mapping):
 TREES = [
     ("scope", "empty-line", b"\n", refused(1)), ("scope", "empty-unended", b"p", refused(1)),
     rename("empty-mapped", LINES, "?a ?b/?b ?a"), rename("empty-mapping-malformed", 1, "?a"),
-    rename("empty-mapping-over-bound", 2, "/".join("?c%d ?d" % i for i in range(65))), ("rename", "empty-line", b"\n" + BAR, refused(1)),
+    rename("empty-mapping-over-bound", 2, "/".join("?c%d ?d" % i for i in range(257))), ("rename", "empty-line", b"\n" + BAR, refused(1)),
     merge("empty-left", BAY_RIGHT, "", BAY), merge("empty-right", BAY_LEFT, BAY, ""), merge("empty-both", BOTH, "", ""),
     merge("empty-written-out", BAY_RIGHT, LINES, BAY),
     merge("empty-left-constants-of-right", "project ?r1/join/bgp 0/join/bgp 1/t ?r0 <in> ?r1/values 1 1/cols ?r0/row <k>", "", BAY, "", "", "0 <k>"),
@@ -77,12 +77,12 @@ PLACINGS = [
     bindings("empty-no-rows", "project/join/bgp 0/values 0 0/cols", "", "set 0 0/at"),
     bindings("empty-two-sets", "project/join/join/bgp 0/values 0 1/cols/row/values 0 0/cols", "", "set 0 1/at/row/set 0 0/at"),
     bindings("empty-position", 3, "", "set 1 0/at 0"), bindings("empty-position-before-value", 3, "", "set 0 0/at/set 1 1/at 0/row Map x -"),
-    bindings("empty-sets-malformed", 1, "", "set 0"), bindings("empty-sets-over", 2, "", "/".join(["set 0 0/at"] * 65)), bindings("empty-line", 1, b"\n"),
+    bindings("empty-sets-malformed", 1, "", "set 0"), bindings("empty-sets-over", 2, "", "/".join(["set 0 0/at"] * 257)), bindings("empty-line", 1, b"\n"),
     filters("empty", LINES, ""), filters("empty-constant", 'project/filter/bgp 0/term "false"^^<d>', "", "leaf Boolean false <d>"),
     filters("empty-two", 'project/filter/bgp 0/and/term <k>/eq/term "1"/term "1"', "", "leaf Iri k -/bin Equals/leaf PlainString 1 -/leaf PlainString 1 -"),
     filters("empty-true", LINES, "", "leaf Boolean true <d>", [0]), filters("empty-dropped", LINES, "", "nary f 0", [0]), filters("empty-reference", 3, "", "ref 0"),
     filters("empty-reference-dropped", 3, "", "nary f 1/ref 0"), filters("empty-filters-malformed", 1, "", "un f"),
-    filters("empty-filters-over", 2, "", "/".join(["nary f 0"] * 65)), filters("empty-line", 1, b"\n"),
+    filters("empty-filters-over", 2, "", "/".join(["nary f 0"] * 257)), filters("empty-line", 1, b"\n"),
 ]
 
 WRITTEN = TREES + QUERIES + LONG_HEADS + PLACINGS

@@ -35,8 +35,8 @@ BAY = "project ?r ?bay/bgp 1/t ?r <in> ?bay"
 MERGED = "project ?l0 ?j0 ?r1/join/bgp 1/t ?l0 <by> ?j0/bgp 1/t ?j0 <in> ?r1"
 NO_PROJECT = "distinct/project ?a/bgp 0"
 BAD_JOIN, BAD_CONSTANT, TWICE = "0", "0 ?a", "0 <k>/0 <l>"
-MANY_JOINS = "/".join(["0 0"] * 65)
-MANY_CONSTANTS = "/".join("%d <k>" % i for i in range(65))
+MANY_JOINS = "/".join(["0 0"] * 257)
+MANY_CONSTANTS = "/".join("%d <k>" % i for i in range(257))
 OVER_QUERY = text(SELECT[:-1]) + OVER
 BAD_QUERY = text(SELECT[:-1]) + MALFORMED
 
@@ -163,6 +163,44 @@ BARS = [
 ]
 
 
+# 256 columns on each side: all shown, all joined, all bound, each the other way round; the last one joined and bound; one more column.
+
+MOST = 256
+
+
+def fields(pattern, numbers=range(MOST)):
+    return " ".join(pattern % number for number in numbers)
+
+
+def listed(pattern, numbers=range(MOST)):
+    return "/".join(pattern.replace("%d", str(number)) for number in numbers)
+
+
+def bound(prefix, numbers=range(MOST)):
+    return "join/bgp 0/values %d 1/cols %s/row %s" % (len(numbers), fields("?%s%%d" % prefix, numbers), fields("<k%d>", numbers))
+
+
+WIDE = "project %s/bgp 0" % fields("?c%d")
+BACK = range(MOST - 1, -1, -1)
+WIDEST = [
+    merge("columns-512", "project %s %s/join/bgp 0/bgp 0" % (fields("?l%d"), fields("?r%d")), WIDE, WIDE),
+    merge_queries("columns-512", SELECT + "project %s %s/join/bgp 0/bgp 0" % (fields("?l%d"), fields("?r%d")), SELECT + WIDE, SELECT + WIDE),
+    merge("joined-256", "project %s/join/bgp 0/bgp 0" % fields("?j%d"), WIDE, WIDE, listed("%d %d")),
+    merge("joined-256-back", "project %s/join/bgp 0/bgp 0" % fields("?j%d", BACK), WIDE, WIDE, listed("%d %d", BACK)),
+    merge("joined-255-0", "project %s ?j0 %s/join/bgp 0/bgp 0" % (fields("?l%d", range(255)), fields("?r%d", range(1, MOST))), WIDE, WIDE, "255 0"),
+    merge("joined-256-outside", 3, WIDE, WIDE, "0 256"),
+    merge("joined-twice-of-256", 10, WIDE, WIDE, listed("%d %d", [*range(255), 0])),
+    merge("bound-256", "project/join/%s/%s" % (bound("l"), bound("r")), WIDE, WIDE, "", listed("%d <k%d>"), listed("%d <k%d>", BACK)),
+    merge("bound-255", "project %s %s/join/%s/bgp 0" % (fields("?l%d", range(255)), fields("?r%d"), bound("l", [255])), WIDE, WIDE, "", "255 <k255>"),
+    merge("bound-256-outside", 3, WIDE, WIDE, "", "", "256 <k>"),
+    merge("columns-257-left", 2, "project ?more %s/bgp 0" % fields("?c%d"), WIDE),
+    merge("columns-257-right", 2, WIDE, "project ?more %s/bgp 0" % fields("?c%d")),
+    push("bound-256", SELECT + "project/" + bound("v"), SELECT + WIDE, listed("%d <k%d>", BACK)),
+    push("bound-64-to-127", SELECT + "project %s/%s" % (fields("?v%d", [*range(64), *range(128, MOST)]), bound("v", range(64, 128))), SELECT + WIDE, listed("%d <k%d>", range(64, 128))),
+    push("bound-256-outside", 3, SELECT + WIDE, "256 <k>"),
+]
+
+
 # An input of exactly 65,536 bytes whose answer has as many, and one with one more byte in the answer.
 
 TREE_BYTES = 16384
@@ -194,4 +232,4 @@ def limits():
     return [("merge", "longest-input-and-answer", given, written), ("merge", "answer-too-long", over, refused(6))]
 
 
-WRITTEN = CASES + CONSTANTS + ORDERS + KINDS + FIVE + REPEATED + ORDER + BARS + limits()
+WRITTEN = CASES + CONSTANTS + ORDERS + KINDS + FIVE + REPEATED + ORDER + BARS + WIDEST + limits()

@@ -72,7 +72,7 @@ BINDINGS = [
     bindings("tree-malformed", 1, MALFORMED, "set 1 0/at 2"),
     bindings("sets-malformed", 1, TREE, "set 1 0"),
     bindings("tree-first", 2, OVER, "set 1 0"),
-    bindings("sets-over", 2, TREE, "/".join(["set 0 0/at"] * 65)),
+    bindings("sets-over", 2, TREE, "/".join(["set 0 0/at"] * 257)),
     bindings("too-long", 6, "project ?%s/bgp 0" % ("a" * 128), "set 600 0/at" + " 0" * 600),
     ("bindings", "no-bar", text(TREE), refused(1)),
     ("bindings", "too-long-input", padded(text(TREE) + BAR, LONG + 1), refused(2)),
@@ -98,7 +98,7 @@ FILTERS = [
     filters("outside-behind-dropped", 3, TREE, "bin Equals/leaf Null x -/ref 2"),
     filters("tree-malformed", 1, MALFORMED, "ref 2"),
     filters("filters-malformed", 1, TREE, "un Datatype"),
-    filters("filters-over", 2, TREE, "/".join(["ref 0"] * 65)),
+    filters("filters-over", 2, TREE, "/".join(["ref 0"] * 257)),
     ("filters", "two-bars", text(TREE) + BAR + BAR, refused(1)),
 ]
 
@@ -116,10 +116,10 @@ LISTS = [
     filters("left-none-not-found", NONE, NONE),
     filters("left-below-group", "group 0 0/cols/project ?a/filter/bgp 0/term ?a", "group 0 0/cols/project ?a/bgp 0", "nary x 0/ref 0", [0]),
     filters("left-two-digits", "project ?a/filter/bgp 0/term ?a", "project ?a/bgp 0", "/".join(["nary x 0"] * 10 + ["ref 0"] + ["nary x 0"] * 2), [*range(10), 11, 12]),
-    filters("left-64", "project ?a/bgp 0", "project ?a/bgp 0", "/".join(["nary x 0"] * 64), range(64)),
-    filters("left-64-not-found", NONE, NONE, "/".join(["ref 9"] * 64), range(64)),
-    filters("left-last-of-64", "project ?a/filter/bgp 0/" + "and/" * 62 + "/".join(["term ?a"] * 63), "project ?a/bgp 0", "/".join(["ref 0"] * 63 + ["nary x 0"]), [63]),
-    filters("left-none-of-64", "project ?a/filter/bgp 0/" + "and/" * 63 + "/".join(["term ?a"] * 64), "project ?a/bgp 0", "/".join(["ref 0"] * 64)),
+    filters("left-256", "project ?a/bgp 0", "project ?a/bgp 0", "/".join(["nary x 0"] * 256), range(256)),
+    filters("left-256-not-found", NONE, NONE, "/".join(["ref 9"] * 256), range(256)),
+    filters("left-last-of-256", "project ?a/filter/bgp 0/" + "and/" * 254 + "/".join(["term ?a"] * 255), "project ?a/bgp 0", "/".join(["ref 0"] * 255 + ["nary x 0"]), [255]),
+    filters("left-none-of-256", "project ?a/filter/bgp 0/" + "and/" * 255 + "/".join(["term ?a"] * 256), "project ?a/bgp 0", "/".join(["ref 0"] * 256)),
     filters("refused-lists-none", 3, TREE, "nary x 0/ref 2"),
     filters("too-long-lists-none", 6, "project ?%s/bgp 0" % ("a" * 128), "nary x 0/nary x 0" + ("/bin Equals" * 9 + "/ref 0" * 10) * 62),
 ]

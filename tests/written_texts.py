@@ -18,4 +18,4 @@ def padded(start, size):
 
 
 MALFORMED = text("bgp 1")
-OVER = text("project " + " ".join("?c%d" % i for i in range(65)) + "/bgp 0")
+OVER = text("project " + " ".join("?c%d" % i for i in range(257)) + "/bgp 0")

@@ -38,4 +38,4 @@ pub fn filters(tree: &[u8], filters: &[u8]) -> usize {
 }
 
 /// Entries of a list: as many as there are filters at most.
-pub const LIST: usize = 64;
+pub const LIST: usize = 256;

@@ -161,7 +161,7 @@ fn rooms_are_those_of_the_header() {
             room::filters(&tree, &list),
             354,
         ),
-        ("LIST_ROOM(64)", room::LIST, 64),
+        ("LIST_ROOM(256)", room::LIST, 256),
         ("TEXT(16384)", room::scope(&[0; 20_000]), 16_391),
         ("STACK(262144)", STACK, 262_144 + 4_096),
     ];

@@ -107,16 +107,23 @@ fn depth_of_paths_is_bounded() {
     }
 }
 
-/// A filter below 63 patterns, 64 parts in one `and`, the first with 63 times `Unequals`.
+/// A filter below 63 patterns, 256 parts in one chain of `and`, the first with 63 times `Unequals`; and a chain that is longer.
 #[test]
 fn the_deepest_answer_is_read() {
     let tree = [text("distinct").repeat(62), text("project|?a/bgp|0")].concat();
     let first = [text("bin|Unequals").repeat(63), text("ref|0").repeat(64)].concat();
-    let filters = [first, text("ref|0").repeat(63)].concat();
+    let filters = [first, text("ref|0").repeat(255)].concat();
     let (answer, left) = gandeuch::filters(&tree, &filters).expect("an answer");
     assert!(left.is_empty());
     let read = layout::read_pattern(&answer).expect("a tree");
     assert_eq!(layout::write_pattern(&read), Ok(answer));
+    let chain = |count: usize| {
+        let parts = text("bound|?a").repeat(count + 1);
+        [text("filter/bgp|0"), text("and").repeat(count), parts].concat()
+    };
+    assert!(layout::read_pattern(&chain(255)).is_ok());
+    let longer = layout::read_pattern(&chain(256));
+    assert_eq!(longer, Err(ReadError::TooDeep { line: 258 }));
 }
 
 #[test]

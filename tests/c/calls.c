@@ -6,7 +6,7 @@
 
 #include "gandeuch.h"
 
-enum { AROUND = 64, ROOM = 1024, BUFFER = AROUND + ROOM + AROUND, LONGEST = 16384, ENTRIES = 64, TEXTS = 5, MADE = 14 };
+enum { AROUND = 64, ROOM = 1024, BUFFER = AROUND + ROOM + AROUND, LONGEST = 16384, ENTRIES = 256, TEXTS = 5, MADE = 14 };
 
 #define TREE "project\t?a\t?b\nminus\nbgp\t1\nt\t?a\t<p>\t?b\nservice\t?s\t0\nbgp\t1\nt\t?b\t<q>\t?c\n"
 #define SCOPE "in\t?a\t?b\nhid\t?a\t?b\t?c\n"

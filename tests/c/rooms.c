@@ -14,7 +14,7 @@ _Static_assert(GANDEUCH_PUSH_ROOM(LONGEST, LONGEST) == 65578, "push");
 _Static_assert(GANDEUCH_NEGATE_ROOM(LONGEST) == 16422, "negate");
 _Static_assert(GANDEUCH_BINDINGS_ROOM(LONGEST, LONGEST) == 1081358, "bindings");
 _Static_assert(GANDEUCH_FILTERS_ROOM(LONGEST, LONGEST) == 409614, "filters");
-_Static_assert(GANDEUCH_LIST_ROOM == 64, "list");
+_Static_assert(GANDEUCH_LIST_ROOM == 256, "list");
 
 /* A text, and a byte more for the zero that ends it while it is made. */
 struct text {

@@ -76,8 +76,8 @@ columns : ℕ → Bytes → Bytes
 columns zero t = t
 columns (suc n) t = bytes "\t?x" ++ columns n t
 
--- 64 columns, and 65, over a line that is a pattern, or is not: the first line counts
-widths : map numbered ((bytes "project" ++ columns 64 (bytes "\nbgp\t0\n")) ∷ (bytes "project" ++ columns 64 (bytes "\nbad\n")) ∷ (bytes "project" ++ columns 65 (bytes "\nbad\n")) ∷ []) ≡ 0 ∷ 1 ∷ 2 ∷ []
+-- 256 columns, and 257, over a line that is a pattern, or is not: the first line counts
+widths : map numbered ((bytes "project" ++ columns 256 (bytes "\nbgp\t0\n")) ∷ (bytes "project" ++ columns 256 (bytes "\nbad\n")) ∷ (bytes "project" ++ columns 257 (bytes "\nbad\n")) ∷ []) ≡ 0 ∷ 1 ∷ 2 ∷ []
 unfolding columns numbered
 widths = refl
 
@@ -117,8 +117,8 @@ repeated : ℕ → Bytes → Bytes
 repeated zero t = t
 repeated (suc n) t = bytes "0\t0\n" ++ repeated n t
 
--- 64 entries, and 65: the line of entry 65 is well formed, or it is not
-entries : map (λ s. number-of (readPairs joins s)) (repeated 64 [] ∷ repeated 65 [] ∷ repeated 64 (bytes "0\t?x\n") ∷ repeated 65 (bytes "0\t?x\n") ∷ []) ≡ 0 ∷ 2 ∷ 1 ∷ 2 ∷ []
+-- 256 entries, and 257: the line of entry 257 is well formed, or it is not
+entries : map (λ s. number-of (readPairs joins s)) (repeated 256 [] ∷ repeated 257 [] ∷ repeated 256 (bytes "0\t?x\n") ∷ repeated 257 (bytes "0\t?x\n") ∷ []) ≡ 0 ∷ 2 ∷ 1 ∷ 2 ∷ []
 unfolding repeated numbered
 entries = refl
 

@@ -21,7 +21,7 @@ pub record Limits : Type 0 where
 
 -- the specification's bounds
 abbrev pub bounds : Limits
-bounds = record { bytes = 16384; lines = 2048; depth = 64; columns = 64; names = 1024; entries = 64 }
+bounds = record { bytes = 16384; lines = 2048; depth = 64; columns = 256; names = 1024; entries = 256 }
 
 -- at most n of each
 abbrev pub roomy : ℕ → Limits

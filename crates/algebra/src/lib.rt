@@ -5,9 +5,9 @@ ghost use Rattle.algebra.specs.bridge.Answers.{answerNumber};
 // What `bounds` says of the levels of a tree, the columns of one project and the entries of one list.
 pub const DEPTH: u8 = 64;
 
-pub const COLUMNS: usize = 64;
+pub const COLUMNS: usize = 256;
 
-pub const ENTRIES: usize = 64;
+pub const ENTRIES: usize = 256;
 
 // The two lines that an empty file is read as: `project` and `bgp 0`.
 pub const EMPTY_TREE: [u8; 14] = *b"project\nbgp\t0\n";

@@ -6,8 +6,9 @@ use mathlib.Core.Bool.{Bool, true, false, cond}
 use native.Mathlib.Omega.{arith}
 use lib.ListN.{length}
 use Rattle.text.specs.Text.{Bytes}
-use Rattle.columns.specs.bridge.Columns.{bitOf, maskOf, picked}
-use Rattle.columns.proofs.Masks.{mask-low, mask-high, countOf}
+use Rattle.mask.specs.bridge.Mask.{bitOf, maskOf, countOf}
+use Rattle.mask.proofs.Bits.{mask-low, mask-high}
+use Rattle.columns.specs.bridge.Columns.{picked}
 use Rattle.columns.proofs.Picked.{picked-none}
 
 pub picked-one : (b : Bool) (bs : List Bool) (d : Bytes) (ds : List Bytes) → picked 1 (maskOf (b ∷ bs)) (d ∷ ds) ≡ cond b (d ∷ picked 1 (maskOf bs) ds) (picked 1 (maskOf bs) ds)

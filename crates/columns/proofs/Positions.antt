@@ -1,6 +1,6 @@
 -- The positions of a list of pairs, read line by line. Assumes nothing.
 use Prim.Native.Nat.{ℕ, zero, suc, _+_, _-_, _≤_, _<_}
-use mathlib.Core.Path.{_≡_, refl, sym, ap, ap₂, _∙_}
+use mathlib.Core.Path.{_≡_, refl, sym, ap, ap₂, subst, _∙_}
 use mathlib.Core.List.{List, [], _∷_, _++_}
 use mathlib.Core.Bool.{Bool, true, false, cond, not, _&&_}
 use mathlib.Core.Logic.{⊎-elim}
@@ -8,10 +8,11 @@ use native.Mathlib.Nat.{eq-or-lt-of-le}
 use native.Mathlib.Omega.{arith}
 use native.Mathlib.Numerals.{add-one}
 use native.Mathlib.Decide.{decLt}
-use lib.ListN.{length, getD, take, drop, set}
+use lib.ListN.{length, getD, take, drop, set, replicate, length-map}
 use lib.Seq.{take-suc-set, getD-set-same, getD-set-other}
 use lib.Dec.{ltb}
-use borrow.Author.Tests.{lt-ltb, le-ltb, not-true, not-false}
+use borrow.Author.Tests.{lt-ltb, le-ltb, ltb-true, ne-eqb, not-true, not-false}
+use Rattle.text.proofs.Basics.{and-left, and-right}
 use Rattle.text.specs.Text.{Bytes, Line, split, part, linesFrom, First}
 use Rattle.text.proofs.Places.{lines-start, lines-end, lines-open, lines-next}
 use Rattle.text.proofs.Texts.{glue, glue-split}
@@ -29,7 +30,7 @@ use Rattle.walking.specs.bridge.Walk.{tabbed}
 use Rattle.reader.specs.bridge.Lines.{LineEnd}
 use Rattle.columns.specs.declared.list.Positions.{Positions}
 use Rattle.columns.specs.declared.list.Positions.the-variants.{Outside, Are}
-use Rattle.columns.specs.bridge.Listed.{Listed, positionsIn, Kept, Found, secondOf, termsFrom}
+use Rattle.columns.specs.bridge.Listed.{Listed, positionsIn, Kept, Found, Ordered, secondOf, termsFrom}
 use Rattle.columns.proofs.Picked.{column-put, tabbed-cons, tabbed-nil}
 
 -- ---- pairs as lines
@@ -242,20 +243,70 @@ module _ (s : Bytes) (xs : List Pair) (second : Bool) (at lines : List ℕ) (m k
       go [] w z = absurd (let v = drop-whole xs k w in let i = kept .many in omega arith)
       go (y ∷ ys) w z = column-put (y .second) true x x′ x″ refl p (e ∙ ap (λ (b : Bytes). puts b x′) (f (y .first) (y .second) (putPairs ys []) z))
 
-pub terms-next : (xs : List Pair) (i r k : ℕ) (x x′ : Em) (ps : List ℕ) → i < bounds .columns → r ≡ placeIn i ps → ps ≡ positionsIn false xs → x′ ≡ puts (tabbed (secondOf (drop r xs))) x
+-- positions below a number of columns are below the bound too
+pub below-more : (is : List ℕ) (c : ℕ) → c ≤ bounds .columns → all (λ i. ltb i c) is ≡ true → all (λ i. ltb i (bounds .entries)) is ≡ true
+unfolding all
+below-more [] c h a = refl
+below-more (i ∷ is) c h a =
+    let l = ltb-true i c (and-left (ltb i c) (all (λ i. ltb i c) is) a) in
+    let r = below-more is c h (and-right (ltb i c) (all (λ i. ltb i c) is) a) in
+    ap (λ (b : Bool). b && all (λ i. ltb i (bounds .entries)) is) (lt-ltb i (bounds .entries) (omega arith)) ∙ r
+
+pub all-of : (is js : List ℕ) (c : ℕ) → is ≡ js → all (λ i. ltb i c) is ≡ true → all (λ i. ltb i c) js ≡ true
+all-of is js c e a = subst (λ (l : List ℕ). all (λ i. ltb i c) l ≡ true) e a
+
+-- no place was noted yet
+pub order-blank : (m n : ℕ) → m ≤ n → (p : ℕ) → p < n → m ≤ getD (replicate n n) p 0
+order-blank m n h p l = go n p l
+  where
+    go : (k i : ℕ) → i < k → m ≤ getD (replicate k n) i 0
+    go zero i l = absurd (omega arith)
+    go (suc k) zero l = h
+    go (suc k) (suc i) l = go k i (omega arith)
+
+-- a position that is listed, by the places that were noted
+pub term-at : (xs : List Pair) (ps order : List ℕ) (i : ℕ) → i < bounds .entries → length xs ≡ length ps → Ordered ps order → secondOf (drop (getD order i 0) xs) ≡ secondOf (drop (placeIn i ps) xs)
+term-at xs ps order i l e o = go (decLt (placeIn i ps) (length ps))
+  where
+    go : Dec (placeIn i ps < length ps) → secondOf (drop (getD order i 0) xs) ≡ secondOf (drop (placeIn i ps) xs)
+    go (yes h) = ap (λ (n : ℕ). secondOf (drop n xs)) (o .there i l h)
+    go (no h) =
+        let a = o .else i l (omega arith) in
+        ap secondOf (drop-all xs (getD order i 0) (omega arith) ∙ sym (drop-all xs (placeIn i ps) (omega arith)))
+
+pub terms-next : (xs : List Pair) (i r : ℕ) (x x′ : Em) (ps order : List ℕ) → i < bounds .columns → r ≡ getD order i 0 → Ordered ps order → ps ≡ positionsIn false xs → x′ ≡ puts (tabbed (secondOf (drop r xs))) x
     → puts (tabbed (termsFrom xs (i + 1) (bounds .columns - (i + 1)))) x′ ≡ puts (tabbed (termsFrom xs i (bounds .columns - i))) x
 unfolding termsFrom
-terms-next xs i r k x x′ ps h e q p =
+terms-next xs i r x x′ ps order h e o q p =
     let n : bounds .columns - i ≡ suc (bounds .columns - (i + 1)) = omega arith in
+    let l : length xs ≡ length ps = sym (ap length q ∙ length-map xs (λ (x : Pair). position (x .first))) in
+    let w : secondOf (drop r xs) ≡ secondOf (drop (placeIn i (positionsIn false xs)) xs) = ap (λ (m : ℕ). secondOf (drop m xs)) e ∙ term-at xs ps order i h l o ∙ ap (λ (y : List ℕ). secondOf (drop (placeIn i y) xs)) q in
     ap (puts (tabbed (termsFrom xs (i + 1) (bounds .columns - (i + 1))))) p
     ∙ go (drop r xs) (termsFrom xs (i + 1) (bounds .columns - (i + 1)))
-    ∙ ap₂ (λ (a : ℕ) (b : ℕ). puts (tabbed (secondOf (drop a xs) ++ termsFrom xs b (bounds .columns - (i + 1)))) x) (e ∙ ap (placeIn i) q) (add-one i)
+    ∙ ap₂ (λ (a : List Bytes) (b : ℕ). puts (tabbed (a ++ termsFrom xs b (bounds .columns - (i + 1)))) x) w (add-one i)
     ∙ ap (λ (a : ℕ). puts (tabbed (termsFrom xs i a)) x) (sym n)
   where
     go : (ys : List Pair) (ts : List Bytes) → puts (tabbed ts) (puts (tabbed (secondOf ys)) x) ≡ puts (tabbed (secondOf ys ++ ts)) x
     go [] ts = tabbed-nil ts x
     go (y ∷ ys) ts = tabbed-cons (y .second) ts x
 
-pub terms-done : (xs : List Pair) (i : ℕ) (x : Em) → bounds .columns ≤ i → puts (tabbed (termsFrom xs i (bounds .columns - i))) x ≡ x
-unfolding termsFrom tabbed puts
-terms-done xs i x h = let z : bounds .columns - i ≡ 0 = omega arith in rw z
+-- a position from c on isn't listed where all are below c
+place-beyond : (c i : ℕ) (ps : List ℕ) → c ≤ i → all (λ p. ltb p c) ps ≡ true → length ps ≤ placeIn i ps
+unfolding placeIn all
+place-beyond c i [] h a = omega arith
+place-beyond c i (p ∷ ps) h a =
+    let l = ltb-true p c (and-left (ltb p c) (all (λ p. ltb p c) ps) a) in
+    let z = place-beyond c i ps h (and-right (ltb p c) (all (λ p. ltb p c) ps) a) in
+    rw (ne-eqb i p (λ e. omega arith)) (omega arith)
+
+terms-beyond : (xs : List Pair) (c i n : ℕ) → c ≤ i → all (λ p. ltb p c) (positionsIn false xs) ≡ true → termsFrom xs i n ≡ []
+unfolding termsFrom
+terms-beyond xs c i zero h a = refl
+terms-beyond xs c i (suc n) h a =
+    let z = place-beyond c i (positionsIn false xs) h a in
+    let l : length (positionsIn false xs) ≡ length xs = length-map xs (λ (x : Pair). position (x .first)) in
+    ap₂ (λ (ys : List Pair) (ts : List Bytes). secondOf ys ++ ts) (drop-all xs (placeIn i (positionsIn false xs)) (omega arith)) (terms-beyond xs c (suc i) n (omega arith) a)
+
+pub terms-done : (xs : List Pair) (c i : ℕ) (x : Em) → c ≤ i → all (λ p. ltb p c) (positionsIn false xs) ≡ true → puts (tabbed (termsFrom xs i (bounds .columns - i))) x ≡ x
+unfolding tabbed puts
+terms-done xs c i x h a = rw (terms-beyond xs c i (bounds .columns - i) h a)

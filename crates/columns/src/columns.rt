@@ -4,17 +4,23 @@ use algebra::PerEntry;
 use emit::put;
 use emit::put_all;
 use lines::fields::Spot;
+use mask::Mask;
+use mask::bit_at;
+use mask::count_ones;
+use mask::empty;
+use mask::with_bit;
+use mask::with_one;
 use names::Entry;
 use names::wide;
 use naming::numbers::put_name;
 use text::equal;
 use text::piece;
 ghost use mathlib.Core.Path.{_≡_};
-ghost use Prim.Native.Nat.{_+_, _*_, _-_, _%_, _^_, _≤_, _<_};
+ghost use Prim.Native.Nat.{_-_, _≤_, _<_};
 ghost use mathlib.Core.List.{[], _∷_, map};
 ghost use mathlib.Core.Bool.{true, false, cond, _||_};
 ghost use lib.ListN.{length, take, getD};
-ghost use lib.Dec.{eqb, ltb};
+ghost use lib.Dec.{ltb};
 ghost use lib.Count.{ones};
 ghost use Rattle.text.specs.Text.{same};
 ghost use Rattle.emit.specs.bridge.Emit.{em, puts};
@@ -24,8 +30,10 @@ ghost use Rattle.naming.specs.bridge.New.{named};
 ghost use Rattle.scoping.specs.Sets.{all};
 ghost use Rattle.algebra.specs.Valid.{mem};
 ghost use Rattle.algebra.specs.Tally.{bounds};
-ghost use Rattle.merging.specs.Names.{from as countFrom, isAt, placeIn};
-ghost use Rattle.columns.specs.bridge.Columns.{newIn, columnsOf, bitOf, maskOf, picked, goneBits};
+ghost use Rattle.merging.specs.Names.{from as countFrom, isAt};
+ghost use Rattle.mask.specs.bridge.Mask.{maskOf};
+ghost use Rattle.mask.specs.bridge.Words.{maskValue};
+ghost use Rattle.columns.specs.bridge.Columns.{newIn, columnsOf, picked, goneBits};
 
 // What the name at an entry becomes: a generated name, or itself.
 fn put_new(
@@ -85,74 +93,46 @@ pub fn put_columns(
     news: &[Entry; 1024],
     spots: &[Spot],
     columns: usize,
-    mask: u64,
+    mask: Mask,
     bit: u64,
     count: usize,
     out: &mut [u8],
     at: usize,
 ) -> usize
-    requires { ⌜ Inside 1024 (now spots) columns × (count ≡ length (picked bit mask (columnsOf (now text) (now table) (now news) (now spots) columns))) ⌝ }
-    ensures { λ r. ⌜ em r (now (out .exit)) ≡ puts (tabbed (picked bit mask (columnsOf (now (text .entry)) (now (table .entry)) (now (news .entry)) (now (spots .entry)) columns))) (em at (now (out .entry))) ⌝ }
+    requires { ⌜ Inside 1024 (now spots) columns × (count ≡ length (picked bit (maskValue mask) (columnsOf (now text) (now table) (now news) (now spots) columns))) ⌝ }
+    ensures { λ r. ⌜ em r (now (out .exit)) ≡ puts (tabbed (picked bit (maskValue mask) (columnsOf (now (text .entry)) (now (table .entry)) (now (news .entry)) (now (spots .entry)) columns))) (em at (now (out .entry))) ⌝ }
 {
     let mut to = at;
-    let mut bits = mask;
     let mut left = count;
     let mut i = 0;
     while 0 < left {
         let s = spots[i];
-        let chosen = bits % 2 == bit;
+        let chosen = bit_at(mask, i) == bit;
         to = put_column(text, table, news, wide(s[1]), chosen, out, to);
         left = less(left, chosen);
-        bits /= 2;
         i += 1;
     }
     to
 }
 
 // The header's width: as many columns as there are, less the mask's ones.
-pub fn width(c: usize, mask: u64) -> usize
-    requires { ⌜ ones mask ≤ c ⌝ }
-    ensures { λ r. ⌜ r ≡ c - ones mask ⌝ }
+pub fn width(c: usize, mask: Mask) -> usize
+    requires { ⌜ ones (maskValue mask) ≤ c ⌝ }
+    ensures { λ r. ⌜ r ≡ c - ones (maskValue mask) ⌝ }
 {
-    c - u64::count_ones(mask) as usize
-}
-
-// The mask with one bit more, at number i.
-fn with_bit(mask: u64, i: usize, set: bool) -> u64
-    requires { ⌜ (i < 64) × (mask < 2 ^ i) ⌝ }
-    ensures { λ r. ⌜ r ≡ mask + bitOf set * 2 ^ i ⌝ }
-{
-    if set {
-        return mask + (1 << i);
-    }
-    mask
-}
-
-// The place of a position among the first m, or m.
-pub fn place_of(at: &PerEntry, m: usize, p: usize) -> usize
-    requires { ⌜ (m ≤ bounds .entries) × (length (now at) ≡ bounds .entries) ⌝ }
-    ensures { λ r. ⌜ r ≡ placeIn p (take m (now (at .entry))) ⌝ }
-{
-    let mut k = 0;
-    while k < m {
-        if wide(at[k]) == p {
-            return k;
-        }
-        k += 1;
-    }
-    m
+    c - count_ones(mask)
 }
 
 // The mask of the positions, all below c: each sets its bit.
-pub fn position_mask(at: &PerEntry, m: usize, c: usize) -> u64
+pub fn position_mask(at: &PerEntry, m: usize, c: usize) -> Mask
     requires { ⌜ (m ≤ bounds .entries) × (length (now at) ≡ bounds .entries) × (c ≤ bounds .columns) × (all (λ i. ltb i c) (take m (now at)) ≡ true) ⌝ }
-    ensures { λ r. ⌜ r ≡ maskOf (map (λ i. isAt i (take m (now (at .entry)))) (countFrom 0 c)) ⌝ }
+    ensures { λ r. ⌜ maskValue r ≡ maskOf (map (λ i. isAt i (take m (now (at .entry)))) (countFrom 0 c)) ⌝ }
 {
-    let mut mask = 0;
+    let mut mask = empty();
     let mut k = m;
     while 0 < k {
         k -= 1;
-        mask |= 1 << wide(at[k]);
+        mask = with_one(mask, wide(at[k]));
     }
     mask
 }
@@ -166,19 +146,19 @@ fn is_generated(e: Entry, name: &[u8]) -> bool
     equal(name, &room[..size])
 }
 
-// The name is what the name at an entry becomes, and its column's bit is 1.
+// The name is what the name at an entry becomes, and its column is marked.
 fn is_column(
     text: &[u8],
     table: &[Entry; 1024],
     news: &[Entry; 1024],
     entry: usize,
-    bits: u64,
+    marked: bool,
     name: &[u8],
 ) -> bool
     requires { ⌜ entry < 1024 ⌝ }
-    ensures { λ r. ⌜ r ≡ cond (eqb (bits % 2) 1) (same (now (name .entry)) (newIn (now (text .entry)) (now (table .entry)) (now (news .entry)) entry)) false ⌝ }
+    ensures { λ r. ⌜ r ≡ cond marked (same (now (name .entry)) (newIn (now (text .entry)) (now (table .entry)) (now (news .entry)) entry)) false ⌝ }
 {
-    if bits % 2 == 0 {
+    if !marked {
         return false;
     }
     let e = news[entry];
@@ -196,43 +176,42 @@ fn is_marked(
     news: &[Entry; 1024],
     spots: &[Spot],
     columns: usize,
-    mask: u64,
+    mask: Mask,
     name: &[u8],
 ) -> bool
     requires { ⌜ Inside 1024 (now spots) columns ⌝ }
-    ensures { λ r. ⌜ r ≡ mem (now (name .entry)) (picked 1 mask (columnsOf (now (text .entry)) (now (table .entry)) (now (news .entry)) (now (spots .entry)) columns)) ⌝ }
+    ensures { λ r. ⌜ r ≡ mem (now (name .entry)) (picked 1 (maskValue mask) (columnsOf (now (text .entry)) (now (table .entry)) (now (news .entry)) (now (spots .entry)) columns)) ⌝ }
 {
-    let mut bits = mask;
     let mut i = 0;
     while i < columns {
         let s = spots[i];
-        if is_column(text, table, news, wide(s[1]), bits, name) {
+        let marked = bit_at(mask, i) == 1;
+        if is_column(text, table, news, wide(s[1]), marked, name) {
             return true;
         }
-        bits /= 2;
         i += 1;
     }
     false
 }
 
-// The bit is 1, or what the name at an entry becomes is the name of a column of the other side whose bit is 1.
+// A column goes that carries a constant, or whose new name is that of a column of the other side whose bit is 1.
 fn goes(
     text: &[u8],
     table: &[Entry; 1024],
     news: &[Entry; 1024],
     entry: usize,
-    bits: u64,
+    constant: bool,
     other: &[u8],
     other_table: &[Entry; 1024],
     other_news: &[Entry; 1024],
     other_spots: &[Spot],
     other_columns: usize,
-    marks: u64,
+    marks: Mask,
 ) -> bool
     requires { ⌜ (entry < 1024) × Inside 1024 (now «other_spots») «other_columns» ⌝ }
-    ensures { λ r. ⌜ r ≡ (eqb (bits % 2) 1 || mem (newIn (now (text .entry)) (now (table .entry)) (now (news .entry)) entry) (picked 1 marks (columnsOf (now (other .entry)) (now («other_table» .entry)) (now («other_news» .entry)) (now («other_spots» .entry)) «other_columns»))) ⌝ }
+    ensures { λ r. ⌜ r ≡ (constant || mem (newIn (now (text .entry)) (now (table .entry)) (now (news .entry)) entry) (picked 1 (maskValue marks) (columnsOf (now (other .entry)) (now («other_table» .entry)) (now («other_news» .entry)) (now («other_spots» .entry)) «other_columns»))) ⌝ }
 {
-    if bits % 2 == 1 {
+    if constant {
         return true;
     }
     let e = news[entry];
@@ -268,28 +247,28 @@ pub fn joined_mask(
     news: &[Entry; 1024],
     spots: &[Spot],
     columns: usize,
-    mask: u64,
+    mask: Mask,
     other: &[u8],
     other_table: &[Entry; 1024],
     other_news: &[Entry; 1024],
     other_spots: &[Spot],
     other_columns: usize,
-    marks: u64,
-) -> u64
+    marks: Mask,
+) -> Mask
     requires { ⌜ Inside 1024 (now spots) columns × (columns ≤ bounds .columns) × Inside 1024 (now «other_spots») «other_columns» ⌝ }
-    ensures { λ r. ⌜ r ≡ maskOf (goneBits mask (picked 1 marks (columnsOf (now (other .entry)) (now («other_table» .entry)) (now («other_news» .entry)) (now («other_spots» .entry)) «other_columns»)) (columnsOf (now (text .entry)) (now (table .entry)) (now (news .entry)) (now (spots .entry)) columns)) ⌝ }
+    ensures { λ r. ⌜ maskValue r ≡ maskOf (goneBits (maskValue mask) (picked 1 (maskValue marks) (columnsOf (now (other .entry)) (now («other_table» .entry)) (now («other_news» .entry)) (now («other_spots» .entry)) «other_columns»)) (columnsOf (now (text .entry)) (now (table .entry)) (now (news .entry)) (now (spots .entry)) columns)) ⌝ }
 {
-    let mut gone = 0;
-    let mut bits = mask;
+    let mut gone = empty();
     let mut i = 0;
     while i < columns {
         let s = spots[i];
+        let constant = bit_at(mask, i) == 1;
         let go = goes(
             text,
             table,
             news,
             wide(s[1]),
-            bits,
+            constant,
             other,
             other_table,
             other_news,
@@ -298,7 +277,6 @@ pub fn joined_mask(
             marks,
         );
         gone = with_bit(gone, i, go);
-        bits /= 2;
         i += 1;
     }
     gone

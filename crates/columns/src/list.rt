@@ -1,6 +1,5 @@
 // A list of pairs that was checked: its positions, and the terms of a constant list by rising position.
-use crate::columns::place_of;
-use algebra::COLUMNS;
+use algebra::ENTRIES;
 use algebra::PerEntry;
 use cursor::field_end;
 use emit::put;
@@ -11,16 +10,18 @@ use walking::line::count_at;
 ghost use mathlib.Core.Path.{_≡_};
 ghost use Prim.Native.Nat.{ℕ, _+_, _≤_, _<_};
 ghost use mathlib.Core.List.{List, [], _∷_};
-ghost use mathlib.Core.Bool.{Bool, cond, false};
-ghost use lib.ListN.{length, getD, drop};
+ghost use mathlib.Core.Bool.{Bool, true, false, cond};
+ghost use lib.ListN.{length, getD, take, drop};
+ghost use lib.Dec.{ltb};
 ghost use Rattle.text.specs.Text.{Bytes, Line, linesFrom};
 ghost use Rattle.cursor.specs.bridge.Cursor.{left};
 ghost use Rattle.emit.specs.bridge.Emit.{em, puts};
 ghost use Rattle.scoping.specs.bridge.Walk.{numberIn};
 ghost use Rattle.walking.specs.bridge.Walk.{tabbed};
+ghost use Rattle.scoping.specs.Sets.{all};
 ghost use Rattle.algebra.specs.Query.{Pair};
 ghost use Rattle.algebra.specs.Tally.{bounds};
-ghost use Rattle.columns.specs.bridge.Listed.{Listed, Kept, Found, secondOf, termsFrom};
+ghost use Rattle.columns.specs.bridge.Listed.{Listed, Kept, Found, Ordered, secondOf, termsFrom};
 
 // A position is outside its projection, or there are so many.
 pub enum Positions {
@@ -99,22 +100,37 @@ fn put_term(list: &[u8], lines: &PerEntry, k: usize, m: usize, out: &mut [u8], a
     put_all(out, a, second_field(list, wide(lines[k])))
 }
 
-// The terms by rising position, each after a tab.
+// Where each position stands among the first m; a number from m on for a position that isn't there.
+fn note_order(at: &PerEntry, m: usize, order: &mut PerEntry)
+    requires { ⌜ (m ≤ bounds .entries) × (length (now at) ≡ bounds .entries) × (length (now order) ≡ bounds .entries) × (all (λ i. ltb i (bounds .entries)) (take m (now at)) ≡ true) × ((p : ℕ) → p < bounds .entries → m ≤ getD (now order) p 0) ⌝ }
+    ensures { λ _. ⌜ (length (now (order .exit)) ≡ bounds .entries) × Ordered (take m (now (at .entry))) (now (order .exit)) ⌝ }
+{
+    let mut k = m;
+    while 0 < k {
+        k -= 1;
+        order[wide(at[k])] = k as u16;
+    }
+}
+
+// The terms by rising position, each after a tab: no position is as great as the number of columns.
 pub fn put_terms(
     list: &[u8],
     at: &PerEntry,
     lines: &PerEntry,
     m: usize,
+    columns: usize,
     out: &mut [u8],
     to: usize,
 ) -> usize
-    requires { ⌜ (m ≤ bounds .entries) × (length (now at) ≡ bounds .entries) ⌝ }
+    requires { ⌜ (m ≤ bounds .entries) × (length (now at) ≡ bounds .entries) × (columns ≤ bounds .columns) × (all (λ i. ltb i columns) (take m (now at)) ≡ true) ⌝ }
     ensures { λ r. ⌜ ((xs : List Pair) → Kept (now (list .entry)) xs false (now (at .entry)) (now (lines .entry)) m → em r (now (out .exit)) ≡ puts (tabbed (termsFrom xs 0 (bounds .columns))) (em to (now (out .entry)))) ⌝ }
 {
+    let mut order = [256u16; ENTRIES];
+    note_order(at, m, &mut order);
     let mut next = to;
     let mut p = 0;
-    while p < COLUMNS {
-        next = put_term(list, lines, place_of(at, m, p), m, out, next);
+    while p < columns {
+        next = put_term(list, lines, wide(order[p]), m, out, next);
         p += 1;
     }
     next

@@ -6,7 +6,6 @@ use crate::forms::start_of;
 use crate::forms::text_of;
 use algebra::Answer as Check;
 use algebra::EMPTY_TREE;
-use algebra::ENTRIES;
 use answers::Answer;
 use checking::check::Noting;
 use lines::fields::Node;
@@ -36,9 +35,8 @@ ghost use Rattle.joining.specs.bridge.Form.{HeadIs, listedBehind, mergeW
 fn check_terms(left_constants: &[u8], right_constants: &[u8]) -> Check
     ensures { λ r. ⌜ TermsChecked (now («left_constants» .entry)) (now («right_constants» .entry)) r ⌝ }
 {
-    let mut keys = [[0u16; 4]; ENTRIES];
-    match check_constants(left_constants, &mut keys) {
-        Check::Good(_) => check_constants(right_constants, &mut keys),
+    match check_constants(left_constants) {
+        Check::Good(_) => check_constants(right_constants),
         Check::Malformed => Check::Malformed,
         Check::OverBound => Check::OverBound,
     }
@@ -48,8 +46,7 @@ fn check_terms(left_constants: &[u8], right_constants: &[u8]) -> Check
 fn check_lists(pairs: &[u8], left_constants: &[u8], right_constants: &[u8]) -> Check
     ensures { λ r. ⌜ ListsChecked (now (pairs .entry)) (now («left_constants» .entry)) (now («right_constants» .entry)) r ⌝ }
 {
-    let mut keys = [[0u16; 4]; ENTRIES];
-    match check_joins(pairs, &mut keys) {
+    match check_joins(pairs) {
         Check::Good(_) => check_terms(left_constants, right_constants),
         Check::Malformed => Check::Malformed,
         Check::OverBound => Check::OverBound,

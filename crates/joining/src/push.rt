@@ -5,7 +5,6 @@ use crate::forms::start_of;
 use crate::forms::text_of;
 use algebra::Answer as Check;
 use algebra::EMPTY_TREE;
-use algebra::ENTRIES;
 use answers::Answer;
 use checking::check::Noting;
 use heads::copy_behind;
@@ -82,8 +81,7 @@ fn push_by(
     requires { ⌜ ((q : Query) × Stands (now text) (standing .from) (startsOf (now table)) (sizesOf (now table)) (standing .n) (now spots) (q .tree) × HeadOf (now head) q) × Worded (now words) × Shaped (now words) (now nodes) (length (now nodes)) (length (now spots)) ⌝ }
     ensures { λ r. ⌜ ((q : Query) → Stands (now (text .entry)) (standing .from) (startsOf (now (table .entry))) (sizesOf (now (table .entry))) (standing .n) (now (spots .entry)) (q .tree) → HeadOf (now (head .entry)) q → Answered (pushWith q (now (constants .entry))) (now (out .entry)) (now (out .exit)) r) ⌝ }
 {
-    let mut keys = [[0u16; 4]; ENTRIES];
-    match check_constants(constants, &mut keys) {
+    match check_constants(constants) {
         Check::Good(_) => push_of(
             words,
             head,

@@ -17,7 +17,7 @@ use Rattle.cursor.specs.bridge.Cursor.{left}
 use Rattle.cursor.specs.declared.Cursor.{Cursor}
 use Rattle.cursor.specs.declared.Field.{Field}
 use Rattle.cursor.specs.declared.Field.the-variants.{At, None}
-use Rattle.lists.specs.bridge.Pairs.{Stands, isPair, Finds, firsts, fresh, entryOf, pairsIn, PairsChecked}
+use Rattle.lists.specs.bridge.Pairs.{Stands, isPair, Finds, firsts, fresh, entryOf, pairsIn, Enough, PairsChecked}
 use Rattle.text.proofs.Places.{lines-open}
 use Rattle.lists.proofs.Lines.{line-next, line-clean}
 use Rattle.lists.proofs.Keys.{pairs-long, pairs-more}
@@ -70,6 +70,17 @@ module _ (s : Bytes) (first second : ℕ) (apart : Bool) (keys : List (List ℕ)
         unfolding Finds
         found = (two .0, two .1, two .2)
 
+        -- there is an entry for it
+        pub roomy : (n ≡ bounds .entries → ⊥) → n < length keys
+        unfolding Enough
+        roomy k =
+            let m = g .most in
+            let p = g .paced in
+            let e = less in
+            let q = found in
+            let z = same in
+            g .enough n (omega arith) (omega arith)
+
         module _ (b : Bool) (new : b ≡ fresh apart one (firsts before)) where
           is-new : (κ : PairList) → Stands κ first second apart → b ≡ fresh (unique κ) one (firsts before)
           is-new κ st = rw (st .parted) new
@@ -101,15 +112,20 @@ module _ (s : Bytes) (first second : ℕ) (apart : Bool) (keys : List (List ℕ)
 
             -- it is an entry, and the next line follows
             pub going-next : (keys′ : List (List ℕ)) → (n ≡ bounds .entries → ⊥) → keys′ ≡ set keys n (entryOf (c .at) to (c .end)) → Going s first second apart keys′ (d .at) (n + 1)
+            unfolding Enough
             going-next keys′ k is-set =
                 let m = g .most in
-                let r = g .room in
+                let room = g .enough in
+                let p = g .paced in
+                let r = roomy k in
                 let kept : pairsIn s keys′ (n + 1) ≡ before ++ (record { first = one; second = other } ∷ []) = ap (λ (ks : List (List ℕ)). pairsIn s ks (n + 1)) is-set ∙ pairs-more s keys n (c .at) to (c .end) (omega arith) in
-                let size : length keys′ ≡ bounds .entries = ap length is-set ∙ length-set keys n _ ∙ r in
+                let size : length keys′ ≡ length keys = ap length is-set ∙ length-set keys n _ in
                 let long : length (pairsIn s keys′ (n + 1)) ≤ bounds .entries = let q = pairs-long s keys′ (n + 1) (omega arith) in omega arith in
                 let z : bounds .entries - n ≡ suc (bounds .entries - (n + 1)) = omega arith in
                 record {
-                  room = size;
+                  room = omega arith;
+                  enough = λ i h l. let q = room i h l in omega arith;
+                  paced = let q = found in let z = same in omega arith;
                   most = omega arith;
                   here = let q = found .2 in let p = less in omega arith;
                   so = λ κ st.

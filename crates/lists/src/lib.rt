@@ -7,20 +7,17 @@ use text::equal;
 use text::is_kind;
 use text::piece;
 ghost use mathlib.Core.Path.{_≡_};
-ghost use Prim.Native.Nat.{_≤_, _<_};
+ghost use Prim.Native.Nat.{ℕ, _≤_, _<_};
+ghost use mathlib.Core.List.{List};
 ghost use mathlib.Core.Bool.{true};
 ghost use lib.ListN.{length, set};
 ghost use Rattle.text.specs.Text.{part, piece as pieceOf};
 ghost use Rattle.text.specs.bridge.Code.{kindAt};
 ghost use Rattle.algebra.specs.Query.{PairList, joins, constants, mapping};
-ghost use Rattle.algebra.specs.Tally.{bounds};
-ghost use Rattle.lists.specs.bridge.Pairs.{Stands, Finds, firsts, fresh, entryOf, pairsIn, PairsChecked};
+ghost use Rattle.lists.specs.bridge.Pairs.{Stands, Finds, firsts, fresh, entryOf, pairsIn, Enough, PairsChecked};
 
 // A pair of a list: where its first field starts and how long it is, and the same of its second.
 pub type Entry = [u16; 4];
-
-// The pairs of one list.
-pub type Pairs = [Entry; ENTRIES];
 
 // A line of two fields of these kinds: the end of the first, and the cursor behind the line.
 fn pair_at(text: &[u8], c: Cursor, first: u8, second: u8) -> Field
@@ -55,8 +52,8 @@ pub fn field_at(text: &[u8], start: u16, size: u16) -> &[u8]
 }
 
 // A first field may stand here: it is none of the first n entries', or it may be repeated.
-fn is_fresh(text: &[u8], from: usize, to: usize, unique: bool, keys: &Pairs, n: usize) -> bool
-    requires { ⌜ (from ≤ to) × (to ≤ length (now text)) × (n ≤ bounds .entries) × (length (now keys) ≡ bounds .entries) ⌝ }
+fn is_fresh(text: &[u8], from: usize, to: usize, unique: bool, keys: &[Entry], n: usize) -> bool
+    requires { ⌜ (from ≤ to) × (to ≤ length (now text)) × (n ≤ length (now keys)) ⌝ }
     ensures { λ r. ⌜ r ≡ fresh unique (part from to (now (text .entry))) (firsts (pairsIn (now (text .entry)) (now (keys .entry)) n)) ⌝ }
 {
     if !unique {
@@ -74,20 +71,9 @@ fn is_fresh(text: &[u8], from: usize, to: usize, unique: bool, keys: &Pairs, n: 
     true
 }
 
-// An array without pairs. The test is one of types, and the compiled code has none.
-fn no_pairs(keys: &mut Pairs)
-    ensures { λ _. ⌜ length (now (keys .exit)) ≡ bounds .entries ⌝ }
-{
-    let places: &[Entry] = keys;
-    if places.len() == ENTRIES {
-        return;
-    }
-    *keys = [[0; 4]; ENTRIES];
-}
-
 // Keeps a pair whose fields stand from `from` to `to`, and behind that up to `end`.
-fn keep(keys: &mut Pairs, n: usize, from: usize, to: usize, end: usize)
-    requires { ⌜ (n < bounds .entries) × (from ≤ to) × (to < end) × (end ≤ 16384) ⌝ }
+fn keep(keys: &mut [Entry], n: usize, from: usize, to: usize, end: usize)
+    requires { ⌜ (n < length (now keys)) × (from ≤ to) × (to < end) × (end ≤ 16384) ⌝ }
     ensures { λ _. ⌜ now (keys .exit) ≡ set (now (keys .entry)) n (entryOf from to end) ⌝ }
 {
     let second = to + 1;
@@ -99,11 +85,12 @@ fn keep(keys: &mut Pairs, n: usize, from: usize, to: usize, end: usize)
     ];
 }
 
-// A list of lines of two fields of these kinds, the first of which may not be repeated if `unique`.
-fn check_pairs(text: &[u8], first: u8, second: u8, unique: bool, keys: &mut Pairs) -> Answer
+// A list of lines of two fields of these kinds, the first of which may not be repeated if `unique`: each has at least two bytes,
+// so that no list has more entries than half its bytes.
+fn check_pairs(text: &[u8], first: u8, second: u8, unique: bool, keys: &mut [Entry]) -> Answer
+    requires { ⌜ Enough (now text) (now keys) ⌝ }
     ensures { λ r. ⌜ ((κ : PairList) → Stands κ first second unique → PairsChecked κ (now (text .entry)) (now (keys .exit)) r) ⌝ }
 {
-    no_pairs(keys);
     if 16384 < text.len() {
         return Answer::OverBound;
     }
@@ -130,22 +117,35 @@ fn check_pairs(text: &[u8], first: u8, second: u8, unique: bool, keys: &mut Pair
     Answer::Good(n)
 }
 
-// A join list: lines of a left and a right position.
-pub fn check_joins(text: &[u8], keys: &mut Pairs) -> Answer
-    ensures { λ r. ⌜ PairsChecked joins (now (text .entry)) (now (keys .exit)) r ⌝ }
+// The same where nobody needs the entries: as many as pays, since they are cleared first.
+fn check_alone(text: &[u8], first: u8, second: u8, unique: bool) -> Answer
+    ensures { λ r. ⌜ ((keys : List (List ℕ)) × ((κ : PairList) → Stands κ first second unique → PairsChecked κ (now (text .entry)) keys r)) ⌝ }
 {
-    check_pairs(text, 6, 6, false, keys)
+    if text.len() <= 128 {
+        let mut few = [[0u16; 4]; 64];
+        return check_pairs(text, first, second, unique, &mut few);
+    }
+    let mut keys = [[0u16; 4]; ENTRIES];
+    check_pairs(text, first, second, unique, &mut keys)
+}
+
+// A join list: lines of a left and a right position.
+pub fn check_joins(text: &[u8]) -> Answer
+    ensures { λ r. ⌜ ((keys : List (List ℕ)) × PairsChecked joins (now (text .entry)) keys r) ⌝ }
+{
+    check_alone(text, 6, 6, false)
 }
 
 // A constant list: lines of a position, which is not repeated, and a term.
-pub fn check_constants(text: &[u8], keys: &mut Pairs) -> Answer
-    ensures { λ r. ⌜ PairsChecked constants (now (text .entry)) (now (keys .exit)) r ⌝ }
+pub fn check_constants(text: &[u8]) -> Answer
+    ensures { λ r. ⌜ ((keys : List (List ℕ)) × PairsChecked constants (now (text .entry)) keys r) ⌝ }
 {
-    check_pairs(text, 6, 4, true, keys)
+    check_alone(text, 6, 4, true)
 }
 
 // A mapping: lines of a name, which is not repeated, and the name that it becomes.
-pub fn check_mapping(text: &[u8], keys: &mut Pairs) -> Answer
+pub fn check_mapping(text: &[u8], keys: &mut [Entry]) -> Answer
+    requires { ⌜ Enough (now text) (now keys) ⌝ }
     ensures { λ r. ⌜ PairsChecked mapping (now (text .entry)) (now (keys .exit)) r ⌝ }
 {
     check_pairs(text, 0, 0, true, keys)

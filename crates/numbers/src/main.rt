@@ -56,8 +56,8 @@ fn check(
     match kind {
         0 => check_given(text, words, table, hints),
         1 => check_query(text, words, table, hints),
-        2 => check_joins(text, &mut [[0u16; 4]; ENTRIES]),
-        3 => check_constants(text, &mut [[0u16; 4]; ENTRIES]),
+        2 => check_joins(text),
+        3 => check_constants(text),
         4 => check_mapping(text, &mut [[0u16; 4]; ENTRIES]),
         5 => check_sets(text, words, table, hints),
         _ => check_filters(text, words, table, hints),

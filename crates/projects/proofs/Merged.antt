@@ -22,8 +22,11 @@ use Rattle.merging.specs.Request.{Projection, position, joinPositions, byPositi
 use Rattle.merging.specs.Merge.{mergeProjectPatterns}
 use Rattle.merging.proofs.Lines.{merge-lines}
 use Rattle.merging.proofs.Lists.{map-length}
-use Rattle.columns.specs.bridge.Columns.{maskOf, picked, goneBits}
-use Rattle.columns.proofs.Masks.{mask-ones, countOf}
+use Rattle.mask.specs.bridge.Mask.{maskOf}
+use Rattle.mask.specs.bridge.Words.{maskValue}
+use Rattle.columns.specs.bridge.Columns.{picked, goneBits}
+use Rattle.mask.specs.bridge.Mask.{countOf}
+use Rattle.mask.proofs.Bits.{mask-ones}
 use Rattle.columns.proofs.Counted.{picked-count}
 use Rattle.columns.specs.bridge.Listed.{positionsIn}
 use Rattle.sides.specs.bridge.Side.{maskAt, newNames, OutlineIs}
@@ -96,7 +99,7 @@ module _ (left right leftConstants rightConstants : Bytes) (x y : Projection) (j
   left-long : length (map (newNames prefixL false x js) (x .columns)) ≡ length (x .columns)
   left-long = map-length (newNames prefixL false x js) (x .columns)
 
-  joined-are : (c : Bytes) → mem c (picked 1 (l .joined) cs) ≡ mem c (map (leftSide asked .name) (leftJoinVariables (leftSide asked) (joinPositions js)))
+  joined-are : (c : Bytes) → mem c (picked 1 (maskValue (l .joined)) cs) ≡ mem c (map (leftSide asked .name) (leftJoinVariables (leftSide asked) (joinPositions js)))
   unfolding inside
   joined-are c =
       ap (mem c) (ap₂ (picked 1) (left-is .joined ∙ ap (maskAt (positionsIn false js)) (sym left-long)) left-named)
@@ -105,18 +108,18 @@ module _ (left right leftConstants rightConstants : Bytes) (x y : Projection) (j
       ∙ ap (λ (z : Side). mem c (map (z .name) (leftJoinVariables z (joinPositions js)))) left-side
 
   module _ (gone : ℕ) (gone-is : gone ≡ goneMask l cs r ds) where
-    merged-are : picked 0 (l .constant) cs ++ picked 0 gone ds ≡ mergedColumns (leftSide asked) (rightSide asked) (joinPositions js)
+    merged-are : picked 0 (maskValue (l .constant)) cs ++ picked 0 gone ds ≡ mergedColumns (leftSide asked) (rightSide asked) (joinPositions js)
     unfolding mergedColumns
     merged-are = ap₂ _++_
         (side-free left false leftConstants x js ks ljoins lat llines l left-is prefixL cs left-named ∙ ap freeColumns left-side)
         (ap (λ (m : ℕ). picked 0 m ds) gone-is
-        ∙ picked-gone (picked 1 (l .joined) cs) ds (r .constant)
-        ∙ (λ i. keep (λ c. not (joined-are c i)) (picked 0 (r .constant) ds))
+        ∙ picked-gone (picked 1 (maskValue (l .joined)) cs) ds (maskValue (r .constant))
+        ∙ (λ i. keep (λ c. not (joined-are c i)) (picked 0 (maskValue (r .constant)) ds))
         ∙ ap (keep (λ c. not (mem c (map (leftSide asked .name) (leftJoinVariables (leftSide asked) (joinPositions js))))))
         (side-free right true rightConstants y js ls rjoins rat rlines r right-is prefixR ds right-named ∙ ap freeColumns right-side))
 
     -- the lines of both, under the merged columns, are the merged tree's
-    pub merged-lines : (t : List Line) → (bytes "project" ∷ (picked 0 (l .constant) cs ++ picked 0 gone ds)) ∷ (bytes "join" ∷ []) ∷ put (renamedPattern lside) (put (renamedPattern rside) t) ≡ put (mergeProjectPatterns asked) t
+    pub merged-lines : (t : List Line) → (bytes "project" ∷ (picked 0 (maskValue (l .constant)) cs ++ picked 0 gone ds)) ∷ (bytes "join" ∷ []) ∷ put (renamedPattern lside) (put (renamedPattern rside) t) ≡ put (mergeProjectPatterns asked) t
     merged-lines t =
         ap (λ (es : List Bytes). (bytes "project" ∷ es) ∷ (bytes "join" ∷ []) ∷ put (renamedPattern lside) (put (renamedPattern rside) t)) merged-are
         ∙ ap₂ (λ (a b : Side). (bytes "project" ∷ mergedColumns (leftSide asked) (rightSide asked) (joinPositions js)) ∷ (bytes "join" ∷ []) ∷ put (renamedPattern a) (put (renamedPattern b) t)) left-side right-side

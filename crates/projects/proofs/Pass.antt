@@ -18,6 +18,7 @@ use Rattle.scoping.specs.Label.{prefixL, prefixR, prefixV}
 use Rattle.merging.specs.Request.{Projection}
 use Rattle.merging.proofs.Lists.{map-length}
 use Rattle.walking.specs.bridge.Code.{Inside}
+use Rattle.mask.specs.bridge.Words.{maskValue}
 use Rattle.columns.specs.bridge.Columns.{columnsOf, picked}
 use Rattle.sides.specs.declared.side.FoundSide.{FoundSide}
 use Rattle.sides.specs.bridge.Side.{newNames, IsNamed, SideWritten}
@@ -39,9 +40,9 @@ module _ (text : Bytes) (table spots : List (List ℕ)) (constants : Bytes) (new
   columns-are : columns ≡ map (newNames prefixV false x []) (x .columns)
   columns-are = side-columns _ _ _ _ _ _ _ _ _ _ _ _ _ _ _ _ _ _ d
 
-  pub push-pass : (e e₁ e₂ : Em) → ((t : List Line) → puts (textOf t) e₁ ≡ puts (head ++ textOf ((bytes "project" ∷ picked 0 (f .outline .constant) columns) ∷ t)) e) → SideWritten text table spots constants news f e₁ e₂ → e₂ ≡ puts (head ++ layout (pushedTree x ks)) e
+  pub push-pass : (e e₁ e₂ : Em) → ((t : List Line) → puts (textOf t) e₁ ≡ puts (head ++ textOf ((bytes "project" ∷ picked 0 (maskValue (f .outline .constant)) columns) ∷ t)) e) → SideWritten text table spots constants news f e₁ e₂ → e₂ ≡ puts (head ++ layout (pushedTree x ks)) e
   push-pass e e₁ e₂ h w =
-      pass-one head e e₁ e₂ (λ t. (bytes "project" ∷ picked 0 (f .outline .constant) columns) ∷ t) _ _ (pushedTree x ks) h (w prefixV false x [] ks d)
+      pass-one head e e₁ e₂ (λ t. (bytes "project" ∷ picked 0 (maskValue (f .outline .constant)) columns) ∷ t) _ _ (pushedTree x ks) h (w prefixV false x [] ks d)
       (side-is text false constants x [] ks _ _ _ _ (d .found .is) prefixV columns columns-are (side-ones _ _ _ _ _ _ _ _ _ _ _ _ _ _ _ _ _ _ d) (d .found .stands .narrow x refl) (d .found .terms .different) (d .found .terms-inside))
       (pushed-lines text constants x ks _ _ _ _ (d .found .is) columns columns-are)
 
@@ -81,16 +82,16 @@ module _ (left right : Bytes) (p : FoundPair) (tables : List (List (List ℕ))) 
 
   pub header-fits : (gone : ℕ) → gone ≡ goneMask (p .left .outline) lcolumns (p .right .outline) rcolumns → HeaderFits (p .left .outline) lcolumns gone (p .right .outline) rcolumns
   header-fits gone e =
-      let w = gone-width (p .right .outline .constant) (picked 1 (p .left .outline .joined) lcolumns) rcolumns gone (p .right .outline .columns) e rcolumns-long in
+      let w = gone-width (maskValue (p .right .outline .constant)) (picked 1 (maskValue (p .left .outline .joined)) lcolumns) rcolumns gone (p .right .outline .columns) e rcolumns-long in
       record { left-room = side-room _ _ _ _ _ _ _ _ _ _ _ _ _ _ _ _ _ _ ld; left = side-width _ _ _ _ _ _ _ _ _ _ _ _ _ _ _ _ _ _ ld; right-room = w .0; right = w .1 }
 
   pub merge-pass : (gone : ℕ) → gone ≡ goneMask (p .left .outline) lcolumns (p .right .outline) rcolumns → (head : Bytes) (e e₁ e₂ e₃ : Em)
-      → ((t : List Line) → puts (textOf t) e₁ ≡ puts (head ++ textOf ((bytes "project" ∷ (picked 0 (p .left .outline .constant) lcolumns ++ picked 0 gone rcolumns)) ∷ (bytes "join" ∷ []) ∷ t)) e)
+      → ((t : List Line) → puts (textOf t) e₁ ≡ puts (head ++ textOf ((bytes "project" ∷ (picked 0 (maskValue (p .left .outline .constant)) lcolumns ++ picked 0 gone rcolumns)) ∷ (bytes "join" ∷ []) ∷ t)) e)
       → SideWritten left (getD tables 0 []) (take (p .spots) spots) leftConstants (getD news 0 []) (p .left) e₁ e₂ → SideWritten right (getD tables 1 []) (rest (p .spots) spots) rightConstants (getD news 1 []) (p .right) e₂ e₃
       → e₃ ≡ puts (head ++ layout (mergedTree x y js ks ls)) e
   merge-pass gone gone-is head e e₁ e₂ e₃ h w v =
       pass-two head e e₁ e₂ e₃
-      (λ t. (bytes "project" ∷ (picked 0 (p .left .outline .constant) lcolumns ++ picked 0 gone rcolumns)) ∷ (bytes "join" ∷ []) ∷ t)
+      (λ t. (bytes "project" ∷ (picked 0 (maskValue (p .left .outline .constant)) lcolumns ++ picked 0 gone rcolumns)) ∷ (bytes "join" ∷ []) ∷ t)
       _ _ _ _ (mergedTree x y js ks ls) h (w prefixL false x js ks ld) (v prefixR true y js ls rd)
       (side-is left false leftConstants x js ks _ _ _ _ (ld .found .is) prefixL lcolumns lcolumns-are (side-ones _ _ _ _ _ _ _ _ _ _ _ _ _ _ _ _ _ _ ld) (ld .found .stands .narrow x refl) (ld .found .terms .different) (ld .found .terms-inside))
       (side-is right true rightConstants y js ls _ _ _ _ (rd .found .is) prefixR rcolumns rcolumns-are (side-ones _ _ _ _ _ _ _ _ _ _ _ _ _ _ _ _ _ _ rd) (rd .found .stands .narrow y refl) (rd .found .terms .different) (rd .found .terms-inside))

@@ -21,7 +21,8 @@ use Rattle.merging.specs.Names.{from, isAt, placeIn}
 use Rattle.merging.proofs.Lists.{sorted-any}
 use Rattle.merging.proofs.Positions.{at-sym}
 use Rattle.merging.proofs.Rising.{termAt, constantAt, rising}
-use Rattle.columns.specs.bridge.Columns.{maskOf, picked, goneBits}
+use Rattle.mask.specs.bridge.Mask.{maskOf}
+use Rattle.columns.specs.bridge.Columns.{picked, goneBits}
 use Rattle.columns.specs.bridge.Listed.{positionsIn, secondOf, termsFrom}
 use Rattle.sides.specs.bridge.Side.{maskAt}
 use Rattle.columns.proofs.Picked.{picked-none}

@@ -20,6 +20,7 @@ use Rattle.merging.specs.Sides.{Constant, Side, standardized, constantColumns, 
 use Rattle.merging.specs.Request.{Projection, byPosition, constantsIn}
 use Rattle.merging.proofs.Lists.{sorted-length, map-length}
 use Rattle.merging.proofs.Lines.{side-lines, side-lines-bound}
+use Rattle.mask.specs.bridge.Words.{maskValue}
 use Rattle.columns.specs.bridge.Columns.{picked}
 use Rattle.columns.specs.bridge.Listed.{positionsIn, termsFrom}
 use Rattle.sides.specs.bridge.Side.{maskAt, newNames, OutlineIs, joinLine, valuesLines}
@@ -38,19 +39,19 @@ module _ (text : Bytes) (second : Bool) (constants : Bytes) (x : Projection) (js
   long : length ds ≡ length (x .columns)
   long = map-length (newNames prefix second x js) (x .columns)
 
-  constant-is : o .constant ≡ maskAt (positionsIn false ks) (length ds)
+  constant-is : maskValue (o .constant) ≡ maskAt (positionsIn false ks) (length ds)
   constant-is = is .constant ∙ ap (maskAt (positionsIn false ks)) (sym long)
 
-  pub side-free : picked 0 (o .constant) cs ≡ freeColumns side
+  pub side-free : picked 0 (maskValue (o .constant)) cs ≡ freeColumns side
   unfolding freeColumns
   side-free = ap₂ (picked 0) constant-is named ∙ free-columns ks ds
 
-  module _ (many-ones : ones (o .constant) ≡ length (picked 1 (o .constant) cs)) (narrow : length (x .columns) ≤ bounds .columns) (different : differentPositions (positionsIn false ks) ≡ true) (low : inside (x .columns) (positionsIn false ks) ≡ true) where
+  module _ (many-ones : ones (maskValue (o .constant)) ≡ length (picked 1 (maskValue (o .constant)) cs)) (narrow : length (x .columns) ≤ bounds .columns) (different : differentPositions (positionsIn false ks) ≡ true) (low : inside (x .columns) (positionsIn false ks) ≡ true) where
     below : all (λ i. ltb i (length ds)) (positionsIn false ks) ≡ true
     unfolding inside
     below = ap (λ (k : ℕ). all (λ i. ltb i k) (positionsIn false ks)) long ∙ low
 
-    columns-are : picked 1 (o .constant) cs ≡ constantColumns ds (byPosition (constantsIn ks))
+    columns-are : picked 1 (maskValue (o .constant)) cs ≡ constantColumns ds (byPosition (constantsIn ks))
     columns-are = ap₂ (picked 1) constant-is named ∙ constant-columns ks different ds below
 
     terms-are : termsFrom ks 0 (bounds .columns) ≡ constantTerms (byPosition (constantsIn ks))
@@ -64,14 +65,14 @@ module _ (text : Bytes) (second : Bool) (constants : Bytes) (x : Projection) (js
         go (y ∷ ys) = ap suc (go ys)
 
     -- the lines of the renamed pattern, constants bound
-    pub side-is : (t : List Line) → joinLine (o .constants) (put (renameInGraphPattern (newNames prefix second x js) (x .inner)) (valuesLines (o .constants) (ones (o .constant)) (picked 1 (o .constant) cs) (termsFrom ks 0 (bounds .columns)) t))
+    pub side-is : (t : List Line) → joinLine (o .constants) (put (renameInGraphPattern (newNames prefix second x js) (x .inner)) (valuesLines (o .constants) (ones (maskValue (o .constant))) (picked 1 (maskValue (o .constant)) cs) (termsFrom ks 0 (bounds .columns)) t))
         ≡ put (renamedPattern side) t
     side-is t =
-        (λ i. joinLine (many i) (put (renameInGraphPattern (newNames prefix second x js) (x .inner)) (valuesLines (many i) (ones (o .constant)) (columns-are i) (terms-are i) t)))
+        (λ i. joinLine (many i) (put (renameInGraphPattern (newNames prefix second x js) (x .inner)) (valuesLines (many i) (ones (maskValue (o .constant))) (columns-are i) (terms-are i) t)))
         ∙ go (byPosition (constantsIn ks)) refl (many-ones ∙ ap length columns-are)
       where
-        go : (bs : List Constant) → byPosition (constantsIn ks) ≡ bs → ones (o .constant) ≡ length (constantColumns ds bs)
-            → joinLine (length bs) (put (renameInGraphPattern (newNames prefix second x js) (x .inner)) (valuesLines (length bs) (ones (o .constant)) (constantColumns ds bs) (constantTerms bs) t)) ≡ put (renamedPattern side) t
+        go : (bs : List Constant) → byPosition (constantsIn ks) ≡ bs → ones (maskValue (o .constant)) ≡ length (constantColumns ds bs)
+            → joinLine (length bs) (put (renameInGraphPattern (newNames prefix second x js) (x .inner)) (valuesLines (length bs) (ones (maskValue (o .constant))) (constantColumns ds bs) (constantTerms bs) t)) ≡ put (renamedPattern side) t
         go [] e o = sym (side-lines side t e)
         go (b ∷ bs) e o =
             ap (λ (k : ℕ). (bytes "join" ∷ []) ∷ put (renameInGraphPattern (newNames prefix second x js) (x .inner)) ((bytes "values" ∷ decimal k ∷ decimal 1 ∷ []) ∷ (bytes "cols" ∷ constantColumns ds (b ∷ bs)) ∷ (bytes "row" ∷ constantTerms (b ∷ bs)) ∷ t)) o

@@ -15,6 +15,7 @@ use Rattle.walking.proofs.Written.{puts-ended}
 use Rattle.merging.specs.Request.{Projection}
 use Rattle.sides.specs.declared.side.Outline.{Outline}
 use Rattle.scoping.specs.Premises.{inside}
+use Rattle.mask.specs.bridge.Words.{maskValue}
 use Rattle.columns.specs.bridge.Listed.{Listed, positionsIn}
 use Rattle.sides.specs.bridge.Side.{newNames, OutlineIs}
 use Rattle.text.specs.Text.{split, linesIn, linesOf}
@@ -87,7 +88,7 @@ unfolding putPairs linesOf linesIn split
 none-listed = record { lines = refl; few = omega arith; short = omega arith }
 
 module _ (text constants : Bytes) (x : Projection) (ks : List Pair) (joins at lines : List ℕ) (o : Outline) (is : OutlineIs text false constants x [] ks joins at lines o) (cs : List Bytes) (named : cs ≡ map (newNames prefixV false x []) (x .columns)) where
-  pub pushed-lines : (bytes "project" ∷ picked 0 (o .constant) cs) ∷ put (renamedPattern (side text false constants x [] ks joins at lines o is prefixV cs named)) [] ≡ put (pushedTree x ks) []
+  pub pushed-lines : (bytes "project" ∷ picked 0 (maskValue (o .constant)) cs) ∷ put (renamedPattern (side text false constants x [] ks joins at lines o is prefixV cs named)) [] ≡ put (pushedTree x ks) []
   pushed-lines = ap (λ (fs : List Bytes). (bytes "project" ∷ fs) ∷ put (renamedPattern (onlySide x (byPosition (constantsIn ks)))) []) (side-free text false constants x [] ks joins at lines o is prefixV cs named) ∙ sym (push-lines x (byPosition (constantsIn ks)) [])
 
 module _ (head : Bytes) (x : Projection) (ks : List Pair) where

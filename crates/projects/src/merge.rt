@@ -7,6 +7,7 @@ use columns::columns::width;
 use emit::put_all;
 use lines::fields::Node;
 use lines::fields::Spot;
+use mask::Mask;
 use names::Entry;
 use sides::side::FoundSide;
 use sides::side::Standing;
@@ -28,6 +29,7 @@ ghost use Rattle.algebra.specs.Tally.{bounds};
 ghost use Rattle.answers.specs.Outcome.{Answered};
 ghost use Rattle.merging.specs.Request.{Projection, tree};
 ghost use Rattle.walking.specs.bridge.Code.{Inside};
+ghost use Rattle.mask.specs.bridge.Words.{maskValue};
 ghost use Rattle.columns.specs.bridge.Columns.{picked};
 ghost use Rattle.sides.specs.bridge.Side.{IsFound};
 ghost use Rattle.projects.specs.bridge.Joining.{StandsAt, mergedTree, Lists, joinedBehind, ListsRead, rest, BothShaped};
@@ -62,9 +64,9 @@ fn gone_of(
     tables: &[[Entry; 1024]; 2],
     spots: &[Spot],
     news: &[[Entry; 1024]; 2],
-) -> u64
+) -> Mask
     requires { ⌜ Inside 1024 (take (pair .spots) (now spots)) (pair .left .outline .columns) × Inside 1024 (rest (pair .spots) (now spots)) (pair .right .outline .columns) × (pair .right .outline .columns ≤ bounds .columns) × (pair .spots ≤ length (now spots)) ⌝ }
-    ensures { λ gone. ⌜ gone ≡ goneMask (pair .left .outline) (leftColumns (now (left .entry)) pair (now (tables .entry)) (now (spots .entry)) (now (news .entry))) (pair .right .outline) (rightColumns (now (right .entry)) pair (now (tables .entry)) (now (spots .entry)) (now (news .entry))) ⌝ }
+    ensures { λ gone. ⌜ maskValue gone ≡ goneMask (pair .left .outline) (leftColumns (now (left .entry)) pair (now (tables .entry)) (now (spots .entry)) (now (news .entry))) (pair .right .outline) (rightColumns (now (right .entry)) pair (now (tables .entry)) (now (spots .entry)) (now (news .entry))) ⌝ }
 {
     let k = pair.spots;
     let l = pair.left.outline;
@@ -91,14 +93,14 @@ fn put_head(
     left: &[u8],
     right: &[u8],
     pair: FoundPair,
-    gone: u64,
+    gone: Mask,
     tables: &[[Entry; 1024]; 2],
     spots: &[Spot],
     news: &[[Entry; 1024]; 2],
     out: &mut [u8],
 ) -> usize
-    requires { ⌜ Inside 1024 (take (pair .spots) (now spots)) (pair .left .outline .columns) × Inside 1024 (rest (pair .spots) (now spots)) (pair .right .outline .columns) × (pair .spots ≤ length (now spots)) × HeaderFits (pair .left .outline) (leftColumns (now left) pair (now tables) (now spots) (now news)) gone (pair .right .outline) (rightColumns (now right) pair (now tables) (now spots) (now news)) ⌝ }
-    ensures { λ result. ⌜ ((t : List Line) → puts (textOf t) (em result (now (out .exit))) ≡ puts (now (head .entry) ++ textOf ((bytes "project" ∷ (picked 0 (pair .left .outline .constant) (leftColumns (now (left .entry)) pair (now (tables .entry)) (now (spots .entry)) (now (news .entry))) ++ picked 0 gone (rightColumns (now (right .entry)) pair (now (tables .entry)) (now (spots .entry)) (now (news .entry))))) ∷ (bytes "join" ∷ []) ∷ t)) (em 0 (now (out .entry)))) ⌝ }
+    requires { ⌜ Inside 1024 (take (pair .spots) (now spots)) (pair .left .outline .columns) × Inside 1024 (rest (pair .spots) (now spots)) (pair .right .outline .columns) × (pair .spots ≤ length (now spots)) × HeaderFits (pair .left .outline) (leftColumns (now left) pair (now tables) (now spots) (now news)) (maskValue gone) (pair .right .outline) (rightColumns (now right) pair (now tables) (now spots) (now news)) ⌝ }
+    ensures { λ result. ⌜ ((t : List Line) → puts (textOf t) (em result (now (out .exit))) ≡ puts (now (head .entry) ++ textOf ((bytes "project" ∷ (picked 0 (maskValue (pair .left .outline .constant)) (leftColumns (now (left .entry)) pair (now (tables .entry)) (now (spots .entry)) (now (news .entry))) ++ picked 0 (maskValue gone) (rightColumns (now (right .entry)) pair (now (tables .entry)) (now (spots .entry)) (now (news .entry))))) ∷ (bytes "join" ∷ []) ∷ t)) (em 0 (now (out .entry)))) ⌝ }
 {
     let k = pair.spots;
     let l = pair.left.outline;
@@ -138,7 +140,7 @@ fn put_merged(
     left: &[u8],
     right: &[u8],
     pair: FoundPair,
-    gone: u64,
+    gone: Mask,
     tables: &[[Entry; 1024]; 2],
     spots: &[Spot],
     news: &[[Entry; 1024]; 2],
@@ -146,7 +148,7 @@ fn put_merged(
     right_constants: &[u8],
     out: &mut [u8],
 ) -> usize
-    requires { ⌜ ((x : Projection) × (y : Projection) × (js : List Pair) × (ks : List Pair) × (ls : List Pair) × LeftNamed (now left) (now «left_constants») pair (now tables) (now spots) (now news) x js ks × RightNamed (now right) (now «right_constants») pair (now tables) (now spots) (now news) y js ls) × (gone ≡ goneMask (pair .left .outline) (leftColumns (now left) pair (now tables) (now spots) (now news)) (pair .right .outline) (rightColumns (now right) pair (now tables) (now spots) (now news))) × (pair .spots ≤ length (now spots)) ⌝ }
+    requires { ⌜ ((x : Projection) × (y : Projection) × (js : List Pair) × (ks : List Pair) × (ls : List Pair) × LeftNamed (now left) (now «left_constants») pair (now tables) (now spots) (now news) x js ks × RightNamed (now right) (now «right_constants») pair (now tables) (now spots) (now news) y js ls) × (maskValue gone ≡ goneMask (pair .left .outline) (leftColumns (now left) pair (now tables) (now spots) (now news)) (pair .right .outline) (rightColumns (now right) pair (now tables) (now spots) (now news))) × (pair .spots ≤ length (now spots)) ⌝ }
     ensures { λ result. ⌜ ((x y : Projection) (js ks ls : List Pair) → LeftNamed (now (left .entry)) (now («left_constants» .entry)) pair (now (tables .entry)) (now (spots .entry)) (now (news .entry)) x js ks → RightNamed (now (right .entry)) (now («right_constants» .entry)) pair (now (tables .entry)) (now (spots .entry)) (now (news .entry)) y js ls → em result (now (out .exit)) ≡ puts (now (head .entry) ++ layout (mergedTree x y js ks ls)) (em 0 (now (out .entry)))) ⌝ }
 {
     let k = pair.spots;

@@ -96,7 +96,7 @@ module _ (ns : List Bytes) (n : ℕ) (pairs : Bytes) (keys : List (List ℕ)) (m
   begun targets spans e h = record { so-far = λ f i. ap (lookLast xs f) (unset ns pairs targets spans f h) ∙ look-becomes xs valid f; behind = λ k l. h k; entries = e }
 
   many : m ≤ length keys
-  many = let r = told .room in let f = told .few in omega arith
+  many = told .room
 
   module _ (i : ℕ) (targets spans : List ℕ) (u : Underway ns n pairs xs i targets spans) where
     pub ended : m ≤ i → Targets ns n pairs targets spans

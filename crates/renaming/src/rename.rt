@@ -8,7 +8,6 @@ use descending::tree::rename_tree;
 use lines::fields::Node;
 use lines::fields::Spot;
 use lists::Entry as Pair;
-use lists::Pairs;
 use lists::check_mapping;
 use lists::field_at;
 use names::Entry;
@@ -25,7 +24,7 @@ ghost use mathlib.Core.List.{[]};
 ghost use lib.ListN.{length, getD};
 ghost use Rattle.names.specs.bridge.Names.{startsOf, sizesOf, namesIn};
 ghost use Rattle.lines.specs.bridge.Noded.{Roomy};
-ghost use Rattle.lists.specs.bridge.Pairs.{pairAt};
+ghost use Rattle.lists.specs.bridge.Pairs.{pairAt, Enough};
 ghost use Rattle.walking.specs.bridge.Code.{Named};
 ghost use Rattle.answers.specs.Outcome.{Answered};
 ghost use Rattle.renaming.specs.Rename.{renameOutcome};
@@ -58,7 +57,7 @@ fn find_targets(
     hints: &[u16; 2048],
     n: usize,
     mapping: &[u8],
-    keys: &Pairs,
+    keys: &[Pair],
     m: usize,
     news: &mut [Entry; 1024],
 )
@@ -130,7 +129,37 @@ fn rename_over(
     Answer::Written(size)
 }
 
-// The same for a tree that was checked and any mapping.
+// The same for a tree that was checked and any mapping, with entries enough for it.
+fn rename_listed(
+    tree: &[u8],
+    table: &[Entry; 1024],
+    hints: &[u16; 2048],
+    n: usize,
+    spots: &mut [Spot],
+    k: usize,
+    words: &[WordRow; 56],
+    nodes: &[Node],
+    m: usize,
+    mapping: &[u8],
+    keys: &mut [Pair],
+    out: &mut [u8],
+) -> Answer
+    requires { ⌜ Recorded (now tree) (startsOf (now table)) (sizesOf (now table)) (now hints) n (now spots) k (now words) (now nodes) m × Enough (now mapping) (now keys) ⌝ }
+    ensures { λ r. ⌜ Answered (renameAsIs (now (tree .entry)) (now (mapping .entry))) (now (out .entry)) (now (out .exit)) r ⌝ }
+{
+    match check_mapping(mapping, keys) {
+        Check::Good(pairs) => {
+            let mut news = [[0u16; 2]; 1024];
+            find_targets(tree, table, hints, n, mapping, keys, pairs, &mut news);
+            rename_tree(words, nodes, m, spots, k, &news);
+            rename_over(tree, table, n, spots, k, mapping, &news, out)
+        }
+        Check::Malformed => Answer::Malformed,
+        Check::OverBound => Answer::OverBound,
+    }
+}
+
+// The same, with as many entries as pays: they are cleared first.
 fn rename_by(
     tree: &[u8],
     table: &[Entry; 1024],
@@ -147,17 +176,38 @@ fn rename_by(
     requires { ⌜ Recorded (now tree) (startsOf (now table)) (sizesOf (now table)) (now hints) n (now spots) k (now words) (now nodes) m ⌝ }
     ensures { λ r. ⌜ Answered (renameAsIs (now (tree .entry)) (now (mapping .entry))) (now (out .entry)) (now (out .exit)) r ⌝ }
 {
-    let mut keys = [[0u16; 4]; ENTRIES];
-    match check_mapping(mapping, &mut keys) {
-        Check::Good(pairs) => {
-            let mut news = [[0u16; 2]; 1024];
-            find_targets(tree, table, hints, n, mapping, &keys, pairs, &mut news);
-            rename_tree(words, nodes, m, spots, k, &news);
-            rename_over(tree, table, n, spots, k, mapping, &news, out)
-        }
-        Check::Malformed => Answer::Malformed,
-        Check::OverBound => Answer::OverBound,
+    if mapping.len() <= 128 {
+        let mut few = [[0u16; 4]; 64];
+        return rename_listed(
+            tree,
+            table,
+            hints,
+            n,
+            spots,
+            k,
+            words,
+            nodes,
+            m,
+            mapping,
+            &mut few,
+            out,
+        );
     }
+    let mut keys = [[0u16; 4]; ENTRIES];
+    rename_listed(
+        tree,
+        table,
+        hints,
+        n,
+        spots,
+        k,
+        words,
+        nodes,
+        m,
+        mapping,
+        &mut keys,
+        out,
+    )
 }
 
 // The same for any tree, where spots and nodes have room for all that a text within the bounds can have.

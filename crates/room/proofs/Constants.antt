@@ -112,11 +112,11 @@ unfolding ValidPairs putPairs size width
 terms-width seen [] v = omega arith
 terms-width seen (x ∷ xs) v = omega (arith, integer-some (x .first) (v .0), terms-width _ xs (v .3))
 
--- a text of constants, if there are any, has room for their terms and two bytes more
-pub terms-short : (s : Bytes) (ks : List Constant) → readConstants s ≡ reads ks → 1 ≤ length ks → width (constantTerms ks) + 2 ≤ length s
+-- a text of constants has room for their terms and two bytes more for each
+pub terms-short : (s : Bytes) (ks : List Constant) → readConstants s ≡ reads ks → width (constantTerms ks) + 2 * length ks ≤ length s
 unfolding readConstants layoutPairs
-terms-short s ks e n =
+terms-short s ks e =
     let x = made-reads (λ xs. byPosition (constantsIn xs)) (readPairs constants s) ks e in
     let y = pairs-exactly constants s (x .0) .0 (x .1) in
-    let some : 1 ≤ length (x .0) = omega (arith, ap length (x .2), sorted-length (constantsIn (x .0)), map-length {B = Constant} (λ (p : Query.Pair). record { position = position (p .first); term = p .second }) (x .0)) in
+    let many : length ks ≡ length (x .0) = omega (arith, ap length (x .2), sorted-length (constantsIn (x .0)), map-length {B = Constant} (λ (p : Query.Pair). record { position = position (p .first); term = p .second }) (x .0)) in
     omega (arith, ap (λ (l : List Constant). width (constantTerms l)) (x .2), sorted-width (constantsIn (x .0)), terms-width [] (x .0) (y .1), text-size (putPairs (x .0) []), ap length (y .0))

@@ -36,6 +36,10 @@ pub two-digits : (n : ℕ) → n < 100 → length (decimal n) ≤ 2
 unfolding decimal tens
 two-digits n h = digits-few 1 (suc n) n (omega arith)
 
+pub three-digits : (n : ℕ) → n < 1000 → length (decimal n) ≤ 3
+unfolding decimal tens
+three-digits n h = digits-few 2 (suc n) n (omega arith)
+
 pub four-digits : (n : ℕ) → n < 10000 → length (decimal n) ≤ 4
 unfolding decimal tens
 four-digits n h = digits-few 3 (suc n) n (omega arith)

@@ -1,8 +1,9 @@
 -- One side of a merge or push: its free columns and its renamed pattern take at most three times the tree's bytes and the constants'. Assumes nothing.
-use Prim.Native.Nat.{ℕ, _+_, _*_, _≤_}
+use Prim.Native.Nat.{ℕ, _+_, _*_, _≤_, _<_}
 use mathlib.Core.Path.{_≡_, ap, _∙_}
 use mathlib.Core.Bool.{true}
 use mathlib.Core.List.{List, [], _∷_, map}
+use native.Mathlib.Decide.{decLt}
 use native.Mathlib.Omega.{arith}
 use lib.ListN.{length}
 use lib.Dec.{ltb}
@@ -21,20 +22,28 @@ use Rattle.merging.specs.Sides.{Constant, Side, constantColumns, constantTerms,
 use Rattle.merging.specs.Request.{Projection, tree, positions, readConstants}
 use Rattle.merging.proofs.Lists.{constants-good, map-length}
 use Rattle.walking.proofs.Sizes.{width, size}
-use Rattle.room.proofs.Digits.{two-digits}
+use Rattle.room.proofs.Digits.{two-digits, three-digits}
 use Rattle.room.proofs.Added.{put-same}
 use Rattle.walking.proofs.Grown.{grown-names, grown}
 use Rattle.room.proofs.Generated.{side-name-short}
 use Rattle.room.proofs.Constants.{parted-width, terms-short}
 
+-- a number of columns has at most twice as many digits as it counts
+few-digits : (n : ℕ) → 1 ≤ n → n ≤ bounds .entries → length (decimal n) ≤ 2 * n
+few-digits n l h = go (decLt n 100)
+  where
+    go : Dec (n < 100) → length (decimal n) ≤ 2 * n
+    go (yes b) = omega (arith, two-digits n b)
+    go (no b) = omega (arith, three-digits n (omega arith))
+
 -- the `join` and the Values of constants
-bound-size : (p : Pattern) (cs : List Bytes) (ks : List Constant) (n : ℕ) → length ks ≤ bounds .entries → (1 ≤ length ks → width (constantTerms ks) + 2 ≤ n) → size (put (bindConstants p cs ks) []) ≤ size (put p []) + width (constantColumns cs ks) + n + 24
+bound-size : (p : Pattern) (cs : List Bytes) (ks : List Constant) (n : ℕ) → length ks ≤ bounds .entries → width (constantTerms ks) + 2 * length ks ≤ n → size (put (bindConstants p cs ks) []) ≤ size (put p []) + width (constantColumns cs ks) + n + 24
 unfolding bindConstants put putRows decimal digits size width
 bound-size p cs [] n few h = omega arith
 bound-size p cs (k ∷ ks) n few h =
     let vs = values (constantColumns cs (k ∷ ks)) (constantTerms (k ∷ ks) ∷ []) in
     let wide = map-length (λ (x : Constant). columnAt cs (x .position)) (k ∷ ks) in
-    omega (arith, put-same p (put vs []) [], h (omega arith), two-digits (length (constantColumns cs (k ∷ ks))) (omega arith))
+    omega (arith, put-same p (put vs []) [], h, few-digits (length (constantColumns cs (k ∷ ks))) (omega arith) (omega arith))
 
 inside-map : (f : Bytes → Bytes) (cs : List Bytes) (is : List ℕ) → inside cs is ≡ true → inside (map f cs) is ≡ true
 unfolding inside

@@ -13,8 +13,8 @@ use Rattle.scoping.specs.Sets.{any}
 use Rattle.scoping.specs.Premises.{inside, differentPositions}
 use Rattle.scoping.proofs.Positions.{inside-first, inside-rest}
 use Rattle.merging.specs.Names.{from, isAt}
-use Rattle.columns.specs.bridge.Columns.{bitOf}
-use Rattle.columns.proofs.Masks.{countOf, mask-ones}
+use Rattle.mask.specs.bridge.Mask.{bitOf, countOf}
+use Rattle.mask.proofs.Bits.{mask-ones}
 use Rattle.columns.proofs.Places.{bitsFrom, bits-behind, none-set}
 use Rattle.sides.specs.bridge.Side.{maskAt}
 

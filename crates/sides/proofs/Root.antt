@@ -1,15 +1,12 @@
--- The first line of a tree's text, as the code looks at it; and a count of ones as a number of the code's. Assumes nothing.
-use Prim.Native.Nat.{ℕ, _^_, _≤_, _<_}
+-- The first line of a tree's text, as the code looks at it. Assumes nothing.
+use Prim.Native.Nat.{ℕ, _≤_, _<_}
 use mathlib.Core.Path.{_≡_, refl, sym, ap, _∙_}
 use mathlib.Core.List.{List, [], _∷_}
 use mathlib.Core.Bool.{Bool, false}
 use mathlib.Core.Logic.{⊎-elim}
 use native.Mathlib.Omega.{arith}
-use mir.Syntax.{w64}
-use mir.Val.{Fits}
 use lib.Dec.{eqb}
 use lib.ListN.{length, getD}
-use lib.Count.{ones, ones-le}
 use Rattle.text.specs.Text.{Bytes, Line, same, part, linesFrom, First}
 use Rattle.text.specs.Word.{bytes}
 use Rattle.text.proofs.Places.{lines-next}
@@ -42,6 +39,3 @@ module _ (s : Bytes) (from e : ℕ) (l : LineEnd s from e) where
     pub root-is : (word k : ℕ) → First 9 s from e word → Keyed (part from word s) k → IsProject (eqb k 31651020243559284)
     root-is word k f h =
         project-by-key (part from word s) k h ∙ ap (λ (y : Line). same (getD y 0 []) (bytes "project")) (sym (line-split s from e word ends root-low f)) ∙ ap (λ (y : List Line). same (getD (getD y 0 []) 0 []) (bytes "project")) (sym (lines-next s from e (l .ends ends) ends))
-
-pub ones-fit : (m : ℕ) → Fits w64 m → Fits w64 (ones m)
-ones-fit m f = let a : ones m ≤ 64 = ones-le 64 m (f .fits) in record { fits = let b : 64 < 2 ^ 64 = omega arith in omega arith }

@@ -34,6 +34,8 @@ use Rattle.merging.specs.Request.{Projection, tree}
 use Rattle.algebra.specs.Query.{Pair}
 use Rattle.algebra.specs.Tally.{bounds}
 use Rattle.sides.specs.declared.side.Outline.{Outline}
+use Rattle.mask.specs.declared.Mask.{Mask}
+use Rattle.mask.specs.bridge.Words.{maskValue}
 use Rattle.columns.specs.declared.list.Positions.{Positions}
 use Rattle.columns.specs.declared.list.Positions.the-variants.{Outside, Are}
 use Rattle.walking.specs.bridge.Code.{Inside}
@@ -160,7 +162,7 @@ kept-asked s xs second c at lines m r k l = (let e = k .1 .many in let f = l .fe
 module _ (text : Bytes) (second : Bool) (pairs constants : Bytes) (c inner : ℕ) (x : Projection) (js ks : List Pair)
     (joins join-lines at lines : List ℕ) (k m : ℕ) (kj : (all (λ i. ltb i c) (positionsIn second js) ≡ true) × Kept pairs js second joins join-lines k) (kk : (all (λ i. ltb i c) (positionsIn false ks) ≡ true) × Kept constants ks false at lines m)
     (high : inner ≤ length text) (found : (c ≡ length (x .columns)) × (linesFrom text inner ≡ put (x .inner) [])) (listed : Listed pairs js) where
-  pub all-found : (constant joined : ℕ) → constant ≡ maskAt (take m at) c → joined ≡ maskAt (take k joins) c
+  pub all-found : (constant joined : Mask) → maskValue constant ≡ maskAt (take m at) c → maskValue joined ≡ maskAt (take k joins) c
       → FindingIs text second constants x js ks joins at lines (record { inside = true; inner = inner; columns = c; joined = joined; joins = k; constant = constant; constants = m })
   all-found constant joined pc pj = record {
     outside = λ e. absurd (true≢false e);
@@ -199,18 +201,18 @@ module _ (text : Bytes) (from : ℕ) (starts sizes : List ℕ) (n : ℕ) (spots 
   outline-inside = ap (inside (x .columns)) (d .is .positions) ∙ d .joins-inside
 
   -- its join positions are as many as its mask has ones exactly if none stands twice
-  joined-ones : Ones (ones (o .joined)) (o .joins) (differentPositions (positionsIn second js))
+  joined-ones : Ones (ones (maskValue (o .joined))) (o .joins) (differentPositions (positionsIn second js))
   joined-ones =
       let t : length (positionsIn second js) ≡ o .joins = sym (ap length (d .is .positions)) ∙ (let f = d .is .few in let g = d .joins-long in simp length-take (omega arith)) in
-      subst (λ (k : ℕ). Ones (ones (o .joined)) k (differentPositions (positionsIn second js))) t (rw (d .is .joined) (mask-counts (x .columns) (positionsIn second js) (d .joins-inside)))
+      subst (λ (k : ℕ). Ones (ones (maskValue (o .joined))) k (differentPositions (positionsIn second js))) t (rw (d .is .joined) (mask-counts (x .columns) (positionsIn second js) (d .joins-inside)))
 
-  pub repeated : ones (o .joined) < o .joins → differentPositions (positionsIn second js) ≡ false
+  pub repeated : ones (maskValue (o .joined)) < o .joins → differentPositions (positionsIn second js) ≡ false
   repeated h = not-true (differentPositions (positionsIn second js)) (λ e. let z = joined-ones .all e in absurd (omega arith))
 
-  once : o .joins ≤ ones (o .joined) → differentPositions (positionsIn second js) ≡ true
+  once : o .joins ≤ ones (maskValue (o .joined)) → differentPositions (positionsIn second js) ≡ true
   once h = not-false (differentPositions (positionsIn second js)) (λ e. let z = joined-ones .less e in absurd (omega arith))
 
-  pub named : (prefix : ℕ) (firsts seconds : List ℕ) (marked : List (List ℕ)) → o .joins ≤ ones (o .joined) → Renamed seconds spots 0 marked (length spots)
+  pub named : (prefix : ℕ) (firsts seconds : List ℕ) (marked : List (List ℕ)) → o .joins ≤ ones (maskValue (o .joined)) → Renamed seconds spots 0 marked (length spots)
       → Renames (listing text starts sizes n) n firsts seconds (sideName prefix (x .columns) (x .inner) (take (o .joins) joins))
       → Sided text from starts sizes n marked prefix second constants firsts seconds joins at lines o x js ks
   named prefix firsts seconds marked many renamed new = record {
@@ -242,15 +244,22 @@ module _ (text : Bytes) (from : ℕ) (starts sizes : List ℕ) (n : ℕ) (spots 
   pub terms-few : o .constants ≤ bounds .entries
   terms-few = let m = d .found .is .kept .many in let f = d .found .terms .listed .few in omega arith
 
-  -- as many columns carry a constant as its mask has ones, and the others are the header's width
-  widths : (ones (o .constant) ≡ length (picked 1 (o .constant) columns)) × (ones (o .constant) ≤ length columns) × (length columns - ones (o .constant) ≡ length (picked 0 (o .constant) columns))
-  widths = mask-picks (positionsIn false ks) columns (o .constant) (d .found .is .constant ∙ ap (maskAt (positionsIn false ks)) (sym columns-long))
+  pub side-narrow : o .columns ≤ bounds .columns
+  side-narrow = let a = d .found .stands .narrow x refl in let b = d .found .is .width in omega arith
 
-  pub side-ones : ones (o .constant) ≡ length (picked 1 (o .constant) columns)
+  pub side-below : all (λ i. ltb i (o .columns)) (take (o .constants) at) ≡ true
+  unfolding inside
+  side-below = ap (all (λ i. ltb i (o .columns))) (d .found .is .kept .positions) ∙ ap (λ (c : ℕ). all (λ i. ltb i c) (positionsIn false ks)) (d .found .is .width) ∙ d .found .terms-inside
+
+  -- as many columns carry a constant as its mask has ones, and the others are the header's width
+  widths : (ones (maskValue (o .constant)) ≡ length (picked 1 (maskValue (o .constant)) columns)) × (ones (maskValue (o .constant)) ≤ length columns) × (length columns - ones (maskValue (o .constant)) ≡ length (picked 0 (maskValue (o .constant)) columns))
+  widths = mask-picks (positionsIn false ks) columns (maskValue (o .constant)) (d .found .is .constant ∙ ap (maskAt (positionsIn false ks)) (sym columns-long))
+
+  pub side-ones : ones (maskValue (o .constant)) ≡ length (picked 1 (maskValue (o .constant)) columns)
   side-ones = widths .0
 
-  pub side-room : ones (o .constant) ≤ o .columns
+  pub side-room : ones (maskValue (o .constant)) ≤ o .columns
   side-room = let a = widths .1 in let b = d .found .is .width in let e = columns-long in omega arith
 
-  pub side-width : o .columns - ones (o .constant) ≡ length (picked 0 (o .constant) columns)
-  side-width = ap (λ (c : ℕ). c - ones (o .constant)) (d .found .is .width ∙ sym columns-long) ∙ widths .2
+  pub side-width : o .columns - ones (maskValue (o .constant)) ≡ length (picked 0 (maskValue (o .constant)) columns)
+  side-width = ap (λ (c : ℕ). c - ones (maskValue (o .constant))) (d .found .is .width ∙ sym columns-long) ∙ widths .2

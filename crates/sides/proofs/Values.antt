@@ -37,7 +37,7 @@ unfolding textOf ended puts decimal digits
 values-line n t e = sym (puts-append (decimal n) (bytes "\t1\n" ++ textOf t) (puts (bytes "values\t") e))
 
 -- the three lines, piece by piece
-pub values-put : (m n : ℕ) (cs ts : List Bytes) (e e₁ e₂ e₃ e₄ e₅ e₆ e₇ : Em) → (m ≡ 0 → ⊥) → e₁ ≡ puts (bytes "values\t") e → e₂ ≡ puts (decimal n) e₁ → e₃ ≡ puts (bytes "\t1\ncols") e₂ → e₄ ≡ puts (tabbed cs) e₃
+values-put : (m n : ℕ) (cs ts : List Bytes) (e e₁ e₂ e₃ e₄ e₅ e₆ e₇ : Em) → (m ≡ 0 → ⊥) → e₁ ≡ puts (bytes "values\t") e → e₂ ≡ puts (decimal n) e₁ → e₃ ≡ puts (bytes "\t1\ncols") e₂ → e₄ ≡ puts (tabbed cs) e₃
     → e₅ ≡ puts (bytes "\nrow") e₄ → e₆ ≡ puts (tabbed ts) e₅ → e₇ ≡ puts (10 ∷ []) e₆ → (t : List Line) → puts (textOf t) e₇ ≡ puts (textOf (valuesLines m n cs ts t)) e
 values-put zero n cs ts e e₁ e₂ e₃ e₄ e₅ e₆ e₇ h p₁ p₂ p₃ p₄ p₅ p₆ p₇ t = absurd (h refl)
 values-put (suc m) n cs ts e e₁ e₂ e₃ e₄ e₅ e₆ e₇ h p₁ p₂ p₃ p₄ p₅ p₆ p₇ t =
@@ -47,3 +47,8 @@ values-put (suc m) n cs ts e e₁ e₂ e₃ e₄ e₅ e₆ e₇ h p₁ p₂ p₃
     ∙ cols-line cs ((bytes "row" ∷ ts) ∷ t) e₂
     ∙ ap (λ (x : Em). puts (textOf ((bytes "cols" ∷ cs) ∷ (bytes "row" ∷ ts) ∷ t)) (puts (bytes "\t1\n") x)) (p₂ ∙ ap (puts (decimal n)) p₁)
     ∙ values-line n ((bytes "cols" ∷ cs) ∷ (bytes "row" ∷ ts) ∷ t) e
+
+-- the columns as they were counted
+pub values-counted : (m n k : ℕ) (cs ts : List Bytes) (e e₁ e₂ e₃ e₄ e₅ e₆ e₇ : Em) → (m ≡ 0 → ⊥) → k ≡ n → e₁ ≡ puts (bytes "values\t") e → e₂ ≡ puts (decimal k) e₁ → e₃ ≡ puts (bytes "\t1\ncols") e₂ → e₄ ≡ puts (tabbed cs) e₃
+    → e₅ ≡ puts (bytes "\nrow") e₄ → e₆ ≡ puts (tabbed ts) e₅ → e₇ ≡ puts (10 ∷ []) e₆ → (t : List Line) → puts (textOf t) e₇ ≡ puts (textOf (valuesLines m n cs ts t)) e
+values-counted m n k cs ts e e₁ e₂ e₃ e₄ e₅ e₆ e₇ h c p₁ p₂ = values-put m n cs ts e e₁ e₂ e₃ e₄ e₅ e₆ e₇ h p₁ (p₂ ∙ ap (λ (i : ℕ). puts (decimal i) e₁) c)

@@ -10,7 +10,8 @@ use Rattle.text.specs.Text.{Bytes}
 use Rattle.merging.specs.Names.{from, isAt}
 use Rattle.merging.proofs.Lists.{map-length}
 use Rattle.columns.specs.bridge.Columns.{picked}
-use Rattle.columns.proofs.Masks.{mask-ones, countOf}
+use Rattle.mask.specs.bridge.Mask.{countOf}
+use Rattle.mask.proofs.Bits.{mask-ones}
 use Rattle.columns.proofs.Counted.{picked-count}
 use Rattle.sides.specs.bridge.Side.{maskAt}
 

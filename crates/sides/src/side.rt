@@ -8,6 +8,9 @@ use columns::list::read_positions;
 use descending::tree::rename_tree;
 use lines::fields::Node;
 use lines::fields::Spot;
+use mask::Mask;
+use mask::count_ones;
+use mask::empty;
 use names::Entry;
 use names::wide;
 use naming::new_names::standardize_variables;
@@ -86,9 +89,9 @@ pub struct Outline {
     pub inside: bool,
     pub inner: usize,
     pub columns: usize,
-    pub joined: u64,
+    pub joined: Mask,
     pub joins: usize,
-    pub constant: u64,
+    pub constant: Mask,
     pub constants: usize,
 }
 
@@ -107,9 +110,9 @@ fn outside() -> Outline
         inside: false,
         inner: 0,
         columns: 0,
-        joined: 0,
+        joined: empty(),
         joins: 0,
-        constant: 0,
+        constant: empty(),
         constants: 0,
     }
 }
@@ -130,8 +133,7 @@ fn find_positions(
 {
     let found = find_columns(text, from);
     let columns = found.columns;
-    let mut join_lines = [0u16; ENTRIES];
-    let Positions::Are(k) = read_positions(pairs, second, columns, joins, &mut join_lines) else {
+    let Positions::Are(k) = read_positions(pairs, second, columns, joins, lines) else {
         return outside();
     };
     let Positions::Are(m) = read_positions(constants, false, columns, at, lines) else {
@@ -222,8 +224,7 @@ pub fn name_found(
     let outline = found.outline;
     let places = found.places;
     let joins = places.joins;
-    let ones = u64::count_ones(outline.joined) as usize;
-    if ones < outline.joins {
+    if count_ones(outline.joined) < outline.joins {
         return false;
     }
     name_tree(

@@ -5,21 +5,25 @@ use columns::list::put_terms;
 use emit::put;
 use emit::put_all;
 use lines::fields::Spot;
+use mask::count_ones;
 use names::Entry;
 use naming::numbers::put_decimal;
 use walking::places::put_renamed;
 ghost use mathlib.Core.Path.{_≡_};
 ghost use Prim.Native.Nat.{ℕ, _≤_};
 ghost use mathlib.Core.List.{List};
-ghost use mathlib.Core.Bool.{Bool, false};
-ghost use lib.ListN.{length};
+ghost use mathlib.Core.Bool.{Bool, true, false};
+ghost use lib.ListN.{length, take};
+ghost use lib.Dec.{ltb};
 ghost use lib.Count.{ones};
 ghost use Rattle.text.specs.Text.{Line, textOf};
 ghost use Rattle.algebra.specs.Query.{Pair};
 ghost use Rattle.emit.specs.bridge.Emit.{em, puts};
 ghost use Rattle.algebra.specs.Tally.{bounds};
+ghost use Rattle.scoping.specs.Sets.{all};
 ghost use Rattle.merging.specs.Request.{Projection};
 ghost use Rattle.walking.specs.bridge.Code.{Inside};
+ghost use Rattle.mask.specs.bridge.Words.{maskValue};
 ghost use Rattle.columns.specs.bridge.Columns.{columnsOf, picked};
 ghost use Rattle.columns.specs.bridge.Listed.{Kept, termsFrom};
 ghost use Rattle.sides.specs.bridge.Side.{IsNamed, SideWritten, joinLine, valuesLines};
@@ -53,8 +57,8 @@ fn put_values(
     out: &mut [u8],
     at: usize,
 ) -> usize
-    requires { ⌜ (found .outline .constants ≤ bounds .entries) × (length (found .places .at) ≡ bounds .entries) × Inside 1024 (now spots) (found .outline .columns) × (ones (found .outline .constant) ≡ length (picked 1 (found .outline .constant) (columnsOf (now text) (now table) (now news) (now spots) (found .outline .columns)))) ⌝ }
-    ensures { λ r. ⌜ ((ks : List Pair) → Kept (now (constants .entry)) ks false (found .places .at) (found .places .starts) (found .outline .constants) → (t : List Line) → puts (textOf t) (em r (now (out .exit))) ≡ puts (textOf (valuesLines (found .outline .constants) (ones (found .outline .constant)) (picked 1 (found .outline .constant) (columnsOf (now (text .entry)) (now (table .entry)) (now (news .entry)) (now (spots .entry)) (found .outline .columns))) (termsFrom ks 0 (bounds .columns)) t)) (em at (now (out .entry)))) ⌝ }
+    requires { ⌜ (found .outline .constants ≤ bounds .entries) × (length (found .places .at) ≡ bounds .entries) × (found .outline .columns ≤ bounds .columns) × (all (λ i. ltb i (found .outline .columns)) (take (found .outline .constants) (found .places .at)) ≡ true) × Inside 1024 (now spots) (found .outline .columns) × (ones (maskValue (found .outline .constant)) ≡ length (picked 1 (maskValue (found .outline .constant)) (columnsOf (now text) (now table) (now news) (now spots) (found .outline .columns)))) ⌝ }
+    ensures { λ r. ⌜ ((ks : List Pair) → Kept (now (constants .entry)) ks false (found .places .at) (found .places .starts) (found .outline .constants) → (t : List Line) → puts (textOf t) (em r (now (out .exit))) ≡ puts (textOf (valuesLines (found .outline .constants) (ones (maskValue (found .outline .constant))) (picked 1 (maskValue (found .outline .constant)) (columnsOf (now (text .entry)) (now (table .entry)) (now (news .entry)) (now (spots .entry)) (found .outline .columns))) (termsFrom ks 0 (bounds .columns)) t)) (em at (now (out .entry)))) ⌝ }
 {
     let outline = found.outline;
     if outline.constants == 0 {
@@ -64,14 +68,22 @@ fn put_values(
     let positions = places.at;
     let starts = places.starts;
     let mask = outline.constant;
-    let count = u64::count_ones(mask) as usize;
+    let count = count_ones(mask);
     let columns = outline.columns;
     let a = put_all(out, at, &VALUES);
     let b = put_decimal(out, a, count);
     let c = put_all(out, b, &COLS);
     let d = put_columns(text, table, news, spots, columns, mask, 1, count, out, c);
     let e = put_all(out, d, &ROW);
-    let f = put_terms(constants, &positions, &starts, outline.constants, out, e);
+    let f = put_terms(
+        constants,
+        &positions,
+        &starts,
+        outline.constants,
+        columns,
+        out,
+        e,
+    );
     put(out, f, 10)
 }
 

@@ -1,7 +1,7 @@
--- A project's columns under their new names, and which of them go: a mask with one bit a column, the lowest for the first. Assumes nothing.
-use Prim.Native.Nat.{ℕ, _+_, _*_, _/_, _%_}
+-- A project's columns under their new names, and which of them go: a mask, as a number with one bit a column, the lowest for the first. Assumes nothing.
+use Prim.Native.Nat.{ℕ, _/_, _%_}
 use mathlib.Core.List.{List, [], _∷_, map}
-use mathlib.Core.Bool.{Bool, true, false, cond, _||_}
+use mathlib.Core.Bool.{Bool, cond, _||_}
 use lib.ListN.{getD, take}
 use lib.Dec.{eqb}
 use Rattle.text.specs.Text.{Bytes}
@@ -23,16 +23,6 @@ newIn s table news k = newAt s (startsOf table) (sizesOf table) (startsOf news) 
 
 abbrev pub columnsOf : Bytes → List (List ℕ) → List (List ℕ) → List (List ℕ) → ℕ → List Bytes
 columnsOf s table news v c = newColumns s (startsOf table) (sizesOf table) (startsOf news) (sizesOf news) v c
-
--- a bit as a number
-abbrev pub bitOf : Bool → ℕ
-bitOf true = 1
-bitOf false = 0
-
--- the mask with these bits, the lowest first
-unfoldable pub maskOf : List Bool → ℕ
-maskOf [] = 0
-maskOf (b ∷ bs) = bitOf b + 2 * maskOf bs
 
 -- the fields whose bits are `bit`
 unfoldable pub picked : ℕ → ℕ → List Bytes → List Bytes

@@ -36,6 +36,11 @@ unfoldable pub Found : Bytes → List Pair → Bool → ℕ → List ℕ → Lis
 Found s xs second c at lines Outside = all (λ i. ltb i c) (positionsIn second xs) ≡ false
 Found s xs second c at lines (Are m) = (all (λ i. ltb i c) (positionsIn second xs) ≡ true) × Kept s xs second at lines m
 
+-- an array has the place of each position among some, and a number from their number on for any other
+pub record Ordered (ps order : List ℕ) : Type 0 where
+  pub there : (p : ℕ) → p < bounds .entries → placeIn p ps < length ps → getD order p 0 ≡ placeIn p ps
+  pub else : (p : ℕ) → p < bounds .entries → length ps ≤ placeIn p ps → length ps ≤ getD order p 0
+
 -- ---- the terms of a constant list, as they are written
 
 -- the second field of the first pair, if there is one

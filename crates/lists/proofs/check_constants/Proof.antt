@@ -10,4 +10,4 @@ check-constants-spec =
     tie.close
     (tie.spec
     (λ c κs. search needs)
-    (λ c. c .check-pairs .ensures constants (record { firsts = refl; seconds = refl; parted = refl })))
+    (λ c. (c .check-alone .ensures .0, c .check-alone .ensures .1 constants (record { firsts = refl; seconds = refl; parted = refl }))))

@@ -10,4 +10,4 @@ check-joins-spec =
     tie.close
     (tie.spec
     (λ c κs. search needs)
-    (λ c. c .check-pairs .ensures joins (record { firsts = refl; seconds = refl; parted = refl })))
+    (λ c. (c .check-alone .ensures .0, c .check-alone .ensures .1 joins (record { firsts = refl; seconds = refl; parted = refl }))))

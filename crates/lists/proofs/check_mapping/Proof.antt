@@ -10,4 +10,5 @@ check-mapping-spec =
     tie.close
     (tie.spec
     (λ c κs. search needs)
-    (λ c. c .check-pairs .ensures mapping (record { firsts = refl; seconds = refl; parted = refl })))
+    (λ c. search needs)
+    (λ c. c .before .check-pairs .ensures mapping (record { firsts = refl; seconds = refl; parted = refl })))

@@ -1,5 +1,5 @@
 -- What the checks of the lists of pairs promise of a text, and what their steps find on a line. Assumes nothing.
-use Prim.Native.Nat.{ℕ, _+_, _-_, _≤_, _<_}
+use Prim.Native.Nat.{ℕ, _+_, _*_, _-_, _≤_, _<_}
 use mathlib.Core.Path.{_≡_}
 use mathlib.Core.List.{List, [], _∷_, map}
 use mathlib.Core.Bool.{Bool, true, false, cond, not, _&&_}
@@ -31,9 +31,13 @@ entryOf from to end = from ∷ (to - from) ∷ (to + 1) ∷ (end - (to + 1)) ∷
 unfoldable pub pairsIn : Bytes → List (List ℕ) → ℕ → List Pair
 pairsIn s keys n = map (pairAt s) (take n keys)
 
+-- entries are enough for a text: as many as a list may have, or one for every two bytes
+unfoldable pub Enough : Bytes → List (List ℕ) → Type 0
+Enough s keys = (n : ℕ) → n < bounds .entries → 2 * n < length s → n < length keys
+
 -- the first n entries tell the pairs that a text says
 pub record PairsTold (κ : PairList) (s : Bytes) (keys : List (List ℕ)) (n : ℕ) : Type 0 where
-  pub room : length keys ≡ bounds .entries
+  pub room : n ≤ length keys
   pub few : n ≤ bounds .entries
   pub read : readPairs κ s ≡ reads (pairsIn s keys n)
 

@@ -9,7 +9,9 @@ use Rattle.text.specs.Text.{Bytes}
 use Rattle.algebra.specs.Query.{Pair}
 use Rattle.scoping.specs.Label.{prefixL, prefixR}
 use Rattle.merging.specs.Request.{Projection}
-use Rattle.columns.specs.bridge.Columns.{columnsOf, maskOf, picked, goneBits}
+use Rattle.mask.specs.bridge.Mask.{maskOf}
+use Rattle.mask.specs.bridge.Words.{maskValue}
+use Rattle.columns.specs.bridge.Columns.{columnsOf, picked, goneBits}
 use Rattle.sides.specs.declared.side.Outline.{Outline}
 use Rattle.sides.specs.bridge.Side.{IsNamed}
 use Rattle.projects.specs.declared.merge.FoundPair.{FoundPair}
@@ -31,11 +33,11 @@ RightNamed s constants p tables v news y js ls = IsNamed s (getD tables 1 []) (r
 
 -- the right columns that go: those with a constant, and those whose new names are joined columns' on the left
 abbrev pub goneMask : Outline → List Bytes → Outline → List Bytes → ℕ
-goneMask l cs r ds = maskOf (goneBits (r .constant) (picked 1 (l .joined) cs) ds)
+goneMask l cs r ds = maskOf (goneBits (maskValue (r .constant)) (picked 1 (maskValue (l .joined)) cs) ds)
 
 -- the merged header's width is counted from two masks: the columns of each side, less the ones of those that go
 pub record HeaderFits (l : Outline) (cs : List Bytes) (gone : ℕ) (r : Outline) (ds : List Bytes) : Type 0 where
-  pub left-room : ones (l .constant) ≤ l .columns
-  pub left : l .columns - ones (l .constant) ≡ length (picked 0 (l .constant) cs)
+  pub left-room : ones (maskValue (l .constant)) ≤ l .columns
+  pub left : l .columns - ones (maskValue (l .constant)) ≡ length (picked 0 (maskValue (l .constant)) cs)
   pub right-room : ones gone ≤ r .columns
   pub right : r .columns - ones gone ≡ length (picked 0 gone ds)

@@ -26,7 +26,9 @@ use Rattle.merging.specs.Request.{Projection, tree}
 use Rattle.merging.specs.Names.{from as countFrom, isAt}
 use Rattle.sides.specs.declared.side.Outline.{Outline}
 use Rattle.sides.specs.declared.side.FoundSide.{FoundSide}
-use Rattle.columns.specs.bridge.Columns.{columnsOf, maskOf, picked}
+use Rattle.mask.specs.bridge.Mask.{maskOf}
+use Rattle.mask.specs.bridge.Words.{maskValue}
+use Rattle.columns.specs.bridge.Columns.{columnsOf, picked}
 use Rattle.columns.specs.bridge.Listed.{Listed, positionsIn, Kept, termsFrom}
 
 -- a tree stands in a text from a place on, within the bounds; the table lists its names, and the array its variables
@@ -74,8 +76,8 @@ pub record Asked (s : Bytes) (at : ℕ) (pairs constants : Bytes) : Type 0 where
 -- what is found before its names: its columns, the positions of both lists, and which columns they mark
 pub record OutlineIs (text : Bytes) (second : Bool) (constants : Bytes) (x : Projection) (js ks : List Pair) (joins at lines : List ℕ) (o : Outline) : Type 0 where
   pub width : o .columns ≡ length (x .columns)
-  pub constant : o .constant ≡ maskAt (positionsIn false ks) (length (x .columns))
-  pub joined : o .joined ≡ maskAt (positionsIn second js) (length (x .columns))
+  pub constant : maskValue (o .constant) ≡ maskAt (positionsIn false ks) (length (x .columns))
+  pub joined : maskValue (o .joined) ≡ maskAt (positionsIn second js) (length (x .columns))
   pub high : o .inner ≤ length text
   pub inner : linesFrom text (o .inner) ≡ put (x .inner) []
   pub few : o .joins ≤ bounds .entries
@@ -148,4 +150,4 @@ valuesLines (suc m) n cs ts t = (bytes "values" ∷ decimal n ∷ decimal 1 ∷ 
 abbrev pub SideWritten : Bytes → List (List ℕ) → List (List ℕ) → Bytes → List (List ℕ) → FoundSide → Em → Em → Type 0
 SideWritten s table v constants news f e e′ =
     (prefix : ℕ) (second : Bool) (x : Projection) (js ks : List Pair) → IsNamed s table v prefix second constants news f x js ks → (t : List Line)
-    → puts (textOf t) e′ ≡ puts (textOf (joinLine (f .outline .constants) (put (renameInGraphPattern (newNames prefix second x js) (x .inner)) (valuesLines (f .outline .constants) (ones (f .outline .constant)) (picked 1 (f .outline .constant) (columnsOf s table news v (f .outline .columns))) (termsFrom ks 0 (bounds .columns)) t)))) e
+    → puts (textOf t) e′ ≡ puts (textOf (joinLine (f .outline .constants) (put (renameInGraphPattern (newNames prefix second x js) (x .inner)) (valuesLines (f .outline .constants) (ones (maskValue (f .outline .constant))) (picked 1 (maskValue (f .outline .constant)) (columnsOf s table news v (f .outline .columns))) (termsFrom ks 0 (bounds .columns)) t)))) e

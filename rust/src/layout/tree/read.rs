@@ -22,9 +22,12 @@ pub trait ReadLeaves<'t> {
     fn base(field: &str) -> Option<&str>;
 }
 
-/// No answer is deeper: at most 63 patterns stand above a filter, 63 `and` join its parts, and a part with 63 `Unequals`, of two
-/// words each, has depth 127.
+/// No answer is deeper: at most 63 patterns stand above a filter, a chain of `and` joins its parts, and a part with 63 `Unequals`,
+/// of two words each, has depth 127.
 const DEEPEST: usize = 256;
+
+/// No answer has a longer chain of `and`, which counts as one level: 255 of them join 256 filters.
+pub(super) const CHAIN: usize = 255;
 
 /// Parts that there is room for before they are read.
 const ROOM: usize = 256;
@@ -85,12 +88,25 @@ impl<'t, L: ReadLeaves<'t>> Reader<'t, L> {
     ) -> Read<T> {
         let line = self.line()?;
         if self.depth == DEEPEST {
-            return Err(ReadError::TooDeep { line: self.read });
+            return Err(self.too_deep());
         }
         self.depth += 1;
         let part = part(self, line)?;
         self.depth -= 1;
         Ok(part)
+    }
+
+    /// The next line, if it is this word alone.
+    pub(super) fn next_is(&mut self, word: &str) -> bool {
+        let rest = self.rest.strip_prefix(word).and_then(|rest| rest.strip_prefix('\n'));
+        if let Some(rest) = rest {
+            (self.rest, self.read) = (rest, self.read + 1);
+        }
+        rest.is_some()
+    }
+
+    pub(super) fn too_deep(&self) -> ReadError {
+        ReadError::TooDeep { line: self.read }
     }
 
     /// As many parts as a line says, which may be more than there are.

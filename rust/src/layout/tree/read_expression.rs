@@ -6,7 +6,7 @@ use spargebra::term::{
 };
 
 use super::line::Line;
-use super::read::{Read, ReadLeaves, Reader};
+use super::read::{CHAIN, Read, ReadLeaves, Reader};
 
 impl<'t, L: ReadLeaves<'t>> Reader<'t, L> {
     pub fn expression(&mut self) -> Read<Expression> {
@@ -22,7 +22,7 @@ impl<'t, L: ReadLeaves<'t>> Reader<'t, L> {
                 Ok(Expression::Bound(variable))
             }
             "or" => self.two(line, Expression::Or),
-            "and" => self.two(line, Expression::And),
+            "and" => self.all(line),
             "eq" => self.two(line, Expression::Equal),
             "same" => self.two(line, Expression::SameTerm),
             "gt" => self.two(line, Expression::Greater),
@@ -65,6 +65,23 @@ impl<'t, L: ReadLeaves<'t>> Reader<'t, L> {
     ) -> Read<Expression> {
         line.end()?;
         Ok(expression(self.part()?, self.part()?))
+    }
+
+    /// A chain of `and` down its first parts, read without descent: filters are joined so, as many as there are.
+    fn all(&mut self, line: Line<'t>) -> Read<Expression> {
+        line.end()?;
+        let mut chain = 1;
+        while self.next_is("and") {
+            chain += 1;
+            if CHAIN < chain {
+                return Err(self.too_deep());
+            }
+        }
+        let mut all = self.expression()?;
+        for _ in 0..chain {
+            all = Expression::And(Box::new(all), self.part()?);
+        }
+        Ok(all)
     }
 
     /// The words whose line says how many parts follow.

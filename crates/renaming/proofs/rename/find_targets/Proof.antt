@@ -2,6 +2,7 @@
 use borrow.Author.Needs.{needs}
 use Prim.Native.Nat.{_-_}
 use mathlib.Core.Path.{sym, _∙_}
+use native.Mathlib.Omega.{arith}
 use Rattle.names.proofs.Columns.{column-length, column-long}
 use Rattle.names.specs.bridge.Names.{listing, startsOf, sizesOf}
 use Rattle.lists.specs.bridge.Pairs.{pairsIn}
@@ -22,8 +23,8 @@ find-targets-spec =
     Inv-loop
     μ-loop
     (λ c. let p = c .before .before .pre in T.begun _ _ _ _ _ (p .0) _ _ (column-long 0 _ _ (p .1), column-long 1 _ _ (p .1)) (p .2))
-    (λ c. let few = c .before .before .before .before .pre .0 .few in search needs)
-    (λ c. let few = c .before .before .before .before .pre .0 .few in search needs)
+    (λ c. let few = c .before .before .before .before .pre .0 .few in omega arith)
+    (λ c. let room = c .before .before .before .before .pre .0 .room in omega arith)
     (λ c κs. let p = c .before .before .before .before .before .before .pre in let u = c .before .before .before .loop .inv in (sym (column-length 0 _) ∙ u .entries .0, p .3, T.next-some _ _ _ _ _ (p .0) _ _ _ u (c .before .before .loop-test .taken)))
     (λ c. search needs)
     (λ c. search needs)

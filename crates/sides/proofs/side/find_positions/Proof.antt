@@ -13,24 +13,16 @@ find-positions-spec =
     tie.close
     (tie.spec
     (λ c κs. search needs)
-    (λ c κs. (let w = c .before .before .find-columns .ensures .1 _ (c .before .before .before .before .before .before .pre .0 .lines) .0 in let n = c .before .before .before .before .before .before .pre .0 .narrow in omega arith, c .before .before .before .before .before .before .pre .1, search needs, (c .before .before .before .before .before .before .pre .0 .joins, c .before .before .before .before .before .before .pre .0 .joins-listed)))
+    (λ c κs. (let w = c .before .before .find-columns .ensures .1 _ (c .before .before .before .before .before .before .pre .0 .lines) .0 in let n = c .before .before .before .before .before .before .pre .0 .narrow in omega arith, c .before .before .before .before .before .before .pre .1, c .before .before .before .before .before .before .pre .3, (c .before .before .before .before .before .before .pre .0 .joins, c .before .before .before .before .before .before .pre .0 .joins-listed)))
     (λ c. search needs)
     (λ c. search needs)
     (λ c κs. search needs)
     (λ c. (c .before .before .before .read-positions .ensures .0, c .before .before .before .before .before .before .before .before .before .before .pre .2, λ x js ks t lj lk. S.none-found _ _ _ x js ks _ _ _ _ (c .outside .ensures) (S.first-false _ (inside (x .columns) (positionsIn false ks)) (S.found-outside _ _ _ _ _ _ _ (x .columns) (c .before .before .before .read-positions .ensures .2 js lj) (c .before .enum-told .given .1) (c .before .before .before .before .before .before .find-columns .ensures .1 x t .0)))))
-    (λ c κs. let c8 = c .before .before .before .before .before .before .before .before in let c12 = c8 .before .before .before .before in (let w = c8 .find-columns .ensures .1 _ (c12 .pre .0 .lines) .0 in let n = c12 .pre .0 .narrow in omega arith, c12 .pre .2, c12 .pre .3, (c12 .pre .0 .terms, c12 .pre .0 .terms-listed)))
+    (λ c κs. (let w = c .before .before .before .before .before .before .before .before .find-columns .ensures .1 _ (c .before .before .before .before .before .before .before .before .before .before .before .before .pre .0 .lines) .0 in let n = c .before .before .before .before .before .before .before .before .before .before .before .before .pre .0 .narrow in omega arith, c .before .before .before .before .before .before .before .before .before .before .before .before .pre .2, c .before .before .before .before .before .read-positions .ensures .1, (c .before .before .before .before .before .before .before .before .before .before .before .before .pre .0 .terms, c .before .before .before .before .before .before .before .before .before .before .before .before .pre .0 .terms-listed)))
     (λ c. search needs)
     (λ c. search needs)
     (λ c κs. search needs)
     (λ c. (c .before .before .before .before .before .before .before .before .before .read-positions .ensures .0, c .before .before .before .read-positions2 .ensures .0, λ x js ks t lj lk. S.none-found _ _ _ x js ks _ _ _ _ (c .outside2 .ensures) (S.neither (inside (x .columns) (positionsIn (c .before .before .before .before .before .before .before .before .before .before .before .before .before .before .before .before .args .second) js)) _ (S.found-outside _ _ _ _ _ _ _ (x .columns) (c .before .before .before .read-positions2 .ensures .2 ks lk) (c .before .enum-told2 .given .1) (c .before .before .before .before .before .before .before .before .before .before .before .before .find-columns .ensures .1 x t .0)))))
-    (λ c κs. let c8 = c .before .before .before .before .before .before .before .before in let c10 = c8 .before .before in let c13 = c10 .before .before .before in let c17 = c13 .before .before .before .before in let k = S.kept-asked _ _ _ _ _ _ _ _ (S.found-all _ _ _ _ _ _ _ _ (c10 .read-positions .ensures .2 (c17 .pre .0 .joins) (c17 .pre .0 .joins-listed)) (c8 .k .given .1)) (c17 .pre .0 .joins-listed) in (k .0, c10 .read-positions .ensures .0, let w = c13 .find-columns .ensures .1 _ (c17 .pre .0 .lines) .0 in let n = c17 .pre .0 .narrow in omega arith, k .1))
-    (λ c κs. let c4 = c .before .before .before .before in let c6 = c4 .before .before in let c15 = c6 .before .before .before .before .before .before .before .before .before in let c19 = c15 .before .before .before .before in let k = S.kept-asked _ _ _ _ _ _ _ _ (S.found-all _ _ _ _ _ _ _ _ (c6 .read-positions2 .ensures .2 (c19 .pre .0 .terms) (c19 .pre .0 .terms-listed)) (c4 .m .given .1)) (c19 .pre .0 .terms-listed) in (k .0, c6 .read-positions2 .ensures .0, let w = c15 .find-columns .ensures .1 _ (c19 .pre .0 .lines) .0 in let n = c19 .pre .0 .narrow in omega arith, k .1))
-    (λ c. (
-      c .before .before .before .before .before .before .before .before .before .before .before .before .before .read-positions .ensures .0,
-      c .before .before .before .before .before .before .before .read-positions2 .ensures .0,
-      λ x js ks t lj lk.
-          S.all-found _ _ _ _ _ _ x js ks _ _ _ _ _ _
-          (S.found-all _ _ _ _ _ _ _ _ (c .before .before .before .before .before .before .before .before .before .before .before .before .before .read-positions .ensures .2 js lj) (c .before .before .before .before .before .before .before .before .before .before .before .k .given .1))
-          (S.found-all _ _ _ _ _ _ _ _ (c .before .before .before .before .before .before .before .read-positions2 .ensures .2 ks lk) (c .before .before .before .before .before .m .given .1))
-          (c .before .before .before .before .before .before .before .before .before .before .before .before .before .before .before .before .find-columns .ensures .0) (c .before .before .before .before .before .before .before .before .before .before .before .before .before .before .before .before .find-columns .ensures .1 x t) lj _ _ (c .position-mask2 .ensures) (c .before .before .position-mask .ensures),
-    )))
+    (λ c κs. let k = S.kept-asked _ _ _ _ _ _ _ _ (S.found-all _ _ _ _ _ _ _ _ (c .before .before .before .before .before .before .before .before .before .before .read-positions .ensures .2 (c .before .before .before .before .before .before .before .before .before .before .before .before .before .before .before .before .before .pre .0 .joins) (c .before .before .before .before .before .before .before .before .before .before .before .before .before .before .before .before .before .pre .0 .joins-listed)) (c .before .before .before .before .before .before .before .before .k .given .1)) (c .before .before .before .before .before .before .before .before .before .before .before .before .before .before .before .before .before .pre .0 .joins-listed) in (k .0, c .before .before .before .before .before .before .before .before .before .before .read-positions .ensures .0, let w = c .before .before .before .before .before .before .before .before .before .before .before .before .before .find-columns .ensures .1 _ (c .before .before .before .before .before .before .before .before .before .before .before .before .before .before .before .before .before .pre .0 .lines) .0 in let n = c .before .before .before .before .before .before .before .before .before .before .before .before .before .before .before .before .before .pre .0 .narrow in omega arith, k .1))
+    (λ c κs. let k = S.kept-asked _ _ _ _ _ _ _ _ (S.found-all _ _ _ _ _ _ _ _ (c .before .before .before .before .before .before .read-positions2 .ensures .2 (c .before .before .before .before .before .before .before .before .before .before .before .before .before .before .before .before .before .before .before .pre .0 .terms) (c .before .before .before .before .before .before .before .before .before .before .before .before .before .before .before .before .before .before .before .pre .0 .terms-listed)) (c .before .before .before .before .m .given .1)) (c .before .before .before .before .before .before .before .before .before .before .before .before .before .before .before .before .before .before .before .pre .0 .terms-listed) in (k .0, c .before .before .before .before .before .before .read-positions2 .ensures .0, let w = c .before .before .before .before .before .before .before .before .before .before .before .before .before .before .before .find-columns .ensures .1 _ (c .before .before .before .before .before .before .before .before .before .before .before .before .before .before .before .before .before .before .before .pre .0 .lines) .0 in let n = c .before .before .before .before .before .before .before .before .before .before .before .before .before .before .before .before .before .before .before .pre .0 .narrow in omega arith, k .1))
+    (λ c. (c .before .before .before .before .before .before .before .before .before .before .before .before .before .read-positions .ensures .0, c .before .before .before .before .before .before .before .read-positions2 .ensures .0, λ x js ks t lj lk. S.all-found _ _ _ _ _ _ x js ks _ _ _ _ _ _ (S.found-all _ _ _ _ _ _ _ _ (c .before .before .before .before .before .before .before .before .before .before .before .before .before .read-positions .ensures .2 js lj) (c .before .before .before .before .before .before .before .before .before .before .before .k .given .1)) (S.found-all _ _ _ _ _ _ _ _ (c .before .before .before .before .before .before .before .read-positions2 .ensures .2 ks lk) (c .before .before .before .before .before .m .given .1)) (c .before .before .before .before .before .before .before .before .before .before .before .before .before .before .before .before .find-columns .ensures .0) (c .before .before .before .before .before .before .before .before .before .before .before .before .before .before .before .before .find-columns .ensures .1 x t) lj _ _ (c .position-mask2 .ensures) (c .before .before .position-mask .ensures))))
