@@ -8,7 +8,7 @@ use lib.ListN.{length, drop}
 use Rattle.text.specs.Text.{Bytes}
 use Rattle.algebra.specs.Reader.{Outcome as Reading, reads, refuses, refusalNumber}
 use Rattle.answers.specs.declared.Answer.{Answer}
-use Rattle.answers.specs.declared.Answer.the-variants.{Written, Malformed, OverBound, Outside, NotProject, NotMergeable, TooShort, NotUsable, ListTooShort, Repeated}
+use Rattle.answers.specs.declared.Answer.the-variants.{Written, Malformed, OverBound, Outside, NotProject, NotMergeable, TooShort, NotUsable, ListTooShort, Repeated, NoPairs}
 
 -- ---- what is to come of the texts alone
 
@@ -46,6 +46,7 @@ number TooShort = 6
 number NotUsable = 7
 number ListTooShort = 9
 number Repeated = 10
+number NoPairs = 11
 
 -- a refusal has length 0
 abbrev pub size : Answer → ℕ
@@ -59,6 +60,7 @@ size TooShort = 0
 size NotUsable = 0
 size ListTooShort = 0
 size Repeated = 0
+size NoPairs = 0
 
 -- number, length and every byte of the buffer: what stood behind the answer stays, and 6 means that it is longer than the buffer
 unfoldable pub Reported : Outcome → Bytes → Bytes → ℕ → ℕ → Type 0

@@ -14,6 +14,7 @@ pub enum Answer {
     NotUsable,
     ListTooShort,
     Repeated,
+    NoPairs,
 }
 
 // An answer, and how many numbers were written into the list beside it.
@@ -37,6 +38,7 @@ pub fn number(a: Answer) -> u8
         Answer::NotUsable => 7,
         Answer::ListTooShort => 9,
         Answer::Repeated => 10,
+        Answer::NoPairs => 11,
     }
 }
 
@@ -55,5 +57,6 @@ pub fn size_of(a: Answer) -> usize
         Answer::NotUsable => 0,
         Answer::ListTooShort => 0,
         Answer::Repeated => 0,
+        Answer::NoPairs => 0,
     }
 }

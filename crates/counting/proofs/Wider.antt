@@ -23,12 +23,12 @@ use Rattle.counting.proofs.Rename.{scope-in, both-in}
 
 -- ---- the tests
 
-any-some-in : (f : Bytes → Bool) (xs : List Bytes) → any f xs ≡ true → (v : Bytes) × (mem v xs ≡ true) × (f v ≡ true)
+pub any-some-in : (f : Bytes → Bool) (xs : List Bytes) → any f xs ≡ true → (v : Bytes) × (mem v xs ≡ true) × (f v ≡ true)
 unfolding any
 any-some-in f [] h = absurd (false≢true h)
 any-some-in f (x ∷ xs) h = either (λ e. (x, mem-here x xs, e)) (λ e. let t = any-some-in f xs e in (t .0, mem-there (t .0) x xs (t .1), t .2)) (or-cases (f x) (any f xs) h)
 
-any-of-in : (f : Bytes → Bool) (xs : List Bytes) (v : Bytes) → mem v xs ≡ true → f v ≡ true → any f xs ≡ true
+pub any-of-in : (f : Bytes → Bool) (xs : List Bytes) (v : Bytes) → mem v xs ≡ true → f v ≡ true → any f xs ≡ true
 unfolding any
 any-of-in f [] v m h = mem-nil v m
 any-of-in f (x ∷ xs) v m h = either (λ e. or-inl (f x) (any f xs) (ap f (sym e) ∙ h)) (λ e. or-inr (f x) (any f xs) (any-of-in f xs v e h)) (mem-cases v x xs m)

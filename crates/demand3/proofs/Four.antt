@@ -48,7 +48,7 @@ agree-from : (vs : List Bytes) (a b : Row) → ((v : Bytes) → mem v vs ≡ tru
 unfolding agree
 agree-from vs a b h = all-of (λ v. compatible (a v) (b v)) vs h
 
-agree-cong : (vs : List Bytes) (a b a′ b′ : Row) → ((v : Bytes) → mem v vs ≡ true → a v ≡ a′ v) → ((v : Bytes) → mem v vs ≡ true → b v ≡ b′ v) → agree vs a b ≡ agree vs a′ b′
+pub agree-cong : (vs : List Bytes) (a b a′ b′ : Row) → ((v : Bytes) → mem v vs ≡ true → a v ≡ a′ v) → ((v : Bytes) → mem v vs ≡ true → b v ≡ b′ v) → agree vs a b ≡ agree vs a′ b′
 unfolding agree
 agree-cong vs a b a′ b′ p q = all-cong _ _ vs (λ v m. ap₂ compatible (p v m) (q v m))
 

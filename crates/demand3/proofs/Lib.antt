@@ -16,3 +16,6 @@ pub mod Once
 pub mod Relays
 pub mod Nothing
 pub mod Empty
+pub mod Minus
+pub mod Without
+pub mod WithoutWorked

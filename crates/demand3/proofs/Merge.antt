@@ -76,19 +76,19 @@ module _ (l r : Side) (js : List Pair) (fit : Fit l r js) (g : List Triple) wher
   four = fourRows (asSingle g l) (asSingle g r)
 
   -- the columns' new names, and all new names
-  abbrev columns : List Bytes
+  abbrev pub columns : List Bytes
   columns = renamedColumns l ++ renamedColumns r
 
-  abbrev all-names : List Bytes
+  abbrev pub all-names : List Bytes
   all-names = newNames l (fit .left) ++ newNames r (fit .right)
 
-  left-new : Sub (newNames l (fit .left)) all-names
+  pub left-new : Sub (newNames l (fit .left)) all-names
   left-new w = mem-left w (newNames l (fit .left)) (newNames r (fit .right))
 
-  right-new : Sub (newNames r (fit .right)) all-names
+  pub right-new : Sub (newNames r (fit .right)) all-names
   right-new w = mem-right w (newNames l (fit .left)) (newNames r (fit .right))
 
-  columns-new : Sub columns all-names
+  pub columns-new : Sub columns all-names
   columns-new = sub-append (renamedColumns l) (renamedColumns r) all-names (λ w m. left-new w (renamed-columns-in l (fit .left) w m)) (λ w m. right-new w (renamed-columns-in r (fit .right) w m))
 
   -- names of both sides that become one are columns
@@ -110,7 +110,7 @@ module _ (l r : Side) (js : List Pair) (fit : Fit l r js) (g : List Triple) wher
       (mem-append-cases w (renamedColumns l) (renamedColumns r) m)
 
   -- outside the columns' names no name is bound on both sides
-  apart : (a b : Row) → Cover columns (renamed l (fit .left) a) (renamed r (fit .right) b)
+  pub apart : (a b : Row) → Cover columns (renamed l (fit .left) a) (renamed r (fit .right) b)
   apart a b w n = go (view (names (whole l)) (l .name) w) (view (names (whole r)) (r .name) w)
     where
       go : Hit (names (whole l)) (l .name) w → Hit (names (whole r)) (r .name) w → compatible (renamed l (fit .left) a w) (renamed r (fit .right) b w) ≡ true
@@ -138,10 +138,10 @@ module _ (l r : Side) (js : List Pair) (fit : Fit l r js) (g : List Triple) wher
     abbrev kr : Row
     kr = constantRow r
 
-    ca-in : (w : Bytes) → mem w columns ≡ true → pa w ≡ named (renamedColumns l) (cells (l .columns) a) w
+    pub ca-in : (w : Bytes) → mem w columns ≡ true → pa w ≡ named (renamedColumns l) (cells (l .columns) a) w
     ca-in w m = sym (read-at l (fit .left) a w (in-left w m))
 
-    cb-in : (w : Bytes) → mem w columns ≡ true → pb w ≡ named (renamedColumns r) (cells (r .columns) b) w
+    pub cb-in : (w : Bytes) → mem w columns ≡ true → pb w ≡ named (renamedColumns r) (cells (r .columns) b) w
     cb-in w m = sym (read-at r (fit .right) b w (in-right w m))
 
     -- the tests of the merged tree's joins are the agreement of the four

@@ -19,13 +19,13 @@ tree-once x y e =
     let d : x .inner ≡ y .inner = cc in
     λ i. record { columns = c i; inner = d i }
 
-record Heads (kind dataset base kind′ dataset′ base′ : Bytes) (x y : Projection) : Type 0 where
-  kinds : kind ≡ kind′
-  datasets : dataset ≡ dataset′
-  bases : base ≡ base′
-  trees : x ≡ y
+pub record Heads (kind dataset base kind′ dataset′ base′ : Bytes) (x y : Projection) : Type 0 where
+  pub kinds : kind ≡ kind′
+  pub datasets : dataset ≡ dataset′
+  pub bases : base ≡ base′
+  pub trees : x ≡ y
 
-query-once : (kind dataset base kind′ dataset′ base′ : Bytes) (x y : Projection) → queryOf kind dataset base (tree x) ≡ queryOf kind′ dataset′ base′ (tree y) → Heads kind dataset base kind′ dataset′ base′ x y
+pub query-once : (kind dataset base kind′ dataset′ base′ : Bytes) (x y : Projection) → queryOf kind dataset base (tree x) ≡ queryOf kind′ dataset′ base′ (tree y) → Heads kind dataset base kind′ dataset′ base′ x y
 query-once kind dataset base kind′ dataset′ base′ x y e = record { kinds = ap (λ q. q .kind) e; datasets = ap (λ q. q .dataset) e; bases = ap (λ q. q .base) e; trees = tree-once x y (ap (λ q. q .tree) e) }
 
 module _ (left right pairs leftConstants rightConstants : Bytes) where

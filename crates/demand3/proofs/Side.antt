@@ -132,7 +132,7 @@ module _ (s : Side) (fit : SideFit s) where
   unfolding namesWith
   columns-in v m = mem-left v (s .columns) (names (s .inner)) m
 
-  inner-in : Sub (names (s .inner)) (names (whole s))
+  pub inner-in : Sub (names (s .inner)) (names (whole s))
   unfolding namesWith
   inner-in v m = mem-right v (s .columns) (names (s .inner)) m
 
@@ -156,7 +156,7 @@ module _ (s : Side) (fit : SideFit s) where
   pub constant-only : Only (renamedColumns s) (constantRow s)
   constant-only = only-sub _ (renamedColumns s) (constantRow s) new-constant-columns-in (only-named (constantColumns (renamedColumns s) (s .constants)) (map cell (constantTerms (s .constants))))
 
-  inner-scope : Sub (scopeOf (renameInGraphPattern (s .name) (s .inner))) newNames
+  pub inner-scope : Sub (scopeOf (renameInGraphPattern (s .name) (s .inner))) newNames
   inner-scope v m = map-sub (s .name) (scopeOf (s .inner)) (names (whole s)) (scope-in (names (whole s)) (s .inner) inner-in) v (subst (λ l. mem v l ≡ true) (scope-renamed (names (whole s)) (s .name) (fit .apart) (fit .variables) (s .inner) inner-in) m)
 
   bound-scope : Sub (scopeOf (renameInGraphPattern (s .name) (s .inner)) ++ constantColumns (renamedColumns s) (s .constants)) newNames

@@ -45,7 +45,7 @@ merge-patterns-counts left right pairs leftConstants rightConstants b e =
 
 -- ---- the same for queries
 
-head-is : (a b : Query) → mergeable a b ≡ true → b ≡ queryOf (a .kind) (a .dataset) (a .base) (b .tree)
+pub head-is : (a b : Query) → mergeable a b ≡ true → b ≡ queryOf (a .kind) (a .dataset) (a .base) (b .tree)
 unfolding mergeable
 head-is a b h =
     let t = and-right (isSelectOrAsk (a .kind)) (same (a .kind) (b .kind) && (same (a .dataset) (b .dataset) && same (a .base) (b .base))) h in

@@ -1,4 +1,4 @@
--- No merge refuses with 0. Assumes nothing.
+-- No merge refuses with 0, nor does without. Assumes nothing.
 use mathlib.Core.Path.{sym, subst}
 use mathlib.Core.List.{List}
 use native.Mathlib.Omega.{arith}
@@ -12,8 +12,9 @@ use Rattle.answers.proofs.Numbered.{Numbered, written-numbered, then-numbered, 
 use Rattle.merging.specs.Sides.{Pair, Constant}
 use Rattle.merging.specs.Request.{asProject, readJoins, readConstants, Request, request, allInside}
 use Rattle.merging.specs.Merge.{mergeProjectPatterns, lists, mergeTrees, mergePatternsOutcome, mergeable, over, mergeQueriesOutcome}
+use Rattle.merging.specs.Without.{minusSides, plainRequest, isJoined, withoutTrees, withoutQueriesOutcome}
 use Rattle.merging.specs.bridge.Twice.{noneTwice}
-use Rattle.merging.proofs.Given.{sides-merged}
+use Rattle.merging.proofs.Given.{sides-named, sides-merged}
 
 lists-numbered : (pairs leftConstants rightConstants : Bytes) (k : List Pair → List Constant → List Constant → Outcome)
     → ((js : List Pair) (ks ls : List Constant) → Numbered (k js ks ls))
@@ -41,3 +42,14 @@ module _ (left right pairs leftConstants rightConstants : Bytes) where
       then-numbered (readGivenQuery left) _ λ a. then-numbered (readGivenQuery right) _ λ b. lists-numbered pairs leftConstants rightConstants _ λ js ks ls.
       test-numbered 5 (mergeable a b) _ (λ z. omega arith)
       (trees-numbered (a .tree) (b .tree) js ks ls (λ t. written (layoutQuery (over a t))) (λ t. written-numbered (layoutQuery (over a t))))
+
+pub without-numbered : (left right pairs : Bytes) → Numbered (withoutQueriesOutcome left right pairs)
+unfolding withoutQueriesOutcome withoutTrees
+without-numbered left right pairs =
+    then-numbered (readGivenQuery left) _ λ a. then-numbered (readGivenQuery right) _ λ b. then-numbered (readJoins pairs) _ λ js.
+    test-numbered 5 (mergeable a b) _ (λ z. omega arith)
+    (some-numbered 4 (asProject (a .tree)) _ (λ z. omega arith) λ l. some-numbered 4 (asProject (b .tree)) _ (λ z. omega arith) λ r.
+    test-numbered 11 (isJoined js) _ (λ z. omega arith)
+    (test-numbered 3 (allInside (plainRequest l r js)) _ (λ z. omega arith)
+    (subst Numbered (sym (sides-named (plainRequest l r js) (λ s t. written (layoutQuery (over a (minusSides s t))))))
+    (test-numbered 10 (noneTwice js) _ (λ z. omega arith) (written-numbered _)))))

@@ -7,19 +7,22 @@ use Rattle.answers.specs.Outcome.{Outcome, refused, written}
 use Rattle.merging.specs.Merge.{mergePatternsOutcome, mergeQueriesOutcome}
 use Rattle.merging.specs.Push.{pushConstantsOutcome}
 use Rattle.merging.specs.Negate.{negateOutcome}
+use Rattle.merging.specs.Without.{withoutQueriesOutcome}
 
 -- a call with its texts
 pub data Call : Type 0 where
   mergePatterns mergeQueries : String → String → String → String → String → Call
   pushConstants : String → String → Call
   negate : String → Call
+  without : String → String → String → Call
 
 unfoldable pub outcomeOf : Call → Outcome
-unfolding mergePatternsOutcome mergeQueriesOutcome pushConstantsOutcome negateOutcome
+unfolding mergePatternsOutcome mergeQueriesOutcome pushConstantsOutcome negateOutcome withoutQueriesOutcome
 outcomeOf (mergePatterns a b c d e) = mergePatternsOutcome (bytes a) (bytes b) (bytes c) (bytes d) (bytes e)
 outcomeOf (mergeQueries a b c d e) = mergeQueriesOutcome (bytes a) (bytes b) (bytes c) (bytes d) (bytes e)
 outcomeOf (pushConstants a b) = pushConstantsOutcome (bytes a) (bytes b)
 outcomeOf (negate a) = negateOutcome (bytes a)
+outcomeOf (without a b c) = withoutQueriesOutcome (bytes a) (bytes b) (bytes c)
 
 pub record Case : Type 0 where
   pub call : Call
@@ -91,4 +94,15 @@ cases =
     -- negate goes down through distinct, and copies a describe
     ∷ gives (negate "query\tselect\t-\t-\ndistinct\nproject\t?a\nbgp\t0\n") "query\tselect\t-\t-\ndistinct\nproject\t?a\nfilter\nbgp\t0\nnot\nexists\nbgp\t0\n"
     ∷ gives (negate "query\tdescribe\t-\t-\nproject\t?a\nbgp\t0\n") "query\tdescribe\t-\t-\nproject\t?a\nbgp\t0\n"
+    -- without: the left columns, join columns among them; hidden names of both sides stay apart
+    ∷ gives (without "query\tselect\t-\t-\nproject\t?event\t?relay\nbgp\t1\nt\t?event\t<by>\t?relay\n" "query\tselect\t-\t-\nproject\t?r\nbgp\t1\nt\t?event\t<on>\t?r\n" "1\t0\n")
+    "query\tselect\t-\t-\nproject\t?l0\t?j0\nminus\nbgp\t1\nt\t?l0\t<by>\t?j0\nbgp\t1\nt\t?r2\t<on>\t?j0\n"
+    -- 5, then 4, then 11 for no pair, then 3, then 10; an empty file has no column to join
+    ∷ refuses (without "query\task\t-\t-\nbgp\t0\n" "query\tselect\t-\t-\nproject\t?b\nbgp\t0\n" "") 5
+    ∷ refuses (without "query\task\t-\t-\nproject\t?a\nbgp\t0\n" "query\task\t-\t-\nbgp\t0\n" "") 4
+    ∷ refuses (without "query\task\t-\t-\nproject\t?a\nbgp\t0\n" "query\task\t-\t-\nproject\t?b\nbgp\t0\n" "") 11
+    ∷ refuses (without "query\task\t-\t-\nproject\t?a\nbgp\t0\n" "query\task\t-\t-\nproject\t?b\nbgp\t0\n" "0\t1\n") 3
+    ∷ refuses (without "query\task\t-\t-\nproject\t?a\nbgp\t0\n" "query\task\t-\t-\nproject\t?b\nbgp\t0\n" "0\t0\n0\t1\n") 3
+    ∷ refuses (without "query\task\t-\t-\nproject\t?a\nbgp\t0\n" "query\task\t-\t-\nproject\t?b\t?c\nbgp\t0\n" "0\t0\n0\t1\n") 10
+    ∷ refuses (without "query\task\t-\t-\n" "query\task\t-\t-\nproject\t?b\nbgp\t0\n" "0\t0\n") 3
     ∷ []

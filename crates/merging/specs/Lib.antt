@@ -3,6 +3,7 @@ pub mod Request
 pub mod Merge
 pub mod Push
 pub mod Negate
+pub mod Without
 pub mod Names
 pub mod Asked
 pub mod Order

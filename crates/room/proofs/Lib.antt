@@ -16,6 +16,7 @@ pub mod Constants
 pub mod Side
 pub mod Merge
 pub mod Push
+pub mod Without
 pub mod Theorem
 pub mod Most
 pub mod Worked

@@ -19,18 +19,20 @@ use Rattle.merging.specs.Request.{constantsIn, byPosition, readJoins, readConst
 use Rattle.merging.specs.Merge.{mergePatternsOutcome, mergeQueriesOutcome}
 use Rattle.merging.specs.Push.{pushConstantsOutcome}
 use Rattle.merging.specs.Negate.{negateOutcome}
+use Rattle.merging.specs.Without.{withoutQueriesOutcome}
 use Rattle.merging.proofs.Given.{then-written, made-reads}
 use Rattle.surveying.specs.Scope.{scopeOutcome}
 use Rattle.renaming.specs.Rename.{renameOutcome}
 use Rattle.filtering.specs.Bindings.{bindingsOutcome}
 use Rattle.filtering.specs.Filters.{filtersOutcome}
-use Rattle.room.specs.Room.{scopeRoom, renameRoom, mergeRoom, pushRoom, negateRoom, bindingsRoom, filtersRoom, longest, Suffices}
+use Rattle.room.specs.Room.{scopeRoom, renameRoom, mergeRoom, pushRoom, negateRoom, withoutRoom, bindingsRoom, filtersRoom, longest, Suffices}
 use Rattle.room.proofs.Enough.{Enough, suffices}
 use Rattle.room.proofs.Scope.{scope-enough}
 use Rattle.room.proofs.Rename.{rename-enough}
 use Rattle.room.proofs.Merge.{merge-patterns-enough, merge-queries-enough}
 use Rattle.room.proofs.Push.{push-enough}
 use Rattle.room.proofs.Negate.{negate-enough}
+use Rattle.room.proofs.Without.{without-enough}
 use Rattle.room.proofs.Bindings.{bindings-given-enough}
 use Rattle.room.proofs.Filters.{filters-enough}
 
@@ -87,6 +89,13 @@ push-most query constants = most-suffices (pushRoom (length query) (length const
     let x = then-written (readGivenQuery query) _ b e in
     let y = then-written (readConstants constants) _ b (x .2) in
     omega (arith, query-short query (x .0) (x .1), constants-short constants (y .0) (y .1))
+
+pub without-most : (left right pairs : Bytes) → Suffices (withoutRoom longest longest) (withoutQueriesOutcome left right pairs)
+unfolding withoutQueriesOutcome withoutRoom
+without-most left right pairs = most-suffices (withoutRoom (length left) (length right)) (withoutRoom longest longest) (withoutQueriesOutcome left right pairs) (without-enough left right pairs) λ b e.
+    let x = then-written (readGivenQuery left) _ b e in
+    let y = then-written (readGivenQuery right) _ b (x .2) in
+    omega (arith, query-short left (x .0) (x .1), query-short right (y .0) (y .1))
 
 pub bindings-most : (tree sets : Bytes) → Suffices (bindingsRoom longest longest) (bindingsOutcome tree sets)
 unfolding bindingsOutcome bindingsRoom

@@ -9,18 +9,20 @@ use Rattle.renaming.specs.Rename.{renameOutcome}
 use Rattle.merging.specs.Merge.{mergePatternsOutcome, mergeQueriesOutcome}
 use Rattle.merging.specs.Push.{pushConstantsOutcome}
 use Rattle.merging.specs.Negate.{negateOutcome}
+use Rattle.merging.specs.Without.{withoutQueriesOutcome}
 use Rattle.filtering.specs.Bindings.{bindingsOutcome}
 use Rattle.algebra.specs.Given.{readGivenTree}
 use Rattle.filtering.specs.Filters.{filtersOutcome}
 use Rattle.filtering.specs.NotPlaced.{filtersNotPlaced}
 use Rattle.filtering.proofs.NotPlaced.{list-in-bounds}
-use Rattle.room.specs.Room.{scopeRoom, renameRoom, mergeRoom, pushRoom, negateRoom, bindingsRoom, filtersRoom, listRoom, Suffices, SufficesBoth}
+use Rattle.room.specs.Room.{scopeRoom, renameRoom, mergeRoom, pushRoom, negateRoom, withoutRoom, bindingsRoom, filtersRoom, listRoom, Suffices, SufficesBoth}
 use Rattle.room.proofs.Enough.{written-fits, suffices, suffices-both}
 use Rattle.room.proofs.Scope.{scope-enough}
 use Rattle.room.proofs.Rename.{rename-enough}
 use Rattle.room.proofs.Merge.{merge-patterns-enough, merge-queries-enough}
 use Rattle.room.proofs.Push.{push-enough}
 use Rattle.room.proofs.Negate.{negate-enough}
+use Rattle.room.proofs.Without.{without-enough}
 use Rattle.room.proofs.Bindings.{bindings-given-enough}
 use Rattle.room.proofs.Filters.{filters-enough, filters-not-nine}
 
@@ -73,6 +75,14 @@ negate-room query b e = written-fits (negateRoom (length query)) (negateOutcome 
 
 pub negate-never-short : (query : Bytes) → Suffices (negateRoom (length query)) (negateOutcome query)
 negate-never-short query = suffices (negateRoom (length query)) (negateOutcome query) (negate-enough query)
+
+-- ---- without
+
+pub without-room : (left right pairs b : Bytes) → withoutQueriesOutcome left right pairs ≡ written b → length b ≤ withoutRoom (length left) (length right)
+without-room left right pairs b e = written-fits (withoutRoom (length left) (length right)) (withoutQueriesOutcome left right pairs) b (without-enough left right pairs) e
+
+pub without-never-short : (left right pairs : Bytes) → Suffices (withoutRoom (length left) (length right)) (withoutQueriesOutcome left right pairs)
+without-never-short left right pairs = suffices (withoutRoom (length left) (length right)) (withoutQueriesOutcome left right pairs) (without-enough left right pairs)
 
 -- ---- bindings
 

@@ -18,10 +18,10 @@ use Rattle.algebra.specs.Texts.{readFilters}
 use Rattle.answers.specs.Outcome.{Outcome, refused, written}
 use Rattle.surveying.specs.Scope.{scopeOutcome}
 use Rattle.surveying.proofs.Given.{scope-empty}
-use Rattle.merging.specs.Cases.{Call, mergePatterns, mergeQueries, pushConstants, negate, Case, cases, outcomeOf}
+use Rattle.merging.specs.Cases.{Call, mergePatterns, mergeQueries, pushConstants, negate, without, Case, cases, outcomeOf}
 use Rattle.merging.proofs.Worked.{worked}
 use Rattle.filtering.specs.Filters.{filtersOutcome}
-use Rattle.room.specs.Room.{scopeRoom, renameRoom, mergeRoom, pushRoom, negateRoom, bindingsRoom, filtersRoom, longest}
+use Rattle.room.specs.Room.{scopeRoom, renameRoom, mergeRoom, pushRoom, negateRoom, withoutRoom, bindingsRoom, filtersRoom, longest}
 
 -- the bytes that an outcome writes
 abbrev lengthOf : Outcome → ℕ
@@ -38,6 +38,7 @@ roomOf (mergePatterns a b c d e) = mergeRoom (size a) (size b) (size d) (size e)
 roomOf (mergeQueries a b c d e) = mergeRoom (size a) (size b) (size d) (size e)
 roomOf (pushConstants a b) = pushRoom (size a) (size b)
 roomOf (negate a) = negateRoom (size a)
+roomOf (without a b c) = withoutRoom (size a) (size b)
 
 pub record Took : Type 0 where
   pub bytes : ℕ
@@ -52,8 +53,8 @@ measured (o ∷ os) [] = []
 measured (o ∷ os) (c ∷ cs) = took (lengthOf o) (roomOf (c .call)) ∷ measured os cs
 
 -- what each call of merging's table writes, and its room: "that merge" first, then in the order of the table
-pub merges-measured : measured (map (λ (c : Case). outcomeOf (c .call)) cases) cases ≡ took 67 342 ∷ took 47 234 ∷ took 0 195 ∷ took 0 195 ∷ took 0 195 ∷ took 0 201 ∷ took 37 204 ∷ took 0 195 ∷ took 0 201 ∷ took 0 213 ∷ took 0 153 ∷ took 0 306 ∷ took 68 159 ∷ took 44 183 ∷ took 37 147 ∷ took 29 135 ∷ took 29 135 ∷ took 25 84 ∷ took 0 135 ∷ took 46 237 ∷ took 31 93 ∷ took 33 105 ∷ took 52 52 ∷ took 0 38 ∷ took 0 51 ∷ took 0 50 ∷ took 0 52 ∷ took 86 312 ∷ took 107 228 ∷ took 76 174 ∷ took 37 159 ∷ took 43 177 ∷ took 0 141 ∷ took 67 81 ∷ took 36 74 ∷ []
-unfolding mergeRoom pushRoom negateRoom
+pub merges-measured : measured (map (λ (c : Case). outcomeOf (c .call)) cases) cases ≡ took 67 342 ∷ took 47 234 ∷ took 0 195 ∷ took 0 195 ∷ took 0 195 ∷ took 0 201 ∷ took 37 204 ∷ took 0 195 ∷ took 0 201 ∷ took 0 213 ∷ took 0 153 ∷ took 0 306 ∷ took 68 159 ∷ took 44 183 ∷ took 37 147 ∷ took 29 135 ∷ took 29 135 ∷ took 25 84 ∷ took 0 135 ∷ took 46 237 ∷ took 31 93 ∷ took 33 105 ∷ took 52 52 ∷ took 0 38 ∷ took 0 51 ∷ took 0 50 ∷ took 0 52 ∷ took 86 312 ∷ took 107 228 ∷ took 76 174 ∷ took 37 159 ∷ took 43 177 ∷ took 0 141 ∷ took 67 81 ∷ took 36 74 ∷ took 81 435 ∷ took 0 246 ∷ took 0 237 ∷ took 0 270 ∷ took 0 270 ∷ took 0 270 ∷ took 0 279 ∷ took 0 219 ∷ []
+unfolding mergeRoom pushRoom negateRoom withoutRoom
 merges-measured = ap (λ (os : List Outcome). measured os cases) worked
 
 -- ---- as near as can be
@@ -76,6 +77,6 @@ filters-near = refl
 
 pub longest-rooms :
     (scopeRoom longest ≡ 16391) × (renameRoom longest ≡ 720910) × (mergeRoom longest longest longest longest ≡ 131156) × (pushRoom longest longest ≡ 65578)
-    × (negateRoom longest ≡ 16422) × (bindingsRoom longest longest ≡ 1081358) × (filtersRoom longest longest ≡ 409614)
-unfolding scopeRoom renameRoom mergeRoom pushRoom negateRoom bindingsRoom filtersRoom
-longest-rooms = (refl, refl, refl, refl, refl, refl, refl)
+    × (negateRoom longest ≡ 16422) × (withoutRoom longest longest ≡ 98388) × (bindingsRoom longest longest ≡ 1081358) × (filtersRoom longest longest ≡ 409614)
+unfolding scopeRoom renameRoom mergeRoom pushRoom negateRoom withoutRoom bindingsRoom filtersRoom
+longest-rooms = (refl, refl, refl, refl, refl, refl, refl, refl)

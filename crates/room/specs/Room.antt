@@ -31,6 +31,10 @@ pushRoom query constants = 3 * query + constants + 42
 unfoldable pub negateRoom : ℕ → ℕ
 negateRoom query = query + 38
 
+-- without: as a merge, and no constants
+unfoldable pub withoutRoom : ℕ → ℕ → ℕ
+withoutRoom left right = 3 * (left + right) + 84
+
 -- bindings: a position of 1 byte can become a column of 129; an empty file becomes two lines
 unfoldable pub bindingsRoom : ℕ → ℕ → ℕ
 bindingsRoom tree sets = tree + 65 * sets + 14
