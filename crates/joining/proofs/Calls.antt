@@ -26,14 +26,18 @@ use Rattle.algebra.specs.declared.Answer.the-variants as C
 use Rattle.answers.specs.Outcome.{Outcome, written, then, refusedUnless, Reported, Answered}
 use Rattle.answers.specs.declared.Answer.{Answer}
 use Rattle.answers.proofs.Answers.{answered}
-use Rattle.answers.specs.declared.Answer.the-variants.{Malformed, OverBound, NotMergeable, NotProject}
-use Rattle.merging.specs.Request.{Projection, asProject, made, readConstants, joinPositions, byPosition, constantsIn}
-use Rattle.merging.specs.Merge.{lists, isSelectOrAsk, mergeable, mergeTrees, mergePatternsOutcome, mergeQueriesOutcome}
+use Rattle.answers.specs.declared.Answer.the-variants.{Malformed, OverBound, NotMergeable, NotProject, NoPairs}
+use Rattle.merging.specs.Request.{Projection, asProject, made, readJoins, readConstants, joinPositions, byPosition, constantsIn}
+use Rattle.merging.specs.Merge.{lists, isSelectOrAsk, mergeable, mergeTrees, mergePatternsOutcome, mergeQueriesOutcome, over}
+use Rattle.merging.specs.Without.{withoutTrees, withoutQueriesOutcome}
+use Rattle.merging.specs.bridge.Combined.{mayCombine, combineTrees}
+use Rattle.merging.proofs.Lists.{no-constants}
+use Rattle.merging.proofs.Combined.{of-merge, of-without}
 use Rattle.merging.specs.Push.{pushConstantsInProjectPattern, pushed, pushConstants, pushConstantsOutcome}
 use Rattle.heads.specs.bridge.TreeAt.{HeadOf}
 use Rattle.heads.proofs.Queries.{over-layout}
 use Rattle.joining.specs.bridge.Form.{headless, readForm, headOf, mayMerge, listedBehind, mergeWith, mergeOutcome, pushWith}
-use Rattle.projects.specs.bridge.Joining.{KnownTerms, ListsRead, ListsChecked, pushedBehind, mergedBehind, joinedBehind}
+use Rattle.projects.specs.bridge.Joining.{KnownTerms, ListsRead, ListsChecked, pushedBehind, combinedBehind, joinedBehind}
 use Rattle.projects.proofs.Outcomes as O
 
 -- ---- push constants
@@ -88,51 +92,72 @@ module _ (q : Query) (constants : Bytes) (t : KnownTerms constants) (head : Byte
   unfolding pushConstants pushed
   pushes b e is-so x n = asks ∙ rw (sym e ∙ not-false b is-so, n, over-layout q (pushConstantsInProjectPattern x (byPosition (constantsIn (t .list)))), h .text)
 
--- ---- merge patterns and merge queries
+-- ---- merge patterns, merge queries and without
 
 -- the outcome over a form is that of its call
-pub of-trees : (left right pairs leftConstants rightConstants : Bytes) → mergeOutcome false left right pairs leftConstants rightConstants ≡ mergePatternsOutcome left right pairs leftConstants rightConstants
+pub of-trees : (left right pairs leftConstants rightConstants : Bytes) → mergeOutcome false false left right pairs leftConstants rightConstants ≡ mergePatternsOutcome left right pairs leftConstants rightConstants
 unfolding mergeOutcome mergeWith listedBehind mergePatternsOutcome
 of-trees left right pairs leftConstants rightConstants = go (readGivenTree left) (readGivenTree right)
   where
-    go : (o o′ : Reading Pattern) → (then (made headless o) λ a. then (made headless o′) λ b. lists pairs leftConstants rightConstants λ js ks ls. mergeTrees (a .tree) (b .tree) js ks ls λ t. written (layout t))
+    go : (o o′ : Reading Pattern) → (then (made headless o) λ a. then (made headless o′) λ b. lists pairs leftConstants rightConstants λ js ks ls. combineTrees false (a .tree) (b .tree) js ks ls λ t. written (layout t))
         ≡ (then o λ p. then o′ λ q. lists pairs leftConstants rightConstants λ js ks ls. mergeTrees p q js ks ls λ t. written (layout t))
-    go (reads p) (reads q) = refl
+    go (reads p) (reads q) = λ i. lists pairs leftConstants rightConstants λ js ks ls. of-merge p q js ks ls (λ t. written (layout t)) i
     go (reads p) (refuses n) = refl
     go (refuses n) o′ = refl
 
-pub of-queries : (left right pairs leftConstants rightConstants : Bytes) → mergeOutcome true left right pairs leftConstants rightConstants ≡ mergeQueriesOutcome left right pairs leftConstants rightConstants
+pub of-queries : (left right pairs leftConstants rightConstants : Bytes) → mergeOutcome false true left right pairs leftConstants rightConstants ≡ mergeQueriesOutcome left right pairs leftConstants rightConstants
 unfolding mergeOutcome mergeWith listedBehind mergeQueriesOutcome
-of-queries left right pairs leftConstants rightConstants i =
+of-queries left right pairs leftConstants rightConstants =
+    (λ i.
     then (readGivenQuery left) λ a.
     then (readGivenQuery right) λ b.
     lists pairs leftConstants rightConstants λ js ks ls.
-    refusedUnless 5 (mergeable a b) (mergeTrees (a .tree) (b .tree) js ks ls λ t. written (sym (over-layout a t) i))
+    refusedUnless 5 (mergeable a b) (combineTrees false (a .tree) (b .tree) js ks ls λ t. written (sym (over-layout a t) i)))
+    ∙ (λ i.
+    then (readGivenQuery left) λ a.
+    then (readGivenQuery right) λ b.
+    lists pairs leftConstants rightConstants λ js ks ls.
+    refusedUnless 5 (mergeable a b) (of-merge (a .tree) (b .tree) js ks ls (λ t. written (layoutQuery (over a t))) i))
 
-module _ (query : Bool) (left right pairs leftConstants rightConstants out : Bytes) where
-  pub left-malformed : readForm query left ≡ refuses malformed → Answered (mergeOutcome query left right pairs leftConstants rightConstants) out out Malformed
+-- without binds no constants
+pub of-less : (left right pairs : Bytes) → mergeOutcome true true left right pairs [] [] ≡ withoutQueriesOutcome left right pairs
+unfolding mergeOutcome mergeWith listedBehind withoutQueriesOutcome
+of-less left right pairs = rw no-constants
+    ((λ i.
+    then (readGivenQuery left) λ a.
+    then (readGivenQuery right) λ b.
+    then (readJoins pairs) λ js.
+    refusedUnless 5 (mergeable a b) (combineTrees true (a .tree) (b .tree) js [] [] λ t. written (sym (over-layout a t) i)))
+    ∙ (λ i.
+    then (readGivenQuery left) λ a.
+    then (readGivenQuery right) λ b.
+    then (readJoins pairs) λ js.
+    refusedUnless 5 (mergeable a b) (of-without (a .tree) (b .tree) js (λ t. written (layoutQuery (over a t))) i)))
+
+module _ (less query : Bool) (left right pairs leftConstants rightConstants out : Bytes) where
+  pub left-malformed : readForm query left ≡ refuses malformed → Answered (mergeOutcome less query left right pairs leftConstants rightConstants) out out Malformed
   unfolding mergeOutcome Reported
   left-malformed e = rw e (refl, refl, refl)
 
-  pub left-over : readForm query left ≡ refuses overBound → Answered (mergeOutcome query left right pairs leftConstants rightConstants) out out OverBound
+  pub left-over : readForm query left ≡ refuses overBound → Answered (mergeOutcome less query left right pairs leftConstants rightConstants) out out OverBound
   unfolding mergeOutcome Reported
   left-over e = rw e (refl, refl, refl)
 
-  pub left-read : (a : Query) → readForm query left ≡ reads a → mergeOutcome query left right pairs leftConstants rightConstants ≡ mergeWith query a right pairs leftConstants rightConstants
+  pub left-read : (a : Query) → readForm query left ≡ reads a → mergeOutcome less query left right pairs leftConstants rightConstants ≡ mergeWith less query a right pairs leftConstants rightConstants
   unfolding mergeOutcome
   left-read a e = rw e
 
   module _ (a : Query) where
-    pub right-malformed : readForm query right ≡ refuses malformed → Answered (mergeWith query a right pairs leftConstants rightConstants) out out Malformed
+    pub right-malformed : readForm query right ≡ refuses malformed → Answered (mergeWith less query a right pairs leftConstants rightConstants) out out Malformed
     unfolding mergeWith Reported
     right-malformed e = rw e (refl, refl, refl)
 
-    pub right-over : readForm query right ≡ refuses overBound → Answered (mergeWith query a right pairs leftConstants rightConstants) out out OverBound
+    pub right-over : readForm query right ≡ refuses overBound → Answered (mergeWith less query a right pairs leftConstants rightConstants) out out OverBound
     unfolding mergeWith Reported
     right-over e = rw e (refl, refl, refl)
 
     pub right-read : (b : Query) → readForm query right ≡ reads b → (may : Bool) → may ≡ mayMerge query a b → (head : Bytes) → head ≡ headOf query a
-        → mergeWith query a right pairs leftConstants rightConstants ≡ listedBehind may head (a .tree) (b .tree) pairs leftConstants rightConstants
+        → mergeWith less query a right pairs leftConstants rightConstants ≡ listedBehind less may head (a .tree) (b .tree) pairs leftConstants rightConstants
     unfolding mergeWith
     right-read b e may is head h = rw (e, is, h)
 
@@ -141,9 +166,9 @@ unfolding ListsChecked
 lists-good pairs a b r n c e = subst (ListsChecked pairs a b) e c
 
 -- both trees are there
-module _ (may : Bool) (head : Bytes) (p q : Pattern) (pairs leftConstants rightConstants : Bytes) where
+module _ (less may : Bool) (head : Bytes) (p q : Pattern) (pairs leftConstants rightConstants : Bytes) where
   abbrev outcome : Outcome
-  outcome = listedBehind may head p q pairs leftConstants rightConstants
+  outcome = listedBehind less may head p q pairs leftConstants rightConstants
 
   pub lists-malformed : (out : Bytes) (r : Check) → ListsChecked pairs leftConstants rightConstants r → r ≡ C.Malformed → Answered outcome out out Malformed
   unfolding listedBehind ListsChecked Reported
@@ -160,7 +185,7 @@ module _ (may : Bool) (head : Bytes) (p q : Pattern) (pairs leftConstants rightC
     not-mergeable out h = rw (r .joins-read, r .left .read, r .right .read, not-true may h) (refl, refl, refl)
 
     abbrev behind : Outcome
-    behind = mergedBehind head p q (r .js) (r .left .list) (r .right .list)
+    behind = combinedBehind less head p q (r .js) (r .left .list) (r .right .list)
 
     -- the heads are one
     module _ (ok : not may ≡ false) where
@@ -169,12 +194,16 @@ module _ (may : Bool) (head : Bytes) (p q : Pattern) (pairs leftConstants rightC
       merge-asks = rw (r .joins-read, r .left .read, r .right .read, not-false may ok)
 
       pub left-no-project : (out : Bytes) → asProject p ≡ none → Answered outcome out out NotProject
-      left-no-project out z = answered behind _ out out NotProject merge-asks (O.left-no-project head p q (r .js) (r .left .list) (r .right .list) out z)
+      left-no-project out z = answered behind _ out out NotProject merge-asks (O.left-no-project less head p q (r .js) (r .left .list) (r .right .list) out z)
 
       pub right-no-project : (out : Bytes) (x : Projection) → asProject p ≡ some x → asProject q ≡ none → Answered outcome out out NotProject
-      right-no-project out x e z = answered behind _ out out NotProject merge-asks (O.right-no-project head p q (r .js) (r .left .list) (r .right .list) out x e z)
+      right-no-project out x e z = answered behind _ out out NotProject merge-asks (O.right-no-project less head p q (r .js) (r .left .list) (r .right .list) out x e z)
 
       -- both trees are projects
-      pub projects-answer : (x y : Projection) → asProject p ≡ some x → asProject q ≡ some y → (out out′ : Bytes) (a : Answer)
-          → Answered (joinedBehind head x y (r .js) (r .left .list) (r .right .list)) out out′ a → Answered outcome out out′ a
-      projects-answer x y e f out out′ a z = answered (joinedBehind head x y (r .js) (r .left .list) (r .right .list)) _ out out′ a (merge-asks ∙ O.merged-as head p q (r .js) (r .left .list) (r .right .list) x y e f) z
+      module _ (x y : Projection) (e : asProject p ≡ some x) (f : asProject q ≡ some y) where
+        pub no-pairs : (out : Bytes) → mayCombine less (joinPositions (r .js)) ≡ false → Answered outcome out out NoPairs
+        no-pairs out n = answered behind _ out out NoPairs merge-asks (O.no-pairs less head p q (r .js) (r .left .list) (r .right .list) out x y e f n)
+
+        pub projects-answer : mayCombine less (joinPositions (r .js)) ≡ true → (out out′ : Bytes) (a : Answer)
+            → Answered (joinedBehind less head x y (r .js) (r .left .list) (r .right .list)) out out′ a → Answered outcome out out′ a
+        projects-answer n out out′ a z = answered (joinedBehind less head x y (r .js) (r .left .list) (r .right .list)) _ out out′ a (merge-asks ∙ O.combined-as less head p q (r .js) (r .left .list) (r .right .list) x y e f n) z

@@ -1,4 +1,4 @@
-// A merge of trees or of queries: the five texts checked, then two trees joined into one.
+// A merge of trees or of queries, or without: the texts checked, then two trees made into one.
 use crate::forms::may_merge;
 use crate::forms::note_form;
 use crate::forms::place_of;
@@ -21,15 +21,27 @@ use text::piece;
 use words::table::WordRow;
 use words::table::all_words;
 ghost use mathlib.Core.Path.{_≡_};
+ghost use mathlib.Core.List.{List};
+ghost use mathlib.Core.Bool.{not};
 ghost use Prim.Native.Nat.{_≤_};
 ghost use lib.ListN.{length, take};
 ghost use Rattle.answers.specs.Outcome.{Answered};
 ghost use Rattle.algebra.specs.Tree.{Pattern};
 ghost use Rattle.algebra.specs.Query.{Query};
+ghost use Rattle.algebra.specs.Reader.{reads};
+ghost use Rattle.merging.specs.Sides.{Pair};
+ghost use Rattle.merging.specs.Request.{readJoins};
+ghost use Rattle.merging.specs.bridge.Combined.{mayCombine};
 ghost use Rattle.projects.specs.bridge.Joining.{StandsAt, rest, BothShaped, ListsRead, TermsChecked, ListsChecked};
 ghost use Rattle.words.specs.bridge.Words.{Worded};
 ghost use Rattle.descending.specs.bridge.Renamed.{Shaped};
 ghost use Rattle.joining.specs.bridge.Form.{HeadIs, listedBehind, mergeWith, mergeOutcome, RoomFor, HalvesFor};
+
+// Which it is: of trees or of queries, by a join or by a minus.
+pub struct Form {
+    pub query: bool,
+    pub minus: bool,
+}
 
 // The check of two constant lists, in the specification's order.
 fn check_terms(left_constants: &[u8], right_constants: &[u8]) -> Check
@@ -69,7 +81,17 @@ struct Both {
     mergeable: bool,
 }
 
-// A merge for two trees and lists that were checked: 5 unless their heads are one, 4 unless they are projects.
+// A minus needs a pair.
+fn lacks_pairs(minus: bool, pairs: &[u8]) -> bool
+    ensures { λ r. ⌜ ((js : List Pair) → readJoins (now (pairs .entry)) ≡ reads js → not r ≡ mayCombine minus js) ⌝ }
+{
+    if !minus {
+        return false;
+    }
+    pairs.len() == 0
+}
+
+// A merge for two trees and lists that were checked: 5 unless their heads are one, 4 unless they are projects, 11 if a minus has no pair.
 fn merge_checked(
     words: &[WordRow; 56],
     head: &[u8],
@@ -85,7 +107,7 @@ fn merge_checked(
     out: &mut [u8],
 ) -> Answer
     requires { ⌜ ((p : Pattern) × StandsAt 0 (now left) (both .texts .left) (now tables) (take (both .texts .spots) (now spots)) p) × ((q : Pattern) × StandsAt 1 (now right) (both .texts .right) (now tables) (rest (both .texts .spots) (now spots)) q) × ListsRead (now pairs) (now «left_constants») (now «right_constants») × Worded (now words) × BothShaped (now words) (now nodes) (both .texts .nodes) (now spots) (both .texts .spots) ⌝ }
-    ensures { λ r. ⌜ ((p q : Pattern) → StandsAt 0 (now (left .entry)) (both .texts .left) (now (tables .entry)) (take (both .texts .spots) (now (spots .entry))) p → StandsAt 1 (now (right .entry)) (both .texts .right) (now (tables .entry)) (rest (both .texts .spots) (now (spots .entry))) q → Answered (listedBehind (both .mergeable) (now (head .entry)) p q (now (pairs .entry)) (now («left_constants» .entry)) (now («right_constants» .entry))) (now (out .entry)) (now (out .exit)) r) ⌝ }
+    ensures { λ r. ⌜ ((p q : Pattern) → StandsAt 0 (now (left .entry)) (both .texts .left) (now (tables .entry)) (take (both .texts .spots) (now (spots .entry))) p → StandsAt 1 (now (right .entry)) (both .texts .right) (now (tables .entry)) (rest (both .texts .spots) (now (spots .entry))) q → Answered (listedBehind (both .texts .minus) (both .mergeable) (now (head .entry)) p q (now (pairs .entry)) (now («left_constants» .entry)) (now («right_constants» .entry))) (now (out .entry)) (now (out .exit)) r) ⌝ }
 {
     if !both.mergeable {
         return Answer::NotMergeable;
@@ -96,6 +118,9 @@ fn merge_checked(
     }
     if !is_project(right, texts.right.from) {
         return Answer::NotProject;
+    }
+    if lacks_pairs(texts.minus, pairs) {
+        return Answer::NoPairs;
     }
     merge_projects(
         words,
@@ -129,7 +154,7 @@ fn merge_listed(
     out: &mut [u8],
 ) -> Answer
     requires { ⌜ ((p : Pattern) × StandsAt 0 (now left) (both .texts .left) (now tables) (take (both .texts .spots) (now spots)) p) × ((q : Pattern) × StandsAt 1 (now right) (both .texts .right) (now tables) (rest (both .texts .spots) (now spots)) q) × Worded (now words) × BothShaped (now words) (now nodes) (both .texts .nodes) (now spots) (both .texts .spots) ⌝ }
-    ensures { λ r. ⌜ ((p q : Pattern) → StandsAt 0 (now (left .entry)) (both .texts .left) (now (tables .entry)) (take (both .texts .spots) (now (spots .entry))) p → StandsAt 1 (now (right .entry)) (both .texts .right) (now (tables .entry)) (rest (both .texts .spots) (now (spots .entry))) q → Answered (listedBehind (both .mergeable) (now (head .entry)) p q (now (pairs .entry)) (now («left_constants» .entry)) (now («right_constants» .entry))) (now (out .entry)) (now (out .exit)) r) ⌝ }
+    ensures { λ r. ⌜ ((p q : Pattern) → StandsAt 0 (now (left .entry)) (both .texts .left) (now (tables .entry)) (take (both .texts .spots) (now (spots .entry))) p → StandsAt 1 (now (right .entry)) (both .texts .right) (now (tables .entry)) (rest (both .texts .spots) (now (spots .entry))) q → Answered (listedBehind (both .texts .minus) (both .mergeable) (now (head .entry)) p q (now (pairs .entry)) (now («left_constants» .entry)) (now («right_constants» .entry))) (now (out .entry)) (now (out .exit)) r) ⌝ }
 {
     match check_lists(pairs, left_constants, right_constants) {
         Check::Good(_) => merge_checked(
@@ -151,9 +176,10 @@ fn merge_listed(
     }
 }
 
-// A left tree that was checked, how many spots and nodes it has, and the form of both texts.
+// A left tree that was checked, how many spots and nodes it has, the form of both texts, and whether they are combined by a minus.
 struct Noted {
     query: bool,
+    minus: bool,
     standing: Standing,
     spots: usize,
     nodes: usize,
@@ -175,7 +201,7 @@ fn merge_right(
     out: &mut [u8],
 ) -> Answer
     requires { ⌜ ((a : Query) × StandsAt 0 (now left) (noted .standing) (now tables) (take (noted .spots) (now spots)) (a .tree) × HeadIs (noted .query) (now head) a) × RoomFor (now right) (rest (noted .spots) (now spots)) (rest (noted .nodes) (now nodes)) × Worded (now words) × Shaped (now words) (take (noted .nodes) (now nodes)) (length (take (noted .nodes) (now nodes))) (length (take (noted .spots) (now spots))) × (length (now tables) ≡ 2) × (noted .spots ≤ length (now spots)) × (noted .nodes ≤ length (now nodes)) ⌝ }
-    ensures { λ r. ⌜ ((a : Query) → StandsAt 0 (now (left .entry)) (noted .standing) (now (tables .entry)) (take (noted .spots) (now (spots .entry))) (a .tree) → HeadIs (noted .query) (now (head .entry)) a → Answered (mergeWith (noted .query) a (now (right .entry)) (now (pairs .entry)) (now («left_constants» .entry)) (now («right_constants» .entry))) (now (out .entry)) (now (out .exit)) r) ⌝ }
+    ensures { λ r. ⌜ ((a : Query) → StandsAt 0 (now (left .entry)) (noted .standing) (now (tables .entry)) (take (noted .spots) (now (spots .entry))) (a .tree) → HeadIs (noted .query) (now (head .entry)) a → Answered (mergeWith (noted .minus) (noted .query) a (now (right .entry)) (now (pairs .entry)) (now («left_constants» .entry)) (now («right_constants» .entry))) (now (out .entry)) (now (out .exit)) r) ⌝ }
 {
     let standing = noted.standing;
     let empty = EMPTY_TREE;
@@ -211,6 +237,7 @@ fn merge_right(
                         right: Standing { from, n },
                         spots: k,
                         nodes: m,
+                        minus: noted.minus,
                     },
                     mergeable,
                 },
@@ -231,7 +258,7 @@ fn merge_right(
 // The same for any two texts, with room for their variables: half of it is the left text's, and the right text has what that leaves. The
 // table of words is laid out.
 fn merge_left(
-    query: bool,
+    form: Form,
     left: &[u8],
     right: &[u8],
     nodes: &mut [Node],
@@ -242,18 +269,18 @@ fn merge_left(
     out: &mut [u8],
 ) -> Answer
     requires { ⌜ HalvesFor (now left) (now spots) (now nodes) × HalvesFor (now right) (now spots) (now nodes) ⌝ }
-    ensures { λ r. ⌜ Answered (mergeOutcome query (now (left .entry)) (now (right .entry)) (now (pairs .entry)) (now («left_constants» .entry)) (now («right_constants» .entry))) (now (out .entry)) (now (out .exit)) r ⌝ }
+    ensures { λ r. ⌜ Answered (mergeOutcome (form .minus) (form .query) (now (left .entry)) (now (right .entry)) (now (pairs .entry)) (now («left_constants» .entry)) (now («right_constants» .entry))) (now (out .entry)) (now (out .exit)) r ⌝ }
 {
     let words = all_words();
     let empty = EMPTY_TREE;
-    let start = start_of(query, left);
+    let start = start_of(form.query, left);
     let stands = text_of(left, start, &empty);
     let i = spots.len() / 2;
     let j = nodes.len() / 2;
     let mut tables = [[[0u16; 2]; 1024]; 2];
     let mut hints = [0u16; 2048];
     match note_form(
-        query,
+        form.query,
         &words,
         left,
         start,
@@ -271,7 +298,8 @@ fn merge_left(
                 stands,
                 right,
                 Noted {
-                    query,
+                    query: form.query,
+                    minus: form.minus,
                     standing: Standing { from, n },
                     spots: k,
                     nodes: m,
@@ -292,7 +320,7 @@ fn merge_left(
 
 // The same for texts of 1,536 bytes at most: room for their variables is cleared first, so there is as much as pays.
 fn merge_small(
-    query: bool,
+    form: Form,
     left: &[u8],
     right: &[u8],
     pairs: &[u8],
@@ -301,12 +329,12 @@ fn merge_small(
     out: &mut [u8],
 ) -> Answer
     requires { ⌜ (length (now left) ≤ 1536) × (length (now right) ≤ 1536) ⌝ }
-    ensures { λ r. ⌜ Answered (mergeOutcome query (now (left .entry)) (now (right .entry)) (now (pairs .entry)) (now («left_constants» .entry)) (now («right_constants» .entry))) (now (out .entry)) (now (out .exit)) r ⌝ }
+    ensures { λ r. ⌜ Answered (mergeOutcome (form .minus) (form .query) (now (left .entry)) (now (right .entry)) (now (pairs .entry)) (now («left_constants» .entry)) (now («right_constants» .entry))) (now (out .entry)) (now (out .exit)) r ⌝ }
 {
     let mut nodes = [[0u32; 3]; 1024];
     let mut spots = [[0u16; 3]; 1024];
     merge_left(
-        query,
+        form,
         left,
         right,
         &mut nodes,
@@ -320,7 +348,7 @@ fn merge_small(
 
 // The same for texts of 6,144 bytes at most.
 fn merge_middle(
-    query: bool,
+    form: Form,
     left: &[u8],
     right: &[u8],
     pairs: &[u8],
@@ -329,12 +357,12 @@ fn merge_middle(
     out: &mut [u8],
 ) -> Answer
     requires { ⌜ (length (now left) ≤ 6144) × (length (now right) ≤ 6144) ⌝ }
-    ensures { λ r. ⌜ Answered (mergeOutcome query (now (left .entry)) (now (right .entry)) (now (pairs .entry)) (now («left_constants» .entry)) (now («right_constants» .entry))) (now (out .entry)) (now (out .exit)) r ⌝ }
+    ensures { λ r. ⌜ Answered (mergeOutcome (form .minus) (form .query) (now (left .entry)) (now (right .entry)) (now (pairs .entry)) (now («left_constants» .entry)) (now («right_constants» .entry))) (now (out .entry)) (now (out .exit)) r ⌝ }
 {
     let mut nodes = [[0u32; 3]; 4096];
     let mut spots = [[0u16; 3]; 4096];
     merge_left(
-        query,
+        form,
         left,
         right,
         &mut nodes,
@@ -348,7 +376,7 @@ fn merge_middle(
 
 // The same for any texts.
 fn merge_large(
-    query: bool,
+    form: Form,
     left: &[u8],
     right: &[u8],
     pairs: &[u8],
@@ -356,12 +384,12 @@ fn merge_large(
     right_constants: &[u8],
     out: &mut [u8],
 ) -> Answer
-    ensures { λ r. ⌜ Answered (mergeOutcome query (now (left .entry)) (now (right .entry)) (now (pairs .entry)) (now («left_constants» .entry)) (now («right_constants» .entry))) (now (out .entry)) (now (out .exit)) r ⌝ }
+    ensures { λ r. ⌜ Answered (mergeOutcome (form .minus) (form .query) (now (left .entry)) (now (right .entry)) (now (pairs .entry)) (now («left_constants» .entry)) (now («right_constants» .entry))) (now (out .entry)) (now (out .exit)) r ⌝ }
 {
     let mut nodes = [[0u32; 3]; 4096];
     let mut spots = [[0u16; 3]; 10924];
     merge_left(
-        query,
+        form,
         left,
         right,
         &mut nodes,
@@ -375,7 +403,7 @@ fn merge_large(
 
 // The same with as much room as the longer text asks for.
 pub fn merge_texts(
-    query: bool,
+    form: Form,
     left: &[u8],
     right: &[u8],
     pairs: &[u8],
@@ -383,12 +411,12 @@ pub fn merge_texts(
     right_constants: &[u8],
     out: &mut [u8],
 ) -> Answer
-    ensures { λ r. ⌜ Answered (mergeOutcome query (now (left .entry)) (now (right .entry)) (now (pairs .entry)) (now («left_constants» .entry)) (now («right_constants» .entry))) (now (out .entry)) (now (out .exit)) r ⌝ }
+    ensures { λ r. ⌜ Answered (mergeOutcome (form .minus) (form .query) (now (left .entry)) (now (right .entry)) (now (pairs .entry)) (now («left_constants» .entry)) (now («right_constants» .entry))) (now (out .entry)) (now (out .exit)) r ⌝ }
 {
     let most = longer(left.len(), right.len());
     if most <= 1536 {
         return merge_small(
-            query,
+            form,
             left,
             right,
             pairs,
@@ -399,7 +427,7 @@ pub fn merge_texts(
     }
     if most <= 6144 {
         return merge_middle(
-            query,
+            form,
             left,
             right,
             pairs,
@@ -409,7 +437,7 @@ pub fn merge_texts(
         );
     }
     merge_large(
-        query,
+        form,
         left,
         right,
         pairs,

@@ -1,4 +1,5 @@
 // The call merge patterns: two trees joined into one.
+use crate::merge::Form;
 use crate::merge::merge_texts;
 use answers::Answer;
 ghost use Rattle.answers.specs.Outcome.{Answered};
@@ -16,7 +17,10 @@ pub fn merge_patterns(
     ensures { λ r. ⌜ Answered (mergePatternsOutcome (now (left .entry)) (now (right .entry)) (now (pairs .entry)) (now («left_constants» .entry)) (now («right_constants» .entry))) (now (out .entry)) (now (out .exit)) r ⌝ }
 {
     merge_texts(
-        false,
+        Form {
+            query: false,
+            minus: false,
+        },
         left,
         right,
         pairs,

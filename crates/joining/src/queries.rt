@@ -1,4 +1,5 @@
 // The call merge queries: two queries joined into one.
+use crate::merge::Form;
 use crate::merge::merge_texts;
 use answers::Answer;
 ghost use Rattle.answers.specs.Outcome.{Answered};
@@ -16,7 +17,10 @@ pub fn merge_queries(
     ensures { λ r. ⌜ Answered (mergeQueriesOutcome (now (left .entry)) (now (right .entry)) (now (pairs .entry)) (now («left_constants» .entry)) (now («right_constants» .entry))) (now (out .entry)) (now (out .exit)) r ⌝ }
 {
     merge_texts(
-        true,
+        Form {
+            query: true,
+            minus: false,
+        },
         left,
         right,
         pairs,

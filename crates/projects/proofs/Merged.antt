@@ -1,8 +1,8 @@
--- The columns and lines of two sides are those of the merged tree. Assumes nothing.
+-- The columns and lines of two sides are those of the merged tree, or of without's. Assumes nothing.
 use Prim.Native.Nat.{ℕ, zero, suc, _+_, _-_, _/_, _≤_, _<_}
 use mathlib.Core.Path.{_≡_, refl, sym, ap, ap₂, _∙_}
 use mathlib.Core.List.{List, [], _∷_, _++_, map}
-use mathlib.Core.Bool.{true, false, not}
+use mathlib.Core.Bool.{Bool, true, false, not}
 use native.Mathlib.Omega.{arith}
 use lib.ListN.{length, getD}
 use lib.Count.{ones}
@@ -19,8 +19,8 @@ use Rattle.scoping.specs.Sets.{all, keep}
 use Rattle.scoping.specs.Premises.{inside}
 use Rattle.merging.specs.Sides.{Side, standardized, columnAt, lefts, rights, leftJoinVariables, renamedPattern, freeColumns, mergedColumns}
 use Rattle.merging.specs.Request.{Projection, position, joinPositions, byPosition, constantsIn, Request, request, leftSide, rightSide}
-use Rattle.merging.specs.Merge.{mergeProjectPatterns}
-use Rattle.merging.proofs.Lines.{merge-lines}
+use Rattle.merging.specs.bridge.Combined.{combined}
+use Rattle.merging.proofs.Combined.{join-lines, minus-lines}
 use Rattle.merging.proofs.Lists.{map-length}
 use Rattle.mask.specs.bridge.Mask.{maskOf}
 use Rattle.mask.specs.bridge.Words.{maskValue}
@@ -31,7 +31,7 @@ use Rattle.columns.proofs.Counted.{picked-count}
 use Rattle.columns.specs.bridge.Listed.{positionsIn}
 use Rattle.sides.specs.bridge.Side.{maskAt, newNames, OutlineIs}
 use Rattle.sides.specs.declared.side.Outline.{Outline}
-use Rattle.projects.specs.bridge.Pair.{goneMask}
+use Rattle.projects.specs.bridge.Pair.{goneMask, headColumns, headWord}
 use Rattle.projects.proofs.Picks.{picked-gone}
 use Rattle.projects.proofs.Among.{picked-mem}
 use Rattle.projects.proofs.SideLines.{side, side-free}
@@ -107,20 +107,28 @@ module _ (left right leftConstants rightConstants : Bytes) (x y : Projection) (j
       ∙ ap (mem c) (join-names (newNames prefixL false x js) (x .columns) js low)
       ∙ ap (λ (z : Side). mem c (map (z .name) (leftJoinVariables z (joinPositions js)))) left-side
 
+  left-are : picked 0 (maskValue (l .constant)) cs ≡ freeColumns (leftSide asked)
+  left-are = side-free left false leftConstants x js ks ljoins lat llines l left-is prefixL cs left-named ∙ ap freeColumns left-side
+
   module _ (gone : ℕ) (gone-is : gone ≡ goneMask l cs r ds) where
     merged-are : picked 0 (maskValue (l .constant)) cs ++ picked 0 gone ds ≡ mergedColumns (leftSide asked) (rightSide asked) (joinPositions js)
     unfolding mergedColumns
     merged-are = ap₂ _++_
-        (side-free left false leftConstants x js ks ljoins lat llines l left-is prefixL cs left-named ∙ ap freeColumns left-side)
+        left-are
         (ap (λ (m : ℕ). picked 0 m ds) gone-is
         ∙ picked-gone (picked 1 (maskValue (l .joined)) cs) ds (maskValue (r .constant))
         ∙ (λ i. keep (λ c. not (joined-are c i)) (picked 0 (maskValue (r .constant)) ds))
         ∙ ap (keep (λ c. not (mem c (map (leftSide asked .name) (leftJoinVariables (leftSide asked) (joinPositions js))))))
         (side-free right true rightConstants y js ls rjoins rat rlines r right-is prefixR ds right-named ∙ ap freeColumns right-side))
 
-    -- the lines of both, under the merged columns, are the merged tree's
-    pub merged-lines : (t : List Line) → (bytes "project" ∷ (picked 0 (maskValue (l .constant)) cs ++ picked 0 gone ds)) ∷ (bytes "join" ∷ []) ∷ put (renamedPattern lside) (put (renamedPattern rside) t) ≡ put (mergeProjectPatterns asked) t
-    merged-lines t =
+    -- the lines of both, under the columns, are the tree's
+    pub combined-lines : (less : Bool) (t : List Line) → (bytes "project" ∷ headColumns less (picked 0 (maskValue (l .constant)) cs) (picked 0 gone ds)) ∷ (headWord less ∷ []) ∷ put (renamedPattern lside) (put (renamedPattern rside) t) ≡ put (combined less asked) t
+    unfolding headColumns headWord
+    combined-lines false t =
         ap (λ (es : List Bytes). (bytes "project" ∷ es) ∷ (bytes "join" ∷ []) ∷ put (renamedPattern lside) (put (renamedPattern rside) t)) merged-are
         ∙ ap₂ (λ (a b : Side). (bytes "project" ∷ mergedColumns (leftSide asked) (rightSide asked) (joinPositions js)) ∷ (bytes "join" ∷ []) ∷ put (renamedPattern a) (put (renamedPattern b) t)) left-side right-side
-        ∙ sym (merge-lines asked t)
+        ∙ sym (join-lines asked t)
+    combined-lines true t =
+        ap (λ (es : List Bytes). (bytes "project" ∷ es) ∷ (bytes "minus" ∷ []) ∷ put (renamedPattern lside) (put (renamedPattern rside) t)) left-are
+        ∙ ap₂ (λ (a b : Side). (bytes "project" ∷ freeColumns (leftSide asked)) ∷ (bytes "minus" ∷ []) ∷ put (renamedPattern a) (put (renamedPattern b) t)) left-side right-side
+        ∙ sym (minus-lines asked t)

@@ -18,21 +18,24 @@ use Rattle.algebra.specs.Texts.{readPairs}
 use Rattle.algebra.specs.declared.Answer.{Answer as Check}
 use Rattle.algebra.specs.declared.Answer.the-variants as C
 use Rattle.answers.specs.Outcome.{written, Reported, Answered, refusedUnless}
-use Rattle.answers.specs.declared.Answer.the-variants.{Outside, NotProject, Repeated}
+use Rattle.answers.specs.declared.Answer.the-variants.{Outside, NotProject, Repeated, NoPairs}
 use Rattle.lists.specs.bridge.Pairs.{PairsChecked}
 use Rattle.lists.proofs.Said.{said-malformed, said-over}
 use Rattle.scoping.specs.Sets.{all}
 use Rattle.scoping.specs.Premises.{inside, differentPositions}
 use Rattle.merging.specs.Sides.{Constant}
 use Rattle.merging.specs.Request.{Projection, tree, asProject, readJoins, readConstants, joinPositions, byPosition, constantsIn, positions, request, allInside}
-use Rattle.merging.specs.Merge.{lists, mergeProjectPatterns, mergeTrees}
+use Rattle.merging.specs.Merge.{lists}
+use Rattle.merging.specs.Without.{isJoined}
 use Rattle.merging.specs.bridge.Twice.{noneTwice}
-use Rattle.merging.proofs.Given.{project-of, sides-merged}
+use Rattle.merging.specs.bridge.Combined.{combined, mayCombine, combineTrees}
+use Rattle.merging.proofs.Given.{project-of}
+use Rattle.merging.proofs.Combined.{sides-combined}
 use Rattle.merging.proofs.Lines.{root-word}
 use Rattle.merging.proofs.Lists.{sorted-test}
 use Rattle.columns.specs.bridge.Listed.{positionsIn}
 use Rattle.sides.proofs.Sides.{first-false, neither}
-use Rattle.projects.specs.bridge.Joining.{KnownTerms, TermsChecked, ListsChecked, mergedBehind, joinedBehind}
+use Rattle.projects.specs.bridge.Joining.{KnownTerms, TermsChecked, ListsChecked, combinedBehind, joinedBehind}
 use Rattle.projects.proofs.Picks.{positions-are}
 use Rattle.projects.proofs.Merged.{lefts-are, rights-are}
 use Rattle.projects.proofs.Known.{good-terms, KnownJoins}
@@ -111,32 +114,32 @@ none-twice-is : (js : List Pair) → noneTwice (joinPositions js) ≡ (different
 unfolding noneTwice
 none-twice-is js = ap₂ (λ (a b : List ℕ). differentPositions a && differentPositions b) (lefts-are js) (rights-are js)
 
-module _ (head : Bytes) (x y : Projection) (js ks ls : List Pair) where
-  refused-three : (out : Bytes) → allInside (request x y (joinPositions js) (byPosition (constantsIn ks)) (byPosition (constantsIn ls))) ≡ false → Answered (joinedBehind head x y js ks ls) out out Outside
+module _ (less : Bool) (head : Bytes) (x y : Projection) (js ks ls : List Pair) where
+  refused-three : (out : Bytes) → allInside (request x y (joinPositions js) (byPosition (constantsIn ks)) (byPosition (constantsIn ls))) ≡ false → Answered (joinedBehind less head x y js ks ls) out out Outside
   unfolding Reported
   refused-three out e = rw e (refl, refl, refl)
 
-  pub left-outside : (out : Bytes) → (inside (x .columns) (positionsIn false js) && inside (x .columns) (positionsIn false ks)) ≡ false → Answered (joinedBehind head x y js ks ls) out out Outside
+  pub left-outside : (out : Bytes) → (inside (x .columns) (positionsIn false js) && inside (x .columns) (positionsIn false ks)) ≡ false → Answered (joinedBehind less head x y js ks ls) out out Outside
   left-outside out e = refused-three out (all-inside-is x y js ks ls ∙ no-left (inside (x .columns) (positionsIn false js)) (inside (y .columns) (positionsIn true js)) (inside (x .columns) (positionsIn false ks)) (inside (y .columns) (positionsIn false ls)) e)
 
-  pub right-outside : (out : Bytes) → (inside (y .columns) (positionsIn true js) && inside (y .columns) (positionsIn false ls)) ≡ false → Answered (joinedBehind head x y js ks ls) out out Outside
+  pub right-outside : (out : Bytes) → (inside (y .columns) (positionsIn true js) && inside (y .columns) (positionsIn false ls)) ≡ false → Answered (joinedBehind less head x y js ks ls) out out Outside
   right-outside out e = refused-three out (all-inside-is x y js ks ls ∙ no-right (inside (x .columns) (positionsIn false js)) (inside (y .columns) (positionsIn true js)) (inside (x .columns) (positionsIn false ks)) (inside (y .columns) (positionsIn false ls)) e)
 
   -- 10, where nothing is outside
   module _ (a : inside (x .columns) (positionsIn false js) ≡ true) (b : inside (y .columns) (positionsIn true js) ≡ true) (c : inside (x .columns) (positionsIn false ks) ≡ true) (d : inside (y .columns) (positionsIn false ls) ≡ true) where
-    repeated : (out : Bytes) → (differentPositions (positionsIn false js) && differentPositions (positionsIn true js)) ≡ false → Answered (joinedBehind head x y js ks ls) out out Repeated
+    repeated : (out : Bytes) → (differentPositions (positionsIn false js) && differentPositions (positionsIn true js)) ≡ false → Answered (joinedBehind less head x y js ks ls) out out Repeated
     unfolding Reported
     repeated out e = rw (all-inside-is x y js ks ls ∙ ap₂ _&&_ (ap₂ _&&_ a b) (ap₂ _&&_ c d), none-twice-is js ∙ e) (refl, refl, refl)
 
-    pub left-repeated : (out : Bytes) → differentPositions (positionsIn false js) ≡ false → Answered (joinedBehind head x y js ks ls) out out Repeated
+    pub left-repeated : (out : Bytes) → differentPositions (positionsIn false js) ≡ false → Answered (joinedBehind less head x y js ks ls) out out Repeated
     left-repeated out e = repeated out (first-false (differentPositions (positionsIn false js)) (differentPositions (positionsIn true js)) e)
 
-    pub right-repeated : (out : Bytes) → differentPositions (positionsIn true js) ≡ false → Answered (joinedBehind head x y js ks ls) out out Repeated
+    pub right-repeated : (out : Bytes) → differentPositions (positionsIn true js) ≡ false → Answered (joinedBehind less head x y js ks ls) out out Repeated
     right-repeated out e = repeated out (neither (differentPositions (positionsIn false js)) (differentPositions (positionsIn true js)) e)
 
   pub joined-is : inside (x .columns) (positionsIn false js) ≡ true → inside (y .columns) (positionsIn true js) ≡ true → inside (x .columns) (positionsIn false ks) ≡ true → inside (y .columns) (positionsIn false ls) ≡ true
       → differentPositions (positionsIn false js) ≡ true → differentPositions (positionsIn true js) ≡ true
-      → joinedBehind head x y js ks ls ≡ written (head ++ layout (mergeProjectPatterns (request x y (joinPositions js) (byPosition (constantsIn ks)) (byPosition (constantsIn ls)))))
+      → joinedBehind less head x y js ks ls ≡ written (head ++ layout (combined less (request x y (joinPositions js) (byPosition (constantsIn ks)) (byPosition (constantsIn ls)))))
   joined-is a b c d m n = rw (all-inside-is x y js ks ls ∙ ap₂ _&&_ (ap₂ _&&_ a b) (ap₂ _&&_ c d), none-twice-is js ∙ ap₂ _&&_ m n)
 
 -- ---- two trees
@@ -160,16 +163,20 @@ module _ (s : Bytes) (from : ℕ) (p : Pattern) (lines : linesFrom s from ≡ pu
       go none q z = absurd (false≢true z)
       go (some x) q z = (x, q, project-of p x q)
 
-module _ (head : Bytes) (p q : Pattern) (js ks ls : List Pair) where
-  pub left-no-project : (out : Bytes) → asProject p ≡ none → Answered (mergedBehind head p q js ks ls) out out NotProject
-  unfolding Reported mergeTrees
+module _ (less : Bool) (head : Bytes) (p q : Pattern) (js ks ls : List Pair) where
+  pub left-no-project : (out : Bytes) → asProject p ≡ none → Answered (combinedBehind less head p q js ks ls) out out NotProject
+  unfolding Reported combineTrees
   left-no-project out e = rw e (refl, refl, refl)
 
-  pub right-no-project : (out : Bytes) (x : Projection) → asProject p ≡ some x → asProject q ≡ none → Answered (mergedBehind head p q js ks ls) out out NotProject
-  unfolding Reported mergeTrees
+  pub right-no-project : (out : Bytes) (x : Projection) → asProject p ≡ some x → asProject q ≡ none → Answered (combinedBehind less head p q js ks ls) out out NotProject
+  unfolding Reported combineTrees
   right-no-project out x e f = rw (e, f) (refl, refl, refl)
 
-  pub merged-as : (x y : Projection) → asProject p ≡ some x → asProject q ≡ some y → mergedBehind head p q js ks ls ≡ joinedBehind head x y js ks ls
-  unfolding mergeTrees
-  merged-as x y e f = rw (e, f)
-      (ap (refusedUnless 3 (allInside (request x y (joinPositions js) (byPosition (constantsIn ks)) (byPosition (constantsIn ls))))) (sides-merged (request x y (joinPositions js) (byPosition (constantsIn ks)) (byPosition (constantsIn ls))) (λ t. written (head ++ layout t))))
+  pub no-pairs : (out : Bytes) (x y : Projection) → asProject p ≡ some x → asProject q ≡ some y → mayCombine less (joinPositions js) ≡ false → Answered (combinedBehind less head p q js ks ls) out out NoPairs
+  unfolding Reported combineTrees
+  no-pairs out x y e f n = rw (e, f, n) (refl, refl, refl)
+
+  pub combined-as : (x y : Projection) → asProject p ≡ some x → asProject q ≡ some y → mayCombine less (joinPositions js) ≡ true → combinedBehind less head p q js ks ls ≡ joinedBehind less head x y js ks ls
+  unfolding combineTrees
+  combined-as x y e f n = rw (e, f, n)
+      (ap (refusedUnless 3 (allInside (request x y (joinPositions js) (byPosition (constantsIn ks)) (byPosition (constantsIn ls))))) (sides-combined less (request x y (joinPositions js) (byPosition (constantsIn ks)) (byPosition (constantsIn ls))) (λ t. written (head ++ layout t))))

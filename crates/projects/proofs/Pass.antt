@@ -24,10 +24,10 @@ use Rattle.sides.specs.declared.side.FoundSide.{FoundSide}
 use Rattle.sides.specs.bridge.Side.{newNames, IsNamed, SideWritten}
 use Rattle.sides.proofs.Sides.{side-inside, side-columns, side-ones, side-room, side-width}
 use Rattle.projects.specs.declared.merge.FoundPair.{FoundPair}
-use Rattle.projects.specs.bridge.Joining.{pushedTree, pushedBehind, mergedTree, joinedBehind, rest}
-use Rattle.projects.specs.bridge.Pair.{leftColumns, rightColumns, LeftNamed, RightNamed, goneMask, HeaderFits}
+use Rattle.projects.specs.bridge.Joining.{pushedTree, pushedBehind, combinedTree, joinedBehind, rest}
+use Rattle.projects.specs.bridge.Pair.{leftColumns, rightColumns, LeftNamed, RightNamed, goneMask, HeaderFits, headColumns, headWord}
 use Rattle.projects.proofs.SideLines.{side-is}
-use Rattle.projects.proofs.Merged.{gone-width, merged-lines}
+use Rattle.projects.proofs.Merged.{gone-width, combined-lines}
 use Rattle.projects.proofs.Whole.{pass-one, pass-two, pushed-lines, pushed-is}
 use Rattle.projects.proofs.Outcomes.{joined-is}
 
@@ -86,25 +86,25 @@ module _ (left right : Bytes) (p : FoundPair) (tables : List (List (List ℕ))) 
       record { left-room = side-room _ _ _ _ _ _ _ _ _ _ _ _ _ _ _ _ _ _ ld; left = side-width _ _ _ _ _ _ _ _ _ _ _ _ _ _ _ _ _ _ ld; right-room = w .0; right = w .1 }
 
   pub merge-pass : (gone : ℕ) → gone ≡ goneMask (p .left .outline) lcolumns (p .right .outline) rcolumns → (head : Bytes) (e e₁ e₂ e₃ : Em)
-      → ((t : List Line) → puts (textOf t) e₁ ≡ puts (head ++ textOf ((bytes "project" ∷ (picked 0 (maskValue (p .left .outline .constant)) lcolumns ++ picked 0 gone rcolumns)) ∷ (bytes "join" ∷ []) ∷ t)) e)
+      → ((t : List Line) → puts (textOf t) e₁ ≡ puts (head ++ textOf ((bytes "project" ∷ headColumns (p .minus) (picked 0 (maskValue (p .left .outline .constant)) lcolumns) (picked 0 gone rcolumns)) ∷ (headWord (p .minus) ∷ []) ∷ t)) e)
       → SideWritten left (getD tables 0 []) (take (p .spots) spots) leftConstants (getD news 0 []) (p .left) e₁ e₂ → SideWritten right (getD tables 1 []) (rest (p .spots) spots) rightConstants (getD news 1 []) (p .right) e₂ e₃
-      → e₃ ≡ puts (head ++ layout (mergedTree x y js ks ls)) e
+      → e₃ ≡ puts (head ++ layout (combinedTree (p .minus) x y js ks ls)) e
   merge-pass gone gone-is head e e₁ e₂ e₃ h w v =
       pass-two head e e₁ e₂ e₃
-      (λ t. (bytes "project" ∷ (picked 0 (maskValue (p .left .outline .constant)) lcolumns ++ picked 0 gone rcolumns)) ∷ (bytes "join" ∷ []) ∷ t)
-      _ _ _ _ (mergedTree x y js ks ls) h (w prefixL false x js ks ld) (v prefixR true y js ls rd)
+      (λ t. (bytes "project" ∷ headColumns (p .minus) (picked 0 (maskValue (p .left .outline .constant)) lcolumns) (picked 0 gone rcolumns)) ∷ (headWord (p .minus) ∷ []) ∷ t)
+      _ _ _ _ (combinedTree (p .minus) x y js ks ls) h (w prefixL false x js ks ld) (v prefixR true y js ls rd)
       (side-is left false leftConstants x js ks _ _ _ _ (ld .found .is) prefixL lcolumns lcolumns-are (side-ones _ _ _ _ _ _ _ _ _ _ _ _ _ _ _ _ _ _ ld) (ld .found .stands .narrow x refl) (ld .found .terms .different) (ld .found .terms-inside))
       (side-is right true rightConstants y js ls _ _ _ _ (rd .found .is) prefixR rcolumns rcolumns-are (side-ones _ _ _ _ _ _ _ _ _ _ _ _ _ _ _ _ _ _ rd) (rd .found .stands .narrow y refl) (rd .found .terms .different) (rd .found .terms-inside))
-      (merged-lines left right leftConstants rightConstants x y js ks ls _ _ _ _ _ _ _ _ (ld .found .is) (rd .found .is) lcolumns rcolumns lcolumns-are rcolumns-are (ld .found .joins-inside) gone gone-is [])
+      (combined-lines left right leftConstants rightConstants x y js ks ls _ _ _ _ _ _ _ _ (ld .found .is) (rd .found .is) lcolumns rcolumns lcolumns-are rcolumns-are (ld .found .joins-inside) gone gone-is (p .minus) [])
 
   module _ (head : Bytes) where
-    asked-for : joinedBehind head x y js ks ls ≡ written (head ++ layout (mergedTree x y js ks ls))
-    asked-for = joined-is head x y js ks ls (ld .found .joins-inside) (rd .found .joins-inside) (ld .found .terms-inside) (rd .found .terms-inside) (ld .joins-once) (rd .joins-once)
+    asked-for : joinedBehind (p .minus) head x y js ks ls ≡ written (head ++ layout (combinedTree (p .minus) x y js ks ls))
+    asked-for = joined-is (p .minus) head x y js ks ls (ld .found .joins-inside) (rd .found .joins-inside) (ld .found .terms-inside) (rd .found .terms-inside) (ld .joins-once) (rd .joins-once)
 
     -- measured on one buffer, written on another
-    module _ (none none′ out : Bytes) (size : ℕ) (m : em size none′ ≡ puts (head ++ layout (mergedTree x y js ks ls)) (em 0 none)) where
-      pub merge-short : length out < size → Answered (joinedBehind head x y js ks ls) out out TooShort
-      merge-short k = answered _ _ out out TooShort asked-for (too-short (head ++ layout (mergedTree x y js ks ls)) out size none none′ m k)
+    module _ (none none′ out : Bytes) (size : ℕ) (m : em size none′ ≡ puts (head ++ layout (combinedTree (p .minus) x y js ks ls)) (em 0 none)) where
+      pub merge-short : length out < size → Answered (joinedBehind (p .minus) head x y js ks ls) out out TooShort
+      merge-short k = answered _ _ out out TooShort asked-for (too-short (head ++ layout (combinedTree (p .minus) x y js ks ls)) out size none none′ m k)
 
-      pub merge-put : (put : ℕ) (out′ : Bytes) → em put out′ ≡ puts (head ++ layout (mergedTree x y js ks ls)) (em 0 out) → size ≤ length out → length out < last → Answered (joinedBehind head x y js ks ls) out out′ (Written put)
-      merge-put put out′ w k j = answered _ _ out out′ (Written put) asked-for (all-written (head ++ layout (mergedTree x y js ks ls)) out size none none′ m put out′ k j w)
+      pub merge-put : (put : ℕ) (out′ : Bytes) → em put out′ ≡ puts (head ++ layout (combinedTree (p .minus) x y js ks ls)) (em 0 out) → size ≤ length out → length out < last → Answered (joinedBehind (p .minus) head x y js ks ls) out out′ (Written put)
+      merge-put put out′ w k j = answered _ _ out out′ (Written put) asked-for (all-written (head ++ layout (combinedTree (p .minus) x y js ks ls)) out size none none′ m put out′ k j w)

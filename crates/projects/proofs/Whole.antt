@@ -2,7 +2,7 @@
 use Prim.Native.Nat.{ℕ}
 use mathlib.Core.Path.{_≡_, refl, sym, ap, _∙_}
 use mathlib.Core.List.{List, [], _∷_, _++_, map, append-assoc}
-use mathlib.Core.Bool.{true, false, _&&_}
+use mathlib.Core.Bool.{Bool, true, false, _&&_}
 use Rattle.text.specs.Text.{Bytes, Line, ended, textOf}
 use Rattle.text.specs.Word.{bytes}
 use Rattle.algebra.specs.Tree.{Pattern}
@@ -30,6 +30,7 @@ use Rattle.merging.specs.Request.{byPosition, constantsIn}
 use Rattle.merging.specs.Push.{onlySide}
 use Rattle.merging.proofs.Lines.{push-lines}
 use Rattle.columns.specs.bridge.Columns.{picked}
+use Rattle.projects.specs.bridge.Pair.{headColumns, headWord}
 use Rattle.projects.specs.bridge.Joining.{Lists, ListsRead, pushedTree, pushedBehind}
 use Rattle.projects.proofs.SideLines.{side, side-free}
 use Rattle.projects.proofs.Outcomes.{inside-sorted}
@@ -55,12 +56,25 @@ join-line : (t : List Line) (e : Em) → puts (textOf t) (puts (bytes "\njoin\n"
 unfolding textOf ended puts
 join-line t e = refl
 
+minus-line : (t : List Line) (e : Em) → puts (textOf t) (puts (bytes "\nminus\n") e) ≡ puts (textOf ((bytes "minus" ∷ []) ∷ t)) (puts (10 ∷ []) e)
+unfolding textOf ended puts
+minus-line t e = refl
+
 -- of two sides, and the join's line
-pub two-heads : (head : Bytes) (us vs : List Bytes) (e e₁ e₂ e₃ e₄ e₅ : Em) → e₁ ≡ puts head e → e₂ ≡ puts (bytes "project") e₁ → e₃ ≡ puts (tabbed us) e₂ → e₄ ≡ puts (tabbed vs) e₃ → e₅ ≡ puts (bytes "\njoin\n") e₄
-    → (t : List Line) → puts (textOf t) e₅ ≡ puts (head ++ textOf ((bytes "project" ∷ (us ++ vs)) ∷ (bytes "join" ∷ []) ∷ t)) e
-two-heads head us vs e e₁ e₂ e₃ e₄ e₅ p₁ p₂ p₃ p₄ p₅ t =
+pub two-heads : (less : Bool) (head : Bytes) (us vs : List Bytes) (e e₁ e₂ e₃ e₄ e₅ : Em) → less ≡ false → e₁ ≡ puts head e → e₂ ≡ puts (bytes "project") e₁ → e₃ ≡ puts (tabbed us) e₂ → e₄ ≡ puts (tabbed vs) e₃ → e₅ ≡ puts (bytes "\njoin\n") e₄
+    → (t : List Line) → puts (textOf t) e₅ ≡ puts (head ++ textOf ((bytes "project" ∷ headColumns less us vs) ∷ (headWord less ∷ []) ∷ t)) e
+unfolding headColumns headWord
+two-heads less head us vs e e₁ e₂ e₃ e₄ e₅ f p₁ p₂ p₃ p₄ p₅ t = rw f (
     ap (puts (textOf t)) p₅ ∙ join-line t e₄
-    ∙ one-head head (us ++ vs) e e₁ e₂ e₄ (puts (10 ∷ []) e₄) p₁ p₂ (p₄ ∙ ap (puts (tabbed vs)) p₃ ∙ sym (ap (λ (l : Bytes). puts l e₂) (tabbed-append us vs) ∙ puts-append (tabbed us) (tabbed vs) e₂)) refl ((bytes "join" ∷ []) ∷ t)
+    ∙ one-head head (us ++ vs) e e₁ e₂ e₄ (puts (10 ∷ []) e₄) p₁ p₂ (p₄ ∙ ap (puts (tabbed vs)) p₃ ∙ sym (ap (λ (l : Bytes). puts l e₂) (tabbed-append us vs) ∙ puts-append (tabbed us) (tabbed vs) e₂)) refl ((bytes "join" ∷ []) ∷ t))
+
+-- of the left side, and the minus's line
+pub left-head : (less : Bool) (head : Bytes) (us vs : List Bytes) (e e₁ e₂ e₃ e₄ : Em) → less ≡ true → e₁ ≡ puts head e → e₂ ≡ puts (bytes "project") e₁ → e₃ ≡ puts (tabbed us) e₂ → e₄ ≡ puts (bytes "\nminus\n") e₃
+    → (t : List Line) → puts (textOf t) e₄ ≡ puts (head ++ textOf ((bytes "project" ∷ headColumns less us vs) ∷ (headWord less ∷ []) ∷ t)) e
+unfolding headColumns headWord
+left-head less head us vs e e₁ e₂ e₃ e₄ f p₁ p₂ p₃ p₄ t = rw f (
+    ap (puts (textOf t)) p₄ ∙ minus-line t e₃
+    ∙ one-head head us e e₁ e₂ e₃ (puts (10 ∷ []) e₃) p₁ p₂ p₃ refl ((bytes "minus" ∷ []) ∷ t))
 
 -- ---- a whole pass
 

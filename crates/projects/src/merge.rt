@@ -1,4 +1,4 @@
-// merge_project_patterns for two projects. Tables of both texts are arrays of two, the left text's first; spots and nodes of
+// merge_project_patterns for two projects, and without, which has a minus in the join's place. Tables of both texts are arrays of two, the left text's first; spots and nodes of
 // both stand in one array each, the right text's behind the left text's.
 use answers::Answer;
 use columns::columns::joined_mask;
@@ -32,28 +32,32 @@ ghost use Rattle.walking.specs.bridge.Code.{Inside};
 ghost use Rattle.mask.specs.bridge.Words.{maskValue};
 ghost use Rattle.columns.specs.bridge.Columns.{picked};
 ghost use Rattle.sides.specs.bridge.Side.{IsFound};
-ghost use Rattle.projects.specs.bridge.Joining.{StandsAt, mergedTree, Lists, joinedBehind, ListsRead, rest, BothShaped};
-ghost use Rattle.projects.specs.bridge.Pair.{leftColumns, rightColumns, LeftNamed, RightNamed, goneMask, HeaderFits};
+ghost use Rattle.projects.specs.bridge.Joining.{StandsAt, combinedTree, Lists, joinedBehind, ListsRead, rest, BothShaped};
+ghost use Rattle.projects.specs.bridge.Pair.{leftColumns, rightColumns, LeftNamed, RightNamed, goneMask, HeaderFits, headColumns, headWord};
 ghost use Rattle.words.specs.bridge.Words.{Worded};
 
 const PROJECT: [u8; 7] = *b"project";
 
 const JOIN: [u8; 6] = *b"\njoin\n";
 
-// Both texts of a merge, and how many spots and nodes are the left one's.
+const MINUS: [u8; 7] = *b"\nminus\n";
+
+// Both texts of a merge, how many spots and nodes are the left one's, and whether a minus stands in the join's place.
 pub struct Texts {
     pub left: Standing,
     pub right: Standing,
     pub spots: usize,
     pub nodes: usize,
+    pub minus: bool,
 }
 
-// Two sides that were found, and how many spots and nodes are the left one's.
+// Two sides that were found, how many spots and nodes are the left one's, and whether a minus stands in the join's place.
 struct FoundPair {
     left: FoundSide,
     right: FoundSide,
     spots: usize,
     nodes: usize,
+    minus: bool,
 }
 
 // The right columns that go: those with a constant, and those whose new names are joined columns' on the left.
@@ -87,7 +91,7 @@ fn gone_of(
     )
 }
 
-// The head, the merged columns, and the join's line.
+// The head, the merged columns, and the join's line; for a minus the left columns, and its line.
 fn put_head(
     head: &[u8],
     left: &[u8],
@@ -100,7 +104,7 @@ fn put_head(
     out: &mut [u8],
 ) -> usize
     requires { ⌜ Inside 1024 (take (pair .spots) (now spots)) (pair .left .outline .columns) × Inside 1024 (rest (pair .spots) (now spots)) (pair .right .outline .columns) × (pair .spots ≤ length (now spots)) × HeaderFits (pair .left .outline) (leftColumns (now left) pair (now tables) (now spots) (now news)) (maskValue gone) (pair .right .outline) (rightColumns (now right) pair (now tables) (now spots) (now news)) ⌝ }
-    ensures { λ result. ⌜ ((t : List Line) → puts (textOf t) (em result (now (out .exit))) ≡ puts (now (head .entry) ++ textOf ((bytes "project" ∷ (picked 0 (maskValue (pair .left .outline .constant)) (leftColumns (now (left .entry)) pair (now (tables .entry)) (now (spots .entry)) (now (news .entry))) ++ picked 0 (maskValue gone) (rightColumns (now (right .entry)) pair (now (tables .entry)) (now (spots .entry)) (now (news .entry))))) ∷ (bytes "join" ∷ []) ∷ t)) (em 0 (now (out .entry)))) ⌝ }
+    ensures { λ result. ⌜ ((t : List Line) → puts (textOf t) (em result (now (out .exit))) ≡ puts (now (head .entry) ++ textOf ((bytes "project" ∷ headColumns (pair .minus) (picked 0 (maskValue (pair .left .outline .constant)) (leftColumns (now (left .entry)) pair (now (tables .entry)) (now (spots .entry)) (now (news .entry)))) (picked 0 (maskValue gone) (rightColumns (now (right .entry)) pair (now (tables .entry)) (now (spots .entry)) (now (news .entry))))) ∷ (headWord (pair .minus) ∷ []) ∷ t)) (em 0 (now (out .entry)))) ⌝ }
 {
     let k = pair.spots;
     let l = pair.left.outline;
@@ -119,6 +123,9 @@ fn put_head(
         out,
         b,
     );
+    if pair.minus {
+        return put_all(out, c, &MINUS);
+    }
     let d = put_columns(
         right,
         &tables[1],
@@ -149,7 +156,7 @@ fn put_merged(
     out: &mut [u8],
 ) -> usize
     requires { ⌜ ((x : Projection) × (y : Projection) × (js : List Pair) × (ks : List Pair) × (ls : List Pair) × LeftNamed (now left) (now «left_constants») pair (now tables) (now spots) (now news) x js ks × RightNamed (now right) (now «right_constants») pair (now tables) (now spots) (now news) y js ls) × (maskValue gone ≡ goneMask (pair .left .outline) (leftColumns (now left) pair (now tables) (now spots) (now news)) (pair .right .outline) (rightColumns (now right) pair (now tables) (now spots) (now news))) × (pair .spots ≤ length (now spots)) ⌝ }
-    ensures { λ result. ⌜ ((x y : Projection) (js ks ls : List Pair) → LeftNamed (now (left .entry)) (now («left_constants» .entry)) pair (now (tables .entry)) (now (spots .entry)) (now (news .entry)) x js ks → RightNamed (now (right .entry)) (now («right_constants» .entry)) pair (now (tables .entry)) (now (spots .entry)) (now (news .entry)) y js ls → em result (now (out .exit)) ≡ puts (now (head .entry) ++ layout (mergedTree x y js ks ls)) (em 0 (now (out .entry)))) ⌝ }
+    ensures { λ result. ⌜ ((x y : Projection) (js ks ls : List Pair) → LeftNamed (now (left .entry)) (now («left_constants» .entry)) pair (now (tables .entry)) (now (spots .entry)) (now (news .entry)) x js ks → RightNamed (now (right .entry)) (now («right_constants» .entry)) pair (now (tables .entry)) (now (spots .entry)) (now (news .entry)) y js ls → em result (now (out .exit)) ≡ puts (now (head .entry) ++ layout (combinedTree (pair .minus) x y js ks ls)) (em 0 (now (out .entry)))) ⌝ }
 {
     let k = pair.spots;
     let a = put_head(head, left, right, pair, gone, tables, spots, news, out);
@@ -189,7 +196,7 @@ fn merge_ready(
     out: &mut [u8],
 ) -> Answer
     requires { ⌜ ((x : Projection) × (y : Projection) × (js : List Pair) × (ks : List Pair) × (ls : List Pair) × LeftNamed (now left) (now «left_constants») pair (now tables) (now spots) (now news) x js ks × RightNamed (now right) (now «right_constants») pair (now tables) (now spots) (now news) y js ls) × (pair .spots ≤ length (now spots)) ⌝ }
-    ensures { λ result. ⌜ ((x y : Projection) (js ks ls : List Pair) → LeftNamed (now (left .entry)) (now («left_constants» .entry)) pair (now (tables .entry)) (now (spots .entry)) (now (news .entry)) x js ks → RightNamed (now (right .entry)) (now («right_constants» .entry)) pair (now (tables .entry)) (now (spots .entry)) (now (news .entry)) y js ls → Answered (joinedBehind (now (head .entry)) x y js ks ls) (now (out .entry)) (now (out .exit)) result) ⌝ }
+    ensures { λ result. ⌜ ((x y : Projection) (js ks ls : List Pair) → LeftNamed (now (left .entry)) (now («left_constants» .entry)) pair (now (tables .entry)) (now (spots .entry)) (now (news .entry)) x js ks → RightNamed (now (right .entry)) (now («right_constants» .entry)) pair (now (tables .entry)) (now (spots .entry)) (now (news .entry)) y js ls → Answered (joinedBehind (pair .minus) (now (head .entry)) x y js ks ls) (now (out .entry)) (now (out .exit)) result) ⌝ }
 {
     let mut none = [0u8; 0];
     let gone = gone_of(left, right, pair, tables, spots, news);
@@ -240,7 +247,7 @@ fn merge_found(
     out: &mut [u8],
 ) -> Answer
     requires { ⌜ ((x : Projection) × (y : Projection) × (js : List Pair) × (ks : List Pair) × (ls : List Pair) × IsFound (now left) (getD (now tables) 0 []) (take (pair .spots) (now spots)) false (now «left_constants») (pair .left) x js ks × IsFound (now right) (getD (now tables) 1 []) (rest (pair .spots) (now spots)) true (now «right_constants») (pair .right) y js ls) × Worded (now words) × BothShaped (now words) (now nodes) (pair .nodes) (now spots) (pair .spots) ⌝ }
-    ensures { λ result. ⌜ ((x y : Projection) (js ks ls : List Pair) → IsFound (now (left .entry)) (getD (now (tables .entry)) 0 []) (take (pair .spots) (now (spots .entry))) false (now («left_constants» .entry)) (pair .left) x js ks → IsFound (now (right .entry)) (getD (now (tables .entry)) 1 []) (rest (pair .spots) (now (spots .entry))) true (now («right_constants» .entry)) (pair .right) y js ls → Answered (joinedBehind (now (head .entry)) x y js ks ls) (now (out .entry)) (now (out .exit)) result) ⌝ }
+    ensures { λ result. ⌜ ((x y : Projection) (js ks ls : List Pair) → IsFound (now (left .entry)) (getD (now (tables .entry)) 0 []) (take (pair .spots) (now (spots .entry))) false (now («left_constants» .entry)) (pair .left) x js ks → IsFound (now (right .entry)) (getD (now (tables .entry)) 1 []) (rest (pair .spots) (now (spots .entry))) true (now («right_constants» .entry)) (pair .right) y js ls → Answered (joinedBehind (pair .minus) (now (head .entry)) x y js ks ls) (now (out .entry)) (now (out .exit)) result) ⌝ }
 {
     let mut news = [[[0u16; 2]; 1024]; 2];
     let k = pair.spots;
@@ -283,7 +290,7 @@ fn merge_found(
     )
 }
 
-// merge_project_patterns for two projects, behind a head: both sides are found, 3 if a position is outside, then
+// merge_project_patterns for two projects, or without's, behind a head: both sides are found, 3 if a position is outside, then
 // named, 10 if one stands twice on its side, and merged.
 pub fn merge_projects(
     words: &[WordRow; 56],
@@ -300,7 +307,7 @@ pub fn merge_projects(
     out: &mut [u8],
 ) -> Answer
     requires { ⌜ ((x : Projection) × StandsAt 0 (now left) (texts .left) (now tables) (take (texts .spots) (now spots)) (tree x)) × ((y : Projection) × StandsAt 1 (now right) (texts .right) (now tables) (rest (texts .spots) (now spots)) (tree y)) × ListsRead (now pairs) (now «left_constants») (now «right_constants») × Worded (now words) × BothShaped (now words) (now nodes) (texts .nodes) (now spots) (texts .spots) ⌝ }
-    ensures { λ r. ⌜ ((x y : Projection) (js ks ls : List Pair) → StandsAt 0 (now (left .entry)) (texts .left) (now (tables .entry)) (take (texts .spots) (now (spots .entry))) (tree x) → StandsAt 1 (now (right .entry)) (texts .right) (now (tables .entry)) (rest (texts .spots) (now (spots .entry))) (tree y) → Lists (now (pairs .entry)) (now («left_constants» .entry)) (now («right_constants» .entry)) js ks ls → Answered (joinedBehind (now (head .entry)) x y js ks ls) (now (out .entry)) (now (out .exit)) r) ⌝ }
+    ensures { λ r. ⌜ ((x y : Projection) (js ks ls : List Pair) → StandsAt 0 (now (left .entry)) (texts .left) (now (tables .entry)) (take (texts .spots) (now (spots .entry))) (tree x) → StandsAt 1 (now (right .entry)) (texts .right) (now (tables .entry)) (rest (texts .spots) (now (spots .entry))) (tree y) → Lists (now (pairs .entry)) (now («left_constants» .entry)) (now («right_constants» .entry)) js ks ls → Answered (joinedBehind (texts .minus) (now (head .entry)) x y js ks ls) (now (out .entry)) (now (out .exit)) r) ⌝ }
 {
     let l = find_side(left, texts.left, pairs, false, left_constants);
     if !l.outline.inside {
@@ -320,6 +327,7 @@ pub fn merge_projects(
             right: r,
             spots: texts.spots,
             nodes: texts.nodes,
+            minus: texts.minus,
         },
         tables,
         nodes,

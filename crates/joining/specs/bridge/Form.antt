@@ -1,4 +1,4 @@
--- The two forms of a merge's texts, trees (false) or queries (true): one reading, one outcome, and what the code knows of a text of each. Assumes nothing.
+-- The two forms of a merge's texts, trees (false) or queries (true), and its two ways, by a join (false) or by a minus (true): one reading, one outcome, and what the code knows of a text of each. Assumes nothing.
 use Prim.Native.Nat.{ℕ, _≤_}
 use mathlib.Core.Path.{_≡_}
 use mathlib.Core.List.{List, [], _++_}
@@ -17,8 +17,9 @@ use Rattle.checking.specs.declared.check.Noting.the-variants.{Good, Malformed, 
 use Rattle.heads.specs.bridge.TreeAt.{headLine, HeadOf, Starts}
 use Rattle.descending.specs.bridge.Renamed.{Shaped}
 use Rattle.merging.specs.Request.{made, readConstants}
-use Rattle.merging.specs.Merge.{lists, mergeable, mergeTrees}
+use Rattle.merging.specs.Merge.{lists, mergeable}
 use Rattle.merging.specs.Push.{pushConstants}
+use Rattle.merging.specs.bridge.Combined.{combineTrees}
 use Rattle.sides.specs.bridge.Side.{Stands}
 use Rattle.projects.specs.bridge.Joining.{HasRoom, HasNodes, HalfRoom, HalfNodes}
 
@@ -46,27 +47,27 @@ abbrev pub mayMerge : Bool → Query → Query → Bool
 mayMerge false a b = true
 mayMerge true a b = mergeable a b
 
--- two trees behind a head and any lists: the lists, 5, 4, 3, 10, the head and the merged tree
-unfoldable pub listedBehind : Bool → Bytes → Pattern → Pattern → Bytes → Bytes → Bytes → Outcome
-unfolding mergeTrees layout
-listedBehind may head p q pairs leftConstants rightConstants =
+-- two trees behind a head and any lists: the lists, 5, 4, 11, 3, 10, the head and the merged tree or without's
+unfoldable pub listedBehind : Bool → Bool → Bytes → Pattern → Pattern → Bytes → Bytes → Bytes → Outcome
+unfolding combineTrees layout
+listedBehind less may head p q pairs leftConstants rightConstants =
     lists pairs leftConstants rightConstants λ js ks ls.
     refusedUnless 5 may
-    (mergeTrees p q js ks ls λ t. written (head ++ layout t))
+    (combineTrees less p q js ks ls λ t. written (head ++ layout t))
 
 -- a left text that says a, and the four other texts
-unfoldable pub mergeWith : Bool → Query → Bytes → Bytes → Bytes → Bytes → Outcome
+unfoldable pub mergeWith : Bool → Bool → Query → Bytes → Bytes → Bytes → Bytes → Outcome
 unfolding readGivenTree readGivenQuery mergeable listedBehind
-mergeWith query a right pairs leftConstants rightConstants =
+mergeWith less query a right pairs leftConstants rightConstants =
     then (readForm query right) λ b.
-    listedBehind (mayMerge query a b) (headOf query a) (a .tree) (b .tree) pairs leftConstants rightConstants
+    listedBehind less (mayMerge query a b) (headOf query a) (a .tree) (b .tree) pairs leftConstants rightConstants
 
--- merge patterns and merge queries
-unfoldable pub mergeOutcome : Bool → Bytes → Bytes → Bytes → Bytes → Bytes → Outcome
+-- merge patterns, merge queries and, with no constants, without
+unfoldable pub mergeOutcome : Bool → Bool → Bytes → Bytes → Bytes → Bytes → Bytes → Outcome
 unfolding readGivenTree readGivenQuery mergeWith
-mergeOutcome query left right pairs leftConstants rightConstants =
+mergeOutcome less query left right pairs leftConstants rightConstants =
     then (readForm query left) λ a.
-    mergeWith query a right pairs leftConstants rightConstants
+    mergeWith less query a right pairs leftConstants rightConstants
 
 -- push constants, for a query that is read
 unfoldable pub pushWith : Query → Bytes → Outcome

@@ -2,6 +2,7 @@
 use Prim.Native.Nat.{ℕ, _*_, _-_, _/_, _≤_}
 use mathlib.Core.Path.{_≡_}
 use mathlib.Core.List.{List, [], _++_}
+use mathlib.Core.Bool.{Bool}
 use lib.ListN.{length, getD, take, drop}
 use Rattle.text.specs.Text.{Bytes}
 use Rattle.algebra.specs.Tree.{Pattern}
@@ -21,9 +22,10 @@ use Rattle.scoping.specs.Premises.{inside}
 use Rattle.heads.specs.bridge.TreeAt.{TreeAt}
 use Rattle.merging.specs.Sides.{Constant, Pair as Joined}
 use Rattle.merging.specs.Request.{Projection, tree, readJoins, readConstants, joinPositions, byPosition, constantsIn, positions, request, allInside}
-use Rattle.merging.specs.Merge.{lists, mergeProjectPatterns, mergeTrees}
+use Rattle.merging.specs.Merge.{lists}
 use Rattle.merging.specs.Push.{pushConstantsInProjectPattern}
 use Rattle.merging.specs.bridge.Twice.{noneTwice}
+use Rattle.merging.specs.bridge.Combined.{combined, combineTrees}
 use Rattle.sides.specs.declared.side.Standing.{Standing}
 use Rattle.descending.specs.bridge.Renamed.{Shaped}
 use Rattle.columns.specs.bridge.Listed.{Listed}
@@ -103,20 +105,20 @@ pub record Lists (pairs leftConstants rightConstants : Bytes) (js ks ls : List P
   pub left-terms : Terms leftConstants ks
   pub right-terms : Terms rightConstants ls
 
--- the merged tree
-abbrev pub mergedTree : Projection → Projection → List Pair → List Pair → List Pair → Pattern
-mergedTree x y js ks ls = mergeProjectPatterns (request x y (joinPositions js) (byPosition (constantsIn ks)) (byPosition (constantsIn ls)))
+-- the merged tree, or without's
+abbrev pub combinedTree : Bool → Projection → Projection → List Pair → List Pair → List Pair → Pattern
+combinedTree less x y js ks ls = combined less (request x y (joinPositions js) (byPosition (constantsIn ks)) (byPosition (constantsIn ls)))
 
--- 4, 3, 10, else what stands before the left tree and the merged tree
-abbrev pub mergedBehind : Bytes → Pattern → Pattern → List Pair → List Pair → List Pair → Outcome
-mergedBehind head p q js ks ls = mergeTrees p q (joinPositions js) (byPosition (constantsIn ks)) (byPosition (constantsIn ls)) (λ t. written (head ++ layout t))
+-- 4, 11, 3, 10, else what stands before the left tree and that tree
+abbrev pub combinedBehind : Bool → Bytes → Pattern → Pattern → List Pair → List Pair → List Pair → Outcome
+combinedBehind less head p q js ks ls = combineTrees less p q (joinPositions js) (byPosition (constantsIn ks)) (byPosition (constantsIn ls)) (λ t. written (head ++ layout t))
 
--- the same for two projects
-abbrev pub joinedBehind : Bytes → Projection → Projection → List Pair → List Pair → List Pair → Outcome
-joinedBehind head x y js ks ls =
+-- the same for two projects, and pairs where they are asked for
+abbrev pub joinedBehind : Bool → Bytes → Projection → Projection → List Pair → List Pair → List Pair → Outcome
+joinedBehind less head x y js ks ls =
     refusedUnless 3 (allInside (request x y (joinPositions js) (byPosition (constantsIn ks)) (byPosition (constantsIn ls))))
     (refusedUnless 10 (noneTwice (joinPositions js))
-    (written (head ++ layout (mergedTree x y js ks ls))))
+    (written (head ++ layout (combinedTree less x y js ks ls))))
 
 -- ---- the lists of a merge, checked
 

@@ -1,11 +1,12 @@
 -- Two sides of a merge, whose tables stand in arrays of two and whose variables stand in one array: what is known of each, and which right columns go. Assumes nothing.
 use Prim.Native.Nat.{ℕ, _-_, _≤_}
 use mathlib.Core.Path.{_≡_}
-use mathlib.Core.List.{List, []}
-use mathlib.Core.Bool.{true, false}
+use mathlib.Core.List.{List, [], _++_}
+use mathlib.Core.Bool.{Bool, true, false}
 use lib.ListN.{length, getD, take}
 use lib.Count.{ones}
 use Rattle.text.specs.Text.{Bytes}
+use Rattle.text.specs.Word.{bytes}
 use Rattle.algebra.specs.Query.{Pair}
 use Rattle.scoping.specs.Label.{prefixL, prefixR}
 use Rattle.merging.specs.Request.{Projection}
@@ -41,3 +42,12 @@ pub record HeaderFits (l : Outline) (cs : List Bytes) (gone : ℕ) (r : Outline)
   pub left : l .columns - ones (maskValue (l .constant)) ≡ length (picked 0 (maskValue (l .constant)) cs)
   pub right-room : ones gone ≤ r .columns
   pub right : r .columns - ones gone ≡ length (picked 0 gone ds)
+
+-- the columns that are written, and the word below them: of a merge (false) or of without (true)
+unfoldable pub headColumns : Bool → List Bytes → List Bytes → List Bytes
+headColumns false cs ds = cs ++ ds
+headColumns true cs ds = cs
+
+unfoldable pub headWord : Bool → Bytes
+headWord false = bytes "join"
+headWord true = bytes "minus"

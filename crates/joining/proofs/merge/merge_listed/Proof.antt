@@ -16,5 +16,5 @@ merge-listed-spec =
     (λ c. search needs)
     (λ c. search needs)
     (λ c. let c3 = c .before .before .before in c3 .merge-checked .ensures)
-    (λ c p q s t. let c2 = c .before .before in Calls.lists-malformed _ _ p q _ _ _ _ _ (c2 .check-lists .ensures) (c .enum-told2 .given .1))
-    (λ c p q s t. let c2 = c .before .before in Calls.lists-over _ _ p q _ _ _ _ _ (c2 .check-lists .ensures) (c .enum-told3 .given .1)))
+    (λ c p q s t. let c2 = c .before .before in Calls.lists-malformed _ _ _ p q _ _ _ _ _ (c2 .check-lists .ensures) (c .enum-told2 .given .1))
+    (λ c p q s t. let c2 = c .before .before in Calls.lists-over _ _ _ p q _ _ _ _ _ (c2 .check-lists .ensures) (c .enum-told3 .given .1)))

@@ -15,4 +15,4 @@ merge-patterns-spec =
     (tie.spec
     (λ c κs. search needs)
     (λ c. search needs)
-    (λ c. let c2 = c .before .before in let c10 = c2 .before .before .before .before .before .before .before .before in A.answered (mergeOutcome false (c10 .args .left .now) (c10 .args .right .now) (c10 .args .pairs .now) (c10 .args .left-constants .now) (c10 .args .right-constants .now)) (mergePatternsOutcome (c10 .args .left .now) (c10 .args .right .now) (c10 .args .pairs .now) (c10 .args .left-constants .now) (c10 .args .right-constants .now)) (c10 .args .out .now) (c2 .merge-texts .last .1 .1 .1 .1 .1 .1 .0) (c2 .merge-texts .result) (sym (Calls.of-trees _ _ _ _ _)) (c2 .merge-texts .ensures)))
+    (λ c. let c2 = c .before .before in let c10 = c2 .before .before .before .before .before .before .before .before in A.answered (mergeOutcome false false (c10 .args .left .now) (c10 .args .right .now) (c10 .args .pairs .now) (c10 .args .left-constants .now) (c10 .args .right-constants .now)) (mergePatternsOutcome (c10 .args .left .now) (c10 .args .right .now) (c10 .args .pairs .now) (c10 .args .left-constants .now) (c10 .args .right-constants .now)) (c10 .args .out .now) (c2 .merge-texts .last .1 .1 .1 .1 .1 .1 .0) (c2 .merge-texts .result) (sym (Calls.of-trees _ _ _ _ _)) (c2 .merge-texts .ensures)))
