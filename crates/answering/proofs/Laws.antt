@@ -21,14 +21,15 @@ use Rattle.renaming.specs.Rename.{renameOutcome}
 use Rattle.merging.specs.Merge.{mergePatternsOutcome, mergeQueriesOutcome}
 use Rattle.merging.specs.Push.{pushConstantsOutcome}
 use Rattle.merging.specs.Negate.{negateOutcome}
+use Rattle.merging.specs.Without.{withoutQueriesOutcome}
 use Rattle.filtering.specs.Bindings.{bindingsOutcome}
 use Rattle.filtering.specs.Filters.{filtersOutcome}
 use Rattle.filtering.specs.NotPlaced.{filtersNotPlaced}
 use Rattle.answering.specs.Answering.{Call, calls, called, calledList, callInput, inputList, numberIn, callNumber}
 
--- what holds of each of the eight and behind them holds of every number
-module _ (P : ℕ → Type 0) (p0 : P 0) (p1 : P 1) (p2 : P 2) (p3 : P 3) (p4 : P 4) (p5 : P 5) (p6 : P 6) (p7 : P 7) where
-  pub by-number : ((k : ℕ) → P (suc (suc (suc (suc (suc (suc (suc (suc k))))))))) → (k : ℕ) → P k
+-- what holds of each of the nine and behind them holds of every number
+module _ (P : ℕ → Type 0) (p0 : P 0) (p1 : P 1) (p2 : P 2) (p3 : P 3) (p4 : P 4) (p5 : P 5) (p6 : P 6) (p7 : P 7) (p8 : P 8) where
+  pub by-number : ((k : ℕ) → P (suc (suc (suc (suc (suc (suc (suc (suc (suc k)))))))))) → (k : ℕ) → P k
   by-number more zero = p0
   by-number more (suc zero) = p1
   by-number more (suc (suc zero)) = p2
@@ -37,7 +38,8 @@ module _ (P : ℕ → Type 0) (p0 : P 0) (p1 : P 1) (p2 : P 2) (p3 : P 3) (p4 : 
   by-number more (suc (suc (suc (suc (suc zero))))) = p5
   by-number more (suc (suc (suc (suc (suc (suc zero)))))) = p6
   by-number more (suc (suc (suc (suc (suc (suc (suc zero))))))) = p7
-  by-number more (suc (suc (suc (suc (suc (suc (suc (suc k)))))))) = more k
+  by-number more (suc (suc (suc (suc (suc (suc (suc (suc zero)))))))) = p8
+  by-number more (suc (suc (suc (suc (suc (suc (suc (suc (suc k))))))))) = more k
 
 -- ---- a call's row
 
@@ -77,24 +79,35 @@ pub row-filters : (a b : Bytes) → called 7 (a ∷ b ∷ []) ≡ filtersOutcome
 unfolding called
 row-filters a b = refl
 
--- no call that reads one text, two, or five
+pub row-without : (a b c : Bytes) → called 8 (a ∷ b ∷ c ∷ []) ≡ withoutQueriesOutcome a b c
+unfolding called
+row-without a b c = refl
+
+-- no call that reads one text, two, three, or five
 pub none-of-one : (k : ℕ) (a out : Bytes) → (k ≡ 0 → ⊥) → (k ≡ 5 → ⊥) → Answered (called k (a ∷ [])) out out Malformed
 unfolding called Reported
-none-of-one k a out = by-number (λ k. (k ≡ 0 → ⊥) → (k ≡ 5 → ⊥) → Answered (called k (a ∷ [])) out out Malformed) (λ h i. absurd (h refl)) here here here here (λ h i. absurd (i refl)) here here (λ k. here) k
+none-of-one k a out = by-number (λ k. (k ≡ 0 → ⊥) → (k ≡ 5 → ⊥) → Answered (called k (a ∷ [])) out out Malformed) (λ h i. absurd (h refl)) here here here here (λ h i. absurd (i refl)) here here here (λ k. here) k
   where
     here : {n : ℕ} → (n ≡ 0 → ⊥) → (n ≡ 5 → ⊥) → Answered (refused 1) out out Malformed
     here h i = (refl, refl, refl)
 
 pub none-of-two : (k : ℕ) (a b out : Bytes) → (k ≡ 1 → ⊥) → (k ≡ 4 → ⊥) → (k ≡ 6 → ⊥) → (k ≡ 7 → ⊥) → Answered (called k (a ∷ b ∷ [])) out out Malformed
 unfolding called Reported
-none-of-two k a b out = by-number (λ k. (k ≡ 1 → ⊥) → (k ≡ 4 → ⊥) → (k ≡ 6 → ⊥) → (k ≡ 7 → ⊥) → Answered (called k (a ∷ b ∷ [])) out out Malformed) here (λ h i j l. absurd (h refl)) here here (λ h i j l. absurd (i refl)) here (λ h i j l. absurd (j refl)) (λ h i j l. absurd (l refl)) (λ k. here) k
+none-of-two k a b out = by-number (λ k. (k ≡ 1 → ⊥) → (k ≡ 4 → ⊥) → (k ≡ 6 → ⊥) → (k ≡ 7 → ⊥) → Answered (called k (a ∷ b ∷ [])) out out Malformed) here (λ h i j l. absurd (h refl)) here here (λ h i j l. absurd (i refl)) here (λ h i j l. absurd (j refl)) (λ h i j l. absurd (l refl)) here (λ k. here) k
   where
     here : {n : ℕ} → (n ≡ 1 → ⊥) → (n ≡ 4 → ⊥) → (n ≡ 6 → ⊥) → (n ≡ 7 → ⊥) → Answered (refused 1) out out Malformed
     here h i j l = (refl, refl, refl)
 
+pub none-of-three : (k : ℕ) (a b c out : Bytes) → (k ≡ 8 → ⊥) → Answered (called k (a ∷ b ∷ c ∷ [])) out out Malformed
+unfolding called Reported
+none-of-three k a b c out = by-number (λ k. (k ≡ 8 → ⊥) → Answered (called k (a ∷ b ∷ c ∷ [])) out out Malformed) here here here here here here here here (λ h. absurd (h refl)) (λ k. here) k
+  where
+    here : {n : ℕ} → (n ≡ 8 → ⊥) → Answered (refused 1) out out Malformed
+    here h = (refl, refl, refl)
+
 pub none-of-five : (k : ℕ) (a b c d e out : Bytes) → (k ≡ 2 → ⊥) → (k ≡ 3 → ⊥) → Answered (called k (a ∷ b ∷ c ∷ d ∷ e ∷ [])) out out Malformed
 unfolding called Reported
-none-of-five k a b c d e out = by-number (λ k. (k ≡ 2 → ⊥) → (k ≡ 3 → ⊥) → Answered (called k (a ∷ b ∷ c ∷ d ∷ e ∷ [])) out out Malformed) here here (λ h i. absurd (h refl)) (λ h i. absurd (i refl)) here here here here (λ k. here) k
+none-of-five k a b c d e out = by-number (λ k. (k ≡ 2 → ⊥) → (k ≡ 3 → ⊥) → Answered (called k (a ∷ b ∷ c ∷ d ∷ e ∷ [])) out out Malformed) here here (λ h i. absurd (h refl)) (λ h i. absurd (i refl)) here here here here here (λ k. here) k
   where
     here : {n : ℕ} → (n ≡ 2 → ⊥) → (n ≡ 3 → ⊥) → Answered (refused 1) out out Malformed
     here h i = (refl, refl, refl)
@@ -112,7 +125,7 @@ listed-row n k ts o xs out after lent left r m e f h a = rw (h, e, f) a
 -- of another number of texts than two there is none
 none-listed : (k : ℕ) (ts : List Bytes) → (length ts ≡ 2 → ⊥) → calledList k ts ≡ []
 unfolding calledList
-none-listed k ts h = by-number (λ k. calledList k ts ≡ []) (of 1) (of 2) (of 5) (of 5) (of 2) (of 1) (of 2) (rw (ne-eqb (length ts) 2 h)) (λ k. of 0) k
+none-listed k ts h = by-number (λ k. calledList k ts ≡ []) (of 1) (of 2) (of 5) (of 5) (of 2) (of 1) (of 2) (rw (ne-eqb (length ts) 2 h)) (of 3) (λ k. of 0) k
   where
     none : (b : Bool) → cond {A = List ℕ} b [] [] ≡ []
     none true = refl
@@ -131,12 +144,12 @@ unfolding calledList
 other-listed k a b out after lent r h x = rw (none k h) (both-none (called k (a ∷ b ∷ [])) out after lent r x)
   where
     none : (n : ℕ) → (n ≡ 7 → ⊥) → calledList n (a ∷ b ∷ []) ≡ []
-    none n = by-number (λ n. (n ≡ 7 → ⊥) → calledList n (a ∷ b ∷ []) ≡ []) (λ i. refl) (λ i. refl) (λ i. refl) (λ i. refl) (λ i. refl) (λ i. refl) (λ i. refl) (λ i. absurd (i refl)) (λ k i. refl) n
+    none n = by-number (λ n. (n ≡ 7 → ⊥) → calledList n (a ∷ b ∷ []) ≡ []) (λ i. refl) (λ i. refl) (λ i. refl) (λ i. refl) (λ i. refl) (λ i. refl) (λ i. refl) (λ i. absurd (i refl)) (λ i. refl) (λ k i. refl) n
 
 -- another number of texts than any call reads
-pub none-of-others : (k : ℕ) (ts : List Bytes) (out : Bytes) → (length ts ≡ 0 → ⊥) → (length ts ≡ 1 → ⊥) → (length ts ≡ 2 → ⊥) → (length ts ≡ 5 → ⊥) → Answered (called k ts) out out Malformed
+pub none-of-others : (k : ℕ) (ts : List Bytes) (out : Bytes) → (length ts ≡ 0 → ⊥) → (length ts ≡ 1 → ⊥) → (length ts ≡ 2 → ⊥) → (length ts ≡ 3 → ⊥) → (length ts ≡ 5 → ⊥) → Answered (called k ts) out out Malformed
 unfolding called Reported
-none-of-others k ts out h0 h1 h2 h5 = by-number (λ k. Answered (called k ts) out out Malformed) (not 1 _ h1) (not 2 _ h2) (not 5 _ h5) (not 5 _ h5) (not 2 _ h2) (not 1 _ h1) (not 2 _ h2) (not 2 _ h2) (λ k. not 0 _ h0) k
+none-of-others k ts out h0 h1 h2 h3 h5 = by-number (λ k. Answered (called k ts) out out Malformed) (not 1 _ h1) (not 2 _ h2) (not 5 _ h5) (not 5 _ h5) (not 2 _ h2) (not 1 _ h1) (not 2 _ h2) (not 2 _ h2) (not 3 _ h3) (λ k. not 0 _ h0) k
   where
     not : (n : ℕ) (o : Outcome) → (length ts ≡ n → ⊥) → Answered (cond (eqb (length ts) n) o (refused 1)) out out Malformed
     not n o h = rw (ne-eqb (length ts) n h) (refl, refl, refl)
@@ -179,10 +192,12 @@ texts-more n (t ∷ vs) us a h e more = ap₂ _∷_ (sym e) (more vs (omega arit
 pub texts-two : (ts : List Bytes) (a b : Bytes) → length ts ≡ 2 → a ≡ getD ts 0 [] → b ≡ getD ts 1 [] → ts ≡ a ∷ b ∷ []
 texts-two ts a b h e f = texts-more 1 ts _ a h e λ vs n g. texts-one vs b n (f ∙ g 0)
 
+pub texts-three : (ts : List Bytes) (a b c : Bytes) → length ts ≡ 3 → a ≡ getD ts 0 [] → b ≡ getD ts 1 [] → c ≡ getD ts 2 [] → ts ≡ a ∷ b ∷ c ∷ []
+texts-three ts a b c h ea eb ec = texts-more 2 ts _ a h ea λ us n f. texts-two us b c n (eb ∙ f 0) (ec ∙ f 1)
+
 pub texts-five : (ts : List Bytes) (a b c d e : Bytes) → length ts ≡ 5 → a ≡ getD ts 0 [] → b ≡ getD ts 1 [] → c ≡ getD ts 2 [] → d ≡ getD ts 3 [] → e ≡ getD ts 4 [] → ts ≡ a ∷ b ∷ c ∷ d ∷ e ∷ []
 texts-five ts a b c d e h ea eb ec ed ee =
-    texts-more 4 ts _ a h ea λ us n f. texts-more 3 us _ b n (eb ∙ f 0) λ vs m g. texts-more 2 vs _ c m (ec ∙ f 1 ∙ g 0)
-    λ ws l i. texts-two ws d e l (ed ∙ f 2 ∙ g 1 ∙ i 0) (ee ∙ f 3 ∙ g 2 ∙ i 1)
+    texts-more 4 ts _ a h ea λ us n f. texts-more 3 us _ b n (eb ∙ f 0) λ vs m g. texts-three vs c d e m (ec ∙ f 1 ∙ g 0) (ed ∙ f 2 ∙ g 1) (ee ∙ f 3 ∙ g 2)
 
 -- ---- an input
 
@@ -195,14 +210,20 @@ module _ (k : ℕ) (s : Bytes) where
   unfolding callInput inputList
   answer-texts ts out after lent left r m h e a = rw (le-leb (length s) 65536 h, e) a
 
-  -- a call of one text or of five, which lists nothing
+  -- a call of another number of texts than two lists nothing
   pub answer-plain : (ts : List Bytes) (out after : Bytes) (lent : List ℕ) (r : Answer) → length s ≤ 65536 → texts s ≡ ts → (length ts ≡ 2 → ⊥) → Answered (called k ts) out after r → AnsweredBoth (callInput k s) (inputList k s) out after lent lent r 0
   answer-plain ts out after lent r h e n a = answer-texts ts out after lent lent r 0 h e (not-listed k ts out after lent r a n)
 
-  pub answer-none : (out : Bytes) (lent : List ℕ) (b : ℕ) → length s ≤ 65536 → length (texts s) ≡ b + 1 → (b ≡ 0 → ⊥) → (b ≡ 1 → ⊥) → (b ≡ 4 → ⊥) → AnsweredBoth (callInput k s) (inputList k s) out out lent lent Malformed 0
-  answer-none out lent b h e h0 h1 h4 =
+  -- a call with these texts
+  pub called-texts : (ts : List Bytes) (out after : Bytes) (r : Answer) → texts s ≡ ts → Answered (called k ts) out after r → Answered (called k (texts s)) out after r
+  called-texts ts out after r e a = rw e a
+
+  -- one more text than these, and no call reads so many
+  pub called-none : (out : Bytes) (b : ℕ) → (b ≡ 2 → ⊥) → (b ≡ 4 → ⊥) → length (texts s) ≡ b + 1 → (b ≡ 0 → ⊥) → (b ≡ 1 → ⊥) → Answered (called k (texts s)) out out Malformed
+  called-none out b h2 h4 e h0 h1 =
       let i0 : length (texts s) ≡ 0 → ⊥ = omega arith in
       let i1 : length (texts s) ≡ 1 → ⊥ = λ q. h0 (omega arith) in
       let i2 : length (texts s) ≡ 2 → ⊥ = λ q. h1 (omega arith) in
+      let i3 : length (texts s) ≡ 3 → ⊥ = λ q. h2 (omega arith) in
       let i5 : length (texts s) ≡ 5 → ⊥ = λ q. h4 (omega arith) in
-      answer-plain (texts s) out out lent Malformed h refl i2 (none-of-others k (texts s) out i0 i1 i2 i5)
+      none-of-others k (texts s) out i0 i1 i2 i3 i5

@@ -27,7 +27,7 @@ use Rattle.merging.specs.Request.{Projection, asProject, readConstants, positio
 use Rattle.merging.specs.Merge.{isSelectOrAsk}
 use Rattle.merging.specs.Push.{pushed, pushConstants, pushConstantsOutcome}
 use Rattle.merging.specs.Negate.{negateOutcome}
-use Rattle.merging.proofs.Numbered.{merge-patterns-numbered, merge-queries-numbered}
+use Rattle.merging.proofs.Numbered.{merge-patterns-numbered, merge-queries-numbered, without-numbered}
 use Rattle.negating.specs.Projections.{outermostProjection}
 use Rattle.filtering.specs.IfFound.{ifFound}
 use Rattle.filtering.specs.Bindings.{positionsInside, valuesUsable, bindingsOutcome}
@@ -87,7 +87,7 @@ called-numbered : (k : ℕ) (ts : List Bytes) → Numbered (called k ts)
 unfolding called Numbered
 called-numbered k ts =
     by-number (λ k. Numbered (called k ts)) (of 1 _ (scope-numbered _)) (of 2 _ (rename-numbered _ _)) (of 5 _ (merge-patterns-numbered _ _ _ _ _))
-    (of 5 _ (merge-queries-numbered _ _ _ _ _)) (of 2 _ (push-numbered _ _)) (of 1 _ (negate-numbered _)) (of 2 _ (bindings-numbered _ _)) (of 2 _ (filters-numbered _ _))
+    (of 5 _ (merge-queries-numbered _ _ _ _ _)) (of 2 _ (push-numbered _ _)) (of 1 _ (negate-numbered _)) (of 2 _ (bindings-numbered _ _)) (of 2 _ (filters-numbered _ _)) (of 3 _ (without-numbered _ _ _))
     (λ k. of 0 (refused 1) (λ z. omega arith)) k
   where
     of : (n : ℕ) (o : Outcome) → Numbered o → Numbered (cond (eqb (length ts) n) o (refused 1))
@@ -106,7 +106,7 @@ listed-few tree filters = list-in-bounds (readGivenTree tree) filters
 
 pub input-list-few : (k : ℕ) (s : Bytes) → Few (inputList k s)
 unfolding inputList calledList Few
-input-list-few k s = few-of (leb (length s) 65536) _ (by-number (λ k. Few (calledList k (texts s))) (none 1) (none 2) (none 5) (none 5) (none 2) (none 1) (none 2) (few-of (eqb (length (texts s)) 2) _ (listed-few _ _)) (λ k. none 0) k)
+input-list-few k s = few-of (leb (length s) 65536) _ (by-number (λ k. Few (calledList k (texts s))) (none 1) (none 2) (none 5) (none 5) (none 2) (none 1) (none 2) (few-of (eqb (length (texts s)) 2) _ (listed-few _ _)) (none 3) (λ k. none 0) k)
   where
     few-of : (b : Bool) (xs : List ℕ) → Few xs → Few (cond b xs [])
     few-of true xs f = f

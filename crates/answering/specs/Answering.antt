@@ -14,6 +14,7 @@ use Rattle.renaming.specs.Rename.{renameOutcome}
 use Rattle.merging.specs.Merge.{mergePatternsOutcome, mergeQueriesOutcome}
 use Rattle.merging.specs.Push.{pushConstantsOutcome}
 use Rattle.merging.specs.Negate.{negateOutcome}
+use Rattle.merging.specs.Without.{withoutQueriesOutcome}
 use Rattle.filtering.specs.Bindings.{bindingsOutcome}
 use Rattle.filtering.specs.Filters.{filtersOutcome}
 use Rattle.filtering.specs.NotPlaced.{filtersNotPlaced}
@@ -25,12 +26,15 @@ pub record Call : Type 0 where
   pub outcome : List Bytes → Outcome
   pub list : List Bytes → List ℕ
 
--- a call that reads one text, two, or five
+-- a call that reads one text, two, three, or five
 abbrev pub one : String → (Bytes → Outcome) → Call
 one n f = record { name = bytes n; reads = 1; outcome = λ ts. f (getD ts 0 []); list = λ ts. [] }
 
 abbrev pub two : String → (Bytes → Bytes → Outcome) → Call
 two n f = record { name = bytes n; reads = 2; outcome = λ ts. f (getD ts 0 []) (getD ts 1 []); list = λ ts. [] }
+
+abbrev pub three : String → (Bytes → Bytes → Bytes → Outcome) → Call
+three n f = record { name = bytes n; reads = 3; outcome = λ ts. f (getD ts 0 []) (getD ts 1 []) (getD ts 2 []); list = λ ts. [] }
 
 abbrev pub five : String → (Bytes → Bytes → Bytes → Bytes → Bytes → Outcome) → Call
 five n f = record { name = bytes n; reads = 5; outcome = λ ts. f (getD ts 0 []) (getD ts 1 []) (getD ts 2 []) (getD ts 3 []) (getD ts 4 []); list = λ ts. [] }
@@ -50,6 +54,7 @@ calls =
     ∷ one "negate" negateOutcome
     ∷ two "bindings" bindingsOutcome
     ∷ listing "filters" filtersOutcome filtersNotPlaced
+    ∷ three "without" withoutQueriesOutcome
     ∷ []
 
 -- behind the last one: it reads no text, so that every input has too many

@@ -1,7 +1,9 @@
 // The calls by number and name: an input's texts go to one, and its answer and its list are printed.
 mod fields;
+mod more;
 
 use crate::fields::put_fields;
+use crate::more::of_more;
 use answers::Answer;
 use answers::Listed;
 use answers::number;
@@ -10,9 +12,7 @@ use binding::bindings::bindings;
 use emit::put;
 use emit::put_all;
 use expressing::filters::filters;
-use joining::patterns::merge_patterns;
 use joining::push::push_constants;
-use joining::queries::merge_queries;
 use libc::STDOUT_FILENO;
 use naming::numbers::put_decimal;
 use negating::negate;
@@ -50,7 +50,9 @@ const BINDINGS: [u8; 8] = *b"bindings";
 
 const FILTERS: [u8; 7] = *b"filters";
 
-// A call's number by its name; 8 is no call's.
+const WITHOUT: [u8; 7] = *b"without";
+
+// A call's number by its name; 9 is no call's.
 pub fn call_number(name: &[u8]) -> u32
     ensures { λ r. ⌜ r ≡ callNumber (now (name .entry)) ⌝ }
 {
@@ -78,7 +80,10 @@ pub fn call_number(name: &[u8]) -> u32
     if equal(name, &FILTERS) {
         return 7;
     }
-    8
+    if equal(name, &WITHOUT) {
+        return 8;
+    }
+    9
 }
 
 // A call's answer to one text.
@@ -124,19 +129,6 @@ fn of_two_listed(call: u32, a: &[u8], b: &[u8], out: &mut [u8], list: &mut [u16]
     }
 }
 
-// A call's answer to five texts.
-fn of_five(call: u32, a: &[u8], b: &[u8], c: &[u8], d: &[u8], e: &[u8], out: &mut [u8]) -> Answer
-    ensures { λ r. ⌜ Answered (called call (now (a .entry) ∷ now (b .entry) ∷ now (c .entry) ∷ now (d .entry) ∷ now (e .entry) ∷ [])) (now (out .entry)) (now (out .exit)) r ⌝ }
-{
-    if call == 2 {
-        return merge_patterns(a, b, c, d, e, out);
-    }
-    if call == 3 {
-        return merge_queries(a, b, c, d, e, out);
-    }
-    Answer::Malformed
-}
-
 // A call's answer to an input, whose texts are parted by lines `--`, and its list.
 pub fn answer(call: u32, input: &[u8], out: &mut [u8], list: &mut [u16]) -> Listed
     ensures { λ r. ⌜ AnsweredBoth (callInput call (now (input .entry))) (inputList call (now (input .entry))) (now (out .entry)) (now (out .exit)) (now (list .entry)) (now (list .exit)) (r .answer) (r .many) ⌝ }
@@ -164,20 +156,8 @@ pub fn answer(call: u32, input: &[u8], out: &mut [u8], list: &mut [u16]) -> List
             list,
         );
     }
-    if n == 4 {
-        let a = of_five(
-            call,
-            text_at(input, &ends, n, 0),
-            text_at(input, &ends, n, 1),
-            text_at(input, &ends, n, 2),
-            text_at(input, &ends, n, 3),
-            text_at(input, &ends, n, 4),
-            out,
-        );
-        return Listed { answer: a, many: 0 };
-    }
     Listed {
-        answer: Answer::Malformed,
+        answer: of_more(call, input, &ends, n, out),
         many: 0,
     }
 }

@@ -6,6 +6,7 @@ use expressing::filters;
 use joining::patterns::merge_patterns;
 use joining::push::push_constants;
 use joining::queries::merge_queries;
+use joining::without::without;
 use negating::negate;
 use renaming::rename::rename;
 use surveying::scope::scope;
@@ -19,6 +20,7 @@ ghost use Rattle.renaming.specs.Rename.{renameOutcome};
 ghost use Rattle.merging.specs.Merge.{mergePatternsOutcome, mergeQueriesOutcome};
 ghost use Rattle.merging.specs.Negate.{negateOutcome};
 ghost use Rattle.merging.specs.Push.{pushConstantsOutcome};
+ghost use Rattle.merging.specs.Without.{withoutQueriesOutcome};
 
 // scope: tree to the lines `in` and `hid`.
 #[no_mangle]
@@ -87,6 +89,22 @@ pub extern "C" fn gandeuch_merge_queries(
     ensures { λ r. ⌜ Reported (mergeQueriesOutcome (now (left .entry)) (now (right .entry)) (now (joins .entry)) (now («left_constants» .entry)) (now («right_constants» .entry))) (now (out .entry)) (now (out .exit)) r (now (size .exit)) ⌝ }
 {
     let a = merge_queries(left, right, joins, left_constants, right_constants, out);
+    *size = size_of(a);
+    number(a)
+}
+
+// without: two queries and a join list to query.
+#[no_mangle]
+pub extern "C" fn gandeuch_without(
+    left: &[u8],
+    right: &[u8],
+    joins: &[u8],
+    out: &mut [u8],
+    size: &mut usize,
+) -> u8
+    ensures { λ r. ⌜ Reported (withoutQueriesOutcome (now (left .entry)) (now (right .entry)) (now (joins .entry))) (now (out .entry)) (now (out .exit)) r (now (size .exit)) ⌝ }
+{
+    let a = without(left, right, joins, out);
     *size = size_of(a);
     number(a)
 }

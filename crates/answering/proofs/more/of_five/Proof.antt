@@ -1,8 +1,8 @@
--- `answering::of_five` meets its contract. Assumes nothing.
+-- `answering::more/of_five` meets its contract. Assumes nothing.
 use borrow.Author.Needs.{needs}
 use Rattle.answering.proofs.Laws.{row-merge, row-merge-queries, answer-row, none-of-five}
-use Rattle.answering.proofs.of_five.Statement.{statement}
-use Rattle.answering.proofs.of_five.Tie as tie
+use Rattle.answering.proofs.more.of_five.Statement.{statement}
+use Rattle.answering.proofs.more.of_five.Tie as tie
 
 pub of-five-spec : {M : Type 1} → statement M
 of-five-spec =
