@@ -3,15 +3,16 @@
 
     bench_texts.py FOLDER
 
-writes NAME.scope, NAME.rename, NAME.merge, NAME.push, NAME.bindings and NAME.filters, what the program of that name reads, for each NAME:
+writes NAME.scope, NAME.rename, NAME.merge, NAME.push, NAME.bindings, NAME.filters and NAME.without, what the program of that name reads, for each NAME:
 lines10, lines50, lines200   ordinary queries of that many lines
 names1024                    16,384 bytes but for less than a line, with 1,024 short names
 names12                      16,384 bytes but for less than a line, with 12 names
 columns256                   16,384 bytes but for less than a line, with 300 names and 256 columns, where the others at the bounds have 64
 A mapping renames every third name of an ordinary query, and 64 names (256, or all) at the bounds. A merge has two such trees, without
 the `distinct` of the others. For an ordinary query it joins the first columns and has a constant on the left's last column; at the
-bounds it joins half of the columns (all of 256), and a quarter has constants, on both sides. A push has the left side's constants. Bindings
-are a set of four rows at the first two columns, and at the bounds one of 16 rows at the first eight; filters are three, and at the bounds 64 (256).
+bounds it joins half of the columns (all of 256), and a quarter has constants, on both sides. A push has the left side's constants, without
+the merge's trees behind a head, and its pairs. Bindings are a set of four rows at the first two columns, and at the bounds one of 16 rows at
+the first eight; filters are three, and at the bounds 64 (256).
 """
 
 import itertools
@@ -132,27 +133,28 @@ def filters(width, many):
 
 
 def input_texts(tree, step, left, right, short, lists, placed):
-    """What each program reads; `short` is a tree that leaves room for a query's head, `placed` are binding sets and filters."""
+    """What each program reads; `short` are two trees that leave room for a query's head, `placed` are binding sets and filters."""
     return {
         "scope": [tree],
         "rename": [tree, mapping(tree, step)],
         "merge": [left, right, *lists],
-        "push": [HEAD + short, lists[1]],
+        "push": [HEAD + short[0], lists[1]],
         "bindings": [tree, placed[0]],
         "filters": [tree, placed[1]],
+        "without": [HEAD + short[0], HEAD + short[1], lists[0]],
     }
 
 
 def texts():
     """Each name with what the programs read."""
     for lines in (10, 50, 200):
-        left = projected(lines)
-        yield f"lines{lines}", input_texts(ordinary(lines), 3, left, projected(lines, 5), left, lists_of_ordinary(left), (bindings(2, 4), filters(2, 3)))
+        left, right = projected(lines), projected(lines, 5)
+        yield f"lines{lines}", input_texts(ordinary(lines), 3, left, right, (left, right), lists_of_ordinary(left), (bindings(2, 4), filters(2, 3)))
     few = [thing(number) for number in range(12)]
     for name, own, step, columns, joined in (("names1024", short_names(), 16, 64, 32), ("names12", few, 1, 64, 6), ("columns256", short_names()[:300], 1, 256, 256)):
         tree, right = at_bounds(own, columns), at_bounds(own[::-1], columns)
-        placed = bindings(8, 16), filters(8, columns)
-        yield name, input_texts(tree, step, tree, right, at_bounds(own, columns, trees.BYTES - len(HEAD)), lists_at_bounds(tree, joined), placed)
+        short = [at_bounds(names, columns, trees.BYTES - len(HEAD)) for names in (own, own[::-1])]
+        yield name, input_texts(tree, step, tree, right, short, lists_at_bounds(tree, joined), (bindings(8, 16), filters(8, columns)))
 
 
 def main():

@@ -3,9 +3,9 @@
  *
  * A text is a pointer and a number of bytes; no byte is special, and no zero byte ends it. A call returns a number: 0, and the answer
  * stands in the first `*size` bytes of `out`, the bytes behind it unchanged; or the number of a refusal, and `*size` is 0 and `out` is
- * unchanged. Texts are checked in the order of the parameters (1, 2); then come 5, 4, 3, 10, 7, 6, 9 in this order, as far as a call has
- * them. `gandeuch_filters` also lists numbers: they stand in the first `*many` entries of `list`, those behind them unchanged; after a
- * refusal `*many` is 0 and `list` is unchanged.
+ * unchanged. Texts are checked in the order of the parameters (1, 2); then come 5, 4, 11, 3, 10, 7, 6, 9 in this order, as far as a call
+ * has them. `gandeuch_filters` also lists numbers: they stand in the first `*many` entries of `list`, those behind them unchanged; after
+ * a refusal `*many` is 0 and `list` is unchanged.
  *
  * An empty file is a tree: each call reads a tree of no bytes, and a query of its head line alone, as if the lines `project` and `bgp 0`
  * stood there, and writes them where it copies.
@@ -40,7 +40,8 @@ enum {
     GANDEUCH_TOO_SHORT = 6,      /* the answer is longer than `out_size` */
     GANDEUCH_NOT_USABLE = 7,     /* a value can't be used */
     GANDEUCH_LIST_TOO_SHORT = 9, /* more numbers are to be listed than `list_size` */
-    GANDEUCH_REPEATED = 10       /* a join list has a position twice on one side */
+    GANDEUCH_REPEATED = 10,      /* a join list has a position twice on one side */
+    GANDEUCH_NO_PAIRS = 11       /* a join list of without is empty */
 };
 
 /* The stack that a call needs, with room to spare: bench/stack measures it. */
@@ -57,6 +58,7 @@ enum {
     (3 * ((size_t)(left_size) + (size_t)(right_size)) + (size_t)(left_constants_size) + (size_t)(right_constants_size) + 84)
 #define GANDEUCH_PUSH_ROOM(query_size, constants_size) (3 * (size_t)(query_size) + (size_t)(constants_size) + 42)
 #define GANDEUCH_NEGATE_ROOM(query_size) ((size_t)(query_size) + 38)
+#define GANDEUCH_WITHOUT_ROOM(left_size, right_size) (3 * ((size_t)(left_size) + (size_t)(right_size)) + 84)
 #define GANDEUCH_BINDINGS_ROOM(tree_size, sets_size) ((size_t)(tree_size) + 65 * (size_t)(sets_size) + 14)
 #define GANDEUCH_FILTERS_ROOM(tree_size, filters_size) ((size_t)(tree_size) + 24 * (size_t)(filters_size) + 14)
 
@@ -92,6 +94,14 @@ uint8_t gandeuch_merge_queries(const uint8_t *left, size_t left_size,
                                const uint8_t *left_constants, size_t left_constants_size,
                                const uint8_t *right_constants, size_t right_constants_size,
                                uint8_t *out, size_t out_size, size_t *size);
+
+/* without: two queries with one head, and the rows of the left one that no row of the right one matches: none that agrees with it on a column
+ * of `joins` bound in both and contradicts it on no other. The answer has the left columns over a `minus` of the two. Select and ask can be
+ * given; the join list must have a pair. Numbers 1, 2, 5, 4, 11, 3, 10, 6. */
+uint8_t gandeuch_without(const uint8_t *left, size_t left_size,
+                         const uint8_t *right, size_t right_size,
+                         const uint8_t *joins, size_t joins_size,
+                         uint8_t *out, size_t out_size, size_t *size);
 
 /* push_constants: the query, under new names, with the columns fixed for which there is a line `position term`. It is copied if it is a
  * construct or describe or its root isn't project. Numbers 1, 2, 6, and where it isn't copied 3. */

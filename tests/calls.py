@@ -25,7 +25,8 @@ def rows():
 
 ROWS = rows()
 NAMES = [row.name for row in ROWS]
-COUNT = {"one": 1, "two": 2, "five": 5, "listing": 2}
+COUNT = {"one": 1, "two": 2, "three": 3, "five": 5, "listing": 2}
+OURS = {"without"}  # the calls that nemo has not
 
 
 def read(path):
@@ -71,8 +72,8 @@ def lending(path, head, text):
     return [name for name, count in functions(path, head, text).items() if count]
 
 
-def files(folder, ends):
-    return sorted(name + end for name in NAMES for end in ends), sorted(os.listdir(os.path.join(HERE, folder)))
+def files(folder, names, ends):
+    return sorted(name + end for name in names for end in ends), sorted(os.listdir(os.path.join(HERE, folder)))
 
 
 def pairs():
@@ -104,12 +105,12 @@ def pairs():
         yield f"crates/{program}", said, [(numbers[name], name) for name in NAMES]
     yield "bench/stack", named("bench/stack", r"for call in (.*); do")[0].split(), NAMES
     yield "bench/stack.c", dict(named("bench/stack.c", r'call, "(\w+)"\)\) return (\w+)\(')), {row.name: row.c for row in ROWS}
-    yield "compare/driver", set(NAMES) - set(named("compare/driver/main.rs", r'"(\w+)" =>')), set()
+    yield "compare/driver", set(NAMES) - OURS - set(named("compare/driver/main.rs", r'"(\w+)" =>')), set()
     yield "docs/SPECIFICATION.md", set(named("docs/SPECIFICATION.md", r"\n```call (\w+)\n")), set(NAMES)
     yield "rust/tests", set(NAMES) - set(named("rust/tests/answers.rs", r'\("(\w+)"')), set()
     yield "tests/c", {row.c for row in ROWS} - set(named("tests/c/calls.c", r"\b(gandeuch_\w+)\(")), set()
-    yield ("tests/vectors", *files("vectors", [".txt"]))
-    stored, found = files("calls", [".stdin", ".stdout"])
+    yield ("tests/vectors", *files("vectors", sorted(set(NAMES) - OURS), [".txt"]))
+    stored, found = files("calls", NAMES, [".stdin", ".stdout"])
     yield "tests/calls", sorted(stored + [name + ".stderr" for name in listing("name")]), found
 
 

@@ -83,7 +83,7 @@ WRITTEN = [
 
 
 def records():
-    for program in calls.NAMES:
+    for program in sorted(set(calls.NAMES) - calls.OURS, key=calls.NAMES.index):
         for number, (given, answer) in enumerate(recorded(program), 1):
             yield program, "%s-%d" % (program, number), given, answer + second_calls.left(program, given)
     for program, name, given, answer in WRITTEN + written_merges.WRITTEN + written_placings.WRITTEN + written_empty.WRITTEN:

@@ -184,22 +184,39 @@ def side(root, names, constants):
     return [name for place, name in enumerate(columns(root)) if place not in fixed], pattern
 
 
-def merged(left, right, joins, left_constants, right_constants):
+def projects(left, right):
     if left.word != b"project" or right.word != b"project":
         raise Refused(4)
+
+
+def both_named(left, right, joins, left_constants, right_constants):
+    """The columns at the left join positions, and the new names of both sides."""
     lefts, rights = [first for first, _ in joins], [int(second) for _, second in joins]
     inside(lefts + [position for position, _ in left_constants], columns(left))
     inside(rights + [position for position, _ in right_constants], columns(right))
     once(lefts)
     once(rights)
     join_variables = [columns(left)[position] for position in lefts]
-    left_names = standardized(b"l", left, join_variables)
-    right_names = standardized(b"r", right, [columns(right)[position] for position in rights])
+    return join_variables, standardized(b"l", left, join_variables), standardized(b"r", right, [columns(right)[position] for position in rights])
+
+
+def merged(left, right, joins, left_constants, right_constants):
+    projects(left, right)
+    join_variables, left_names, right_names = both_named(left, right, joins, left_constants, right_constants)
     left_free, left_pattern = side(left, left_names, left_constants)
     right_free, right_pattern = side(right, right_names, right_constants)
     gone = {left_names.get(name, name) for name in join_variables}
     free = left_free + [name for name in right_free if name not in gone]
     return Node([b"project", *free], [Node([b"join"], [left_pattern, right_pattern])])
+
+
+def without(left, right, joins):
+    projects(left, right)
+    if not joins:
+        raise Refused(11)
+    _, left_names, right_names = both_named(left, right, joins, [], [])
+    left, right = renamed(left, left_names), renamed(right, right_names)
+    return Node(left.fields, [Node([b"minus"], left.below + right.below)])
 
 
 def pushed(root, constants):
@@ -330,11 +347,11 @@ def rewritten(program, texts):
         return with_filters(tree(first), nodes(records(texts[1]))).text()
     head, root = split_head(first)
     select_or_ask = head.split(b"\t")[1] in (b"select", b"ask")
-    if program == "merge_queries":
+    if program in ("merge_queries", "without"):
         other, right = split_head(texts[1])
         if not select_or_ask or head != other:
             raise Refused(5)
-        return head + merged(root, right, *map(pairs, texts[2:])).text()
+        return head + (merged if program == "merge_queries" else without)(root, right, *map(pairs, texts[2:])).text()
     if not select_or_ask:
         return head + root.text()
     return head + (pushed(root, pairs(texts[1])) if program == "push" else negated(root)).text()

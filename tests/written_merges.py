@@ -1,4 +1,4 @@
-"""Inputs of merge, merge_queries, push and negate with answers written by hand."""
+"""Inputs of merge, merge_queries, without, push and negate with answers written by hand."""
 import itertools
 
 from written_texts import BAR, LONG, MALFORMED, OVER, padded, refused, text
@@ -20,6 +20,10 @@ def merge(name, expected, left, right, joins="", left_constants="", right_consta
 
 def merge_queries(name, expected, left, right, joins="", left_constants="", right_constants=""):
     return "merge_queries", name, parted(left, right, joins, left_constants, right_constants), answer(expected)
+
+
+def without(name, expected, left, right, joins=""):
+    return "without", name, parted(left, right, joins), answer(expected)
 
 
 def push(name, expected, query, constants=""):
@@ -149,6 +153,44 @@ ORDER = [
     push("no-query", 1, "", "0 <k>"), negate("no-query", 1, ""), negate("malformed", 1, BAD_QUERY), negate("over-bound", 2, OVER_QUERY), negate("tree", 1, EVENT),
 ]
 
+# Without: the left columns over a minus. Names of both sides meet in join columns only, and in their Label partners.
+ASK = "query ask - -/"
+ON = "project ?r/bgp 1/t ?event <on> ?r"
+WITHOUT = [
+    without("events", SELECT + "project ?l0 ?j0/minus/bgp 1/t ?l0 <by> ?j0/bgp 1/t ?r2 <on> ?j0", SELECT + EVENT, SELECT + ON, "1 0"),
+    without("ask", "query ask <d> <b>/project ?l0 ?j0/minus/bgp 1/t ?l0 <by> ?j0/bgp 1/t ?j0 <in> ?r1",
+            "query ask <d> <b>/" + EVENT, "query ask <d> <b>/" + BAY, "1 0"),
+    without("itself", SELECT + "project ?j0 ?j1/minus/bgp 1/t ?j0 <by> ?j1/bgp 1/t ?j0 <by> ?j1", SELECT + EVENT, SELECT + EVENT, "0 0/1 1"),
+    without("one-of-itself", SELECT + "project ?l0 ?j0/minus/bgp 1/t ?l0 <by> ?j0/bgp 1/t ?r0 <by> ?j0", SELECT + EVENT, SELECT + EVENT, "1 1"),
+    without("turned", SELECT + "project ?j0 ?j1/minus/bgp 1/t ?j0 <q> ?j1/bgp 1/t ?j1 <q> ?j0", SELECT + TWO, SELECT + TWO, "0 1/1 0"),
+    without("all-left-columns", SELECT + "project ?l0 ?j0 ?l2/minus/bgp 1/t ?l0 ?j0 ?l2/bgp 1/t ?j0 <q> ?r1", SELECT + THREE, SELECT + TWO, "1 0"),
+    without("labels", SELECT + "project ?j0 ?j0Label/minus/bgp 1/t ?j0 <l> ?j0Label/bgp 1/t ?j0 <m> ?j0Label",
+            SELECT + "project ?s ?sLabel/bgp 1/t ?s <l> ?sLabel", SELECT + "project ?t ?tLabel/bgp 1/t ?t <m> ?tLabel", "0 0"),
+    without("twins", SELECT + "project ?j0 ?j0/minus/bgp 1/t ?j0 <p> <o>/bgp 1/t ?j0 <q> ?j1", SELECT + TWINS, SELECT + TWO, "0 0/1 1"),
+    without("minus-inside", SELECT + "project ?j0/minus/minus/bgp 1/t ?j0 <p> ?l2/bgp 1/t ?l2 <q> ?j0/bgp 0",
+            SELECT + "project ?a/minus/bgp 1/t ?a <p> ?b/bgp 1/t ?b <q> ?a", SELECT + "project ?c/bgp 0", "0 0"),
+    without("nine-ten", SELECT + "project " + " ".join("?j0" if i == 10 else "?l%d" % i for i in range(11)) + "/minus/bgp 0/bgp 0",
+            SELECT + TEN, SELECT + TEN, "10 9"),
+    # the texts one by one, 5, 4, 11, 3, 10
+    without("left-first", 2, OVER_QUERY, BAD_QUERY, BAD_JOIN), without("right-second", 2, SELECT + NO_PROJECT, OVER_QUERY, BAD_JOIN),
+    without("right-malformed", 1, ASK + NO_PROJECT, BAD_QUERY, MANY_JOINS), without("joins-third", 1, ASK + NO_PROJECT, SELECT + BAY, BAD_JOIN),
+    without("joins-over-bound", 2, ASK + NO_PROJECT, SELECT + BAY, MANY_JOINS), without("tree-for-query", 1, EVENT, SELECT + BAY, "1 0"),
+    without("five-before-four", 5, ASK + NO_PROJECT, SELECT + BAY), without("five-dataset", 5, SELECT + EVENT, "query select <d> -/" + BAY, "1 0"),
+    without("five-construct", 5, "query construct - -/" + EVENT, "query construct - -/" + BAY, "1 0"), without("five-before-eleven", 5, ASK + EVENT, SELECT + BAY),
+    without("four-of-left", 4, SELECT + NO_PROJECT, SELECT + BAY, "9 9"), without("four-of-right", 4, SELECT + EVENT, SELECT + NO_PROJECT, "9 9"),
+    without("four-before-eleven", 4, SELECT + EVENT, SELECT + "bgp 0"), without("eleven", 11, SELECT + EVENT, SELECT + BAY),
+    without("eleven-no-columns", 11, SELECT + "project/bgp 0", SELECT + "project/bgp 0"), without("three-left", 3, SELECT + EVENT, SELECT + BAY, "0 0/2 0"),
+    without("three-right", 3, SELECT + EVENT, SELECT + BAY, "0 0/0 2"), without("three-before-ten", 3, SELECT + ONE, SELECT + TWO, "0 0/0 2"),
+    without("ten-left", 10, SELECT + ONE, SELECT + TWO, "0 0/0 1"), without("ten-right", 10, SELECT + TWO, SELECT + ONE, "0 0/1 0"),
+    # a head line alone has no column to join; the number of texts is three
+    without("empty-left", 3, SELECT[:-1], SELECT + BAY, "0 0"), without("empty-right", 3, SELECT + BAY, SELECT[:-1], "0 0"),
+    without("empty-both", 11, SELECT[:-1], SELECT[:-1]), without("no-queries", 1, "", ""),
+    ("without", "no-input", b"", refused(1)), ("without", "one-bar", parted(OVER_QUERY, SELECT + BAY), refused(1)),
+    ("without", "three-bars", parted(OVER_QUERY, SELECT + BAY, "1 0", ""), refused(1)), ("without", "four-bars", parted(OVER_QUERY, SELECT + BAY, "1 0", "", ""), refused(1)),
+    ("without", "unended-bar", parted(OVER_QUERY, SELECT + BAY, "1 0") + b"--", refused(2)),
+    ("without", "too-long-input", padded(OVER + BAR * 2, LONG + 1), refused(2)),
+]
+
 # Bars: their number is looked at before the texts.
 BARS = [
     ("merge", "no-input", b"", refused(1)), ("merge", "no-texts", BAR * 4, text("project/join/bgp 0/bgp 0")), ("merge", "three-bars", parted(OVER, BAY, "1 0", ""), refused(1)),
@@ -232,4 +274,4 @@ def limits():
     return [("merge", "longest-input-and-answer", given, written), ("merge", "answer-too-long", over, refused(6))]
 
 
-WRITTEN = CASES + CONSTANTS + ORDERS + KINDS + FIVE + REPEATED + ORDER + BARS + WIDEST + limits()
+WRITTEN = CASES + CONSTANTS + ORDERS + KINDS + FIVE + REPEATED + ORDER + WITHOUT + BARS + WIDEST + limits()

@@ -51,6 +51,18 @@ unsafe extern "C" {
         size: *mut usize,
     ) -> u8;
 
+    pub fn gandeuch_without(
+        left: *const u8,
+        left_size: usize,
+        right: *const u8,
+        right_size: usize,
+        joins: *const u8,
+        joins_size: usize,
+        out: *mut u8,
+        out_size: usize,
+        size: *mut usize,
+    ) -> u8;
+
     pub fn gandeuch_push_constants(
         query: *const u8,
         query_size: usize,

@@ -170,6 +170,30 @@ pub fn merge_queries(
     )
 }
 
+/// Two queries with one head, which the answer has too, and the rows of the left one that no row of the right one matches: none that
+/// agrees with it on a column of `joins` bound in both and contradicts it on no other. The answer has the left columns. Select and ask
+/// can be given; an empty join list is [`NoPairs`](Refusal::NoPairs).
+///
+/// ```
+/// let event = b"query\tselect\t-\t-\nproject\t?event\t?relay\nbgp\t1\nt\t?event\t<by>\t?relay\n";
+/// let tripped = b"query\tselect\t-\t-\nproject\t?relay\nbgp\t1\nt\t?relay\t<tripped>\t?breaker\n";
+/// let silent = gandeuch::without(event, tripped, b"1\t0\n")?;
+/// assert_eq!(
+///     silent,
+///     b"query\tselect\t-\t-\nproject\t?l0\t?j0\nminus\nbgp\t1\nt\t?l0\t<by>\t?j0\nbgp\t1\nt\t?j0\t<tripped>\t?r2\n"
+/// );
+/// # Ok::<(), gandeuch::Refusal>(())
+/// ```
+pub fn without(left: &[u8], right: &[u8], joins: &[u8]) -> Result<Vec<u8>, Refusal> {
+    answer!(
+        gandeuch_without,
+        room::without(left, right),
+        left,
+        right,
+        joins
+    )
+}
+
 /// The query, under new names, with the columns fixed for which there is a line `position term`. It is copied if it is a construct
 /// or describe or its root isn't project.
 ///

@@ -4,7 +4,7 @@ use std::error::Error;
 use std::fmt::{Display, Formatter, Result};
 
 /// Why a call has no answer. Texts are checked in the order of the parameters ([`Malformed`](Refusal::Malformed),
-/// [`OverBound`](Refusal::OverBound)); then 5, 4, 3, 10, 7 in this order, as far as a call has them.
+/// [`OverBound`](Refusal::OverBound)); then 5, 4, 11, 3, 10, 7 in this order, as far as a call has them.
 #[derive(Debug, Clone, Copy, PartialEq, Eq, Hash)]
 #[non_exhaustive]
 pub enum Refusal {
@@ -26,6 +26,8 @@ pub enum Refusal {
     ListTooShort,
     /// A join list has a position twice on one side.
     Repeated,
+    /// A join list of [`without`](crate::without) is empty.
+    NoPairs,
     /// A number that this version of the crate has no name for.
     Other(u8),
 }
@@ -42,6 +44,7 @@ impl Refusal {
         Self::NotUsable,
         Self::ListTooShort,
         Self::Repeated,
+        Self::NoPairs,
     ];
 
     /// The number that the library returns for it.
@@ -56,6 +59,7 @@ impl Refusal {
             Self::NotUsable => 7,
             Self::ListTooShort => 9,
             Self::Repeated => 10,
+            Self::NoPairs => 11,
             Self::Other(number) => number,
         }
     }
@@ -82,6 +86,7 @@ impl Display for Refusal {
             Self::NotUsable => "a value can't be used",
             Self::ListTooShort => "more numbers are to be listed than there is room for",
             Self::Repeated => "a join list has a position twice on one side",
+            Self::NoPairs => "a join list of without is empty",
             Self::Other(number) => return write!(f, "refused by the number {number}"),
         })
     }

@@ -29,6 +29,10 @@ pub fn negate(query: &[u8]) -> usize {
     length(query) + 38
 }
 
+pub fn without(left: &[u8], right: &[u8]) -> usize {
+    3 * (length(left) + length(right)) + 84
+}
+
 pub fn bindings(tree: &[u8], sets: &[u8]) -> usize {
     length(tree) + 65 * length(sets) + 14
 }

@@ -44,7 +44,7 @@ fn every_number_but_0_is_a_refusal() {
             panic!("{number} is an answer");
         };
         assert_eq!(refusal.number(), number);
-        let named = matches!(number, 1..=7 | 9 | 10);
+        let named = matches!(number, 1..=7 | 9..=11);
         assert_eq!(refusal == Refusal::Other(number), !named);
         assert!(!refusal.to_string().is_empty());
     }
@@ -113,9 +113,9 @@ fn from_c(parameter: &str) -> String {
 fn declarations_are_those_of_the_header() {
     let code = HEADER.split_once("extern \"C\" {").expect("declarations").1;
     let in_header = functions(code, from_c);
-    assert_eq!(in_header.len(), 8);
-    assert_eq!(code.matches("uint8_t gandeuch_").count(), 8);
-    assert_eq!(DECLARED.matches(") -> u8;").count(), 8);
+    assert_eq!(in_header.len(), 9);
+    assert_eq!(code.matches("uint8_t gandeuch_").count(), 9);
+    assert_eq!(DECLARED.matches(") -> u8;").count(), 9);
     assert_eq!(functions(DECLARED, str::to_string), in_header);
 }
 
@@ -150,6 +150,11 @@ fn rooms_are_those_of_the_header() {
             "NEGATE_ROOM(query_size)((query_size)+38)",
             room::negate(&tree),
             138,
+        ),
+        (
+            "WITHOUT_ROOM(left_size,right_size)(3*((left_size)+(right_size))+84)",
+            room::without(&tree, &list),
+            414,
         ),
         (
             "BINDINGS_ROOM(tree_size,sets_size)((tree_size)+65*(sets_size)+14)",

@@ -16,6 +16,7 @@ fn call(name: &str, texts: &[Vec<u8>]) -> Result<Vec<u8>, Refusal> {
         ("merge_queries", [left, right, joins, lefts, rights]) => {
             gandeuch::merge_queries(left, right, joins, lefts, rights)
         }
+        ("without", [left, right, joins]) => gandeuch::without(left, right, joins),
         ("push", [query, constants]) => gandeuch::push_constants(query, constants),
         ("negate", [query]) => gandeuch::negate(query),
         ("bindings", [tree, sets]) => gandeuch::bindings(tree, sets),
@@ -58,6 +59,12 @@ fn refused() {
     assert_eq!(root, Err(Refusal::NotProject));
     let heads = gandeuch::merge_queries(&query("ask"), &query("select"), b"", b"", b"");
     assert_eq!(heads, Err(Refusal::NotMergeable));
+    let pairs = gandeuch::without(&query("ask"), &query("ask"), b"");
+    assert_eq!(pairs, Err(Refusal::NoPairs));
+    let heads = gandeuch::without(&query("ask"), &query("select"), b"");
+    assert_eq!(heads, Err(Refusal::NotMergeable));
+    let outside = gandeuch::without(&query("ask"), b"query\task\t-\t-\n", b"0\t0\n");
+    assert_eq!(outside, Err(Refusal::Outside));
     let kind = gandeuch::merge_queries(&query("describe"), &query("describe"), b"", b"", b"");
     assert_eq!(kind, Err(Refusal::NotMergeable));
 }
@@ -134,7 +141,7 @@ fn bindings_and_filters() {
 #[test]
 fn numbers_and_messages() {
     let numbers: Vec<_> = Refusal::ALL.iter().map(|refusal| refusal.number()).collect();
-    assert_eq!(numbers, [1, 2, 3, 4, 5, 6, 7, 9, 10]);
+    assert_eq!(numbers, [1, 2, 3, 4, 5, 6, 7, 9, 10, 11]);
     for &refusal in Refusal::ALL {
         let error: Box<dyn std::error::Error> = Box::new(refusal);
         assert!(!error.to_string().is_empty());

@@ -19,6 +19,7 @@ enum { AROUND = 64, ROOM = 1024, BUFFER = AROUND + ROOM + AROUND, LONGEST = 1638
 #define MERGED "project\t?l0\t?j0\t?r1\njoin\nbgp\t1\nt\t?l0\t<by>\t?j0\nbgp\t1\nt\t?j0\t<in>\t?r1\n"
 #define BOUND "project\t?l0\njoin\njoin\nbgp\t1\nt\t?l0\t<by>\t?j0\nvalues\t1\t1\ncols\t?j0\nrow\t<k>\n" \
               "join\nbgp\t1\nt\t?j0\t<in>\t?r1\nvalues\t1\t1\ncols\t?r1\nrow\t\"b\"\n"
+#define WITHOUT "project\t?l0\t?j0\nminus\nbgp\t1\nt\t?l0\t<by>\t?j0\nbgp\t1\nt\t?j0\t<in>\t?r1\n"
 #define DISTINCT "distinct\n" LEFT
 #define BAD "bgp\t1\n"
 #define EMPTY "project\nbgp\t0\n"
@@ -62,6 +63,10 @@ static uint8_t merge_patterns(const struct text *texts, uint8_t *out, size_t out
 
 static uint8_t merge_queries(const struct text *texts, uint8_t *out, size_t out_size, size_t *size) {
     return gandeuch_merge_queries(GIVEN(0), GIVEN(1), GIVEN(2), GIVEN(3), GIVEN(4), out, out_size, size);
+}
+
+static uint8_t without(const struct text *texts, uint8_t *out, size_t out_size, size_t *size) {
+    return gandeuch_without(GIVEN(0), GIVEN(1), GIVEN(2), out, out_size, size);
 }
 
 static uint8_t push_constants(const struct text *texts, uint8_t *out, size_t out_size, size_t *size) {
@@ -213,6 +218,22 @@ static void merges_of_queries(void) {
     expect("merge-queries-repeated", merge_queries, TEXTS_OF(SELECT LEFT, SELECT RIGHT, "0\t0\n0\t1\n"), 0, 10, "");
 }
 
+static void withouts(void) {
+    expect_in_rooms("without", without, TEXTS_OF(SELECT LEFT, SELECT RIGHT, JOIN), SELECT WITHOUT);
+    expect_in_rooms("without-ask", without, TEXTS_OF(ASK LEFT, ASK RIGHT, JOIN), ASK WITHOUT);
+    expect("without-left-malformed", without, TEXTS_OF(SELECT BAD, ASK DISTINCT, "9\n"), ROOM, 1, "");
+    expect("without-right-malformed", without, TEXTS_OF(ASK DISTINCT, SELECT BAD, "9\n"), ROOM, 1, "");
+    expect("without-joins", without, TEXTS_OF(SELECT DISTINCT, ASK RIGHT, "9\n"), ROOM, 1, "");
+    expect("without-heads", without, TEXTS_OF(SELECT DISTINCT, ASK RIGHT), 0, 5, "");
+    expect("without-no-project", without, TEXTS_OF(SELECT LEFT, SELECT DISTINCT), 0, 4, "");
+    expect("without-no-pairs", without, TEXTS_OF(SELECT LEFT, SELECT RIGHT), 0, 11, "");
+    expect("without-outside", without, TEXTS_OF(SELECT LEFT, SELECT RIGHT, "0\t0\n0\t2\n"), 0, 3, "");
+    expect("without-repeated", without, TEXTS_OF(SELECT LEFT, SELECT RIGHT, "0\t0\n0\t1\n"), 0, 10, "");
+    expect("without-heads-alone", without, TEXTS_OF(ASK, ASK), 0, 11, "");
+    expect("without-head-alone", without, TEXTS_OF(ASK LEFT, ASK, JOIN), 0, 3, "");
+    expect("without-no-query", without, TEXTS_OF(ASK LEFT, "", JOIN), 0, 1, "");
+}
+
 static void pushes(void) {
     expect_in_rooms("push", push_constants, TEXTS_OF(SELECT LEFT, "1\t<k>\n"), SELECT PUSHED);
     expect("push-construct", push_constants, TEXTS_OF(CONSTRUCT LEFT, "9\t<k>\n"), ROOM, 0, CONSTRUCT LEFT);
@@ -334,6 +355,7 @@ int main(void) {
     renames();
     merges_of_patterns();
     merges_of_queries();
+    withouts();
     pushes();
     negations();
     bindings_of_sets();

@@ -12,6 +12,7 @@ _Static_assert(GANDEUCH_RENAME_ROOM(LONGEST) == 720910, "rename");
 _Static_assert(GANDEUCH_MERGE_ROOM(LONGEST, LONGEST, LONGEST, LONGEST) == 131156, "merge");
 _Static_assert(GANDEUCH_PUSH_ROOM(LONGEST, LONGEST) == 65578, "push");
 _Static_assert(GANDEUCH_NEGATE_ROOM(LONGEST) == 16422, "negate");
+_Static_assert(GANDEUCH_WITHOUT_ROOM(LONGEST, LONGEST) == 98388, "without");
 _Static_assert(GANDEUCH_BINDINGS_ROOM(LONGEST, LONGEST) == 1081358, "bindings");
 _Static_assert(GANDEUCH_FILTERS_ROOM(LONGEST, LONGEST) == 409614, "filters");
 _Static_assert(GANDEUCH_LIST_ROOM == 256, "list");
@@ -92,6 +93,10 @@ static void merges(void) {
     room = GANDEUCH_MERGE_ROOM(query.size, other.size, 0, 0);
     number = gandeuch_merge_queries(query.bytes, query.size, other.bytes, other.size, none, 0, none, 0, none, 0, out, room, &size);
     held("merge_queries", number, size, room, 2 * (query.size + other.size));
+    struct text pair = text("0\t0\n"), one = names("query\task\t-\t-\nproject\t?z\n"), two = text("query\task\t-\t-\nproject\t?a\nbgp\t0\n");
+    room = GANDEUCH_WITHOUT_ROOM(two.size, one.size);
+    number = gandeuch_without(two.bytes, two.size, one.bytes, one.size, pair.bytes, pair.size, out, room, &size);
+    held("without", number, size, room, 2 * (two.size + one.size));
     room = GANDEUCH_PUSH_ROOM(query.size, 0);
     number = gandeuch_push_constants(query.bytes, query.size, none, 0, out, room, &size);
     held("push_constants", number, size, room, 2 * query.size);
