@@ -81,7 +81,7 @@ struct Both {
     mergeable: bool,
 }
 
-// A minus needs a pair.
+// A minus whose join list is empty.
 fn lacks_pairs(minus: bool, pairs: &[u8]) -> bool
     ensures { λ r. ⌜ ((js : List Pair) → readJoins (now (pairs .entry)) ≡ reads js → not r ≡ mayCombine minus js) ⌝ }
 {
@@ -91,7 +91,8 @@ fn lacks_pairs(minus: bool, pairs: &[u8]) -> bool
     pairs.len() == 0
 }
 
-// A merge for two trees and lists that were checked: 5 unless their heads are one, 4 unless they are projects, 11 if a minus has no pair.
+// A merge for two trees and lists that were checked: 5 unless their heads are one, 4 unless they are projects, 11 if a
+// minus has no pair.
 fn merge_checked(
     words: &[WordRow; 56],
     head: &[u8],
@@ -176,7 +177,8 @@ fn merge_listed(
     }
 }
 
-// A left tree that was checked, how many spots and nodes it has, the form of both texts, and whether they are combined by a minus.
+// A left tree that was checked, how many spots and nodes it has, the form of both texts, and whether a minus stands in
+// the join's place.
 struct Noted {
     query: bool,
     minus: bool,

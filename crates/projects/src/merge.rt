@@ -1,5 +1,6 @@
-// merge_project_patterns for two projects, and without, which has a minus in the join's place. Tables of both texts are arrays of two, the left text's first; spots and nodes of
-// both stand in one array each, the right text's behind the left text's.
+// merge_project_patterns for two projects, and without, which has a minus in the join's place. Tables of both texts are
+// arrays of two, the left text's first; spots and nodes of both stand in one array each, the right text's behind the
+// left text's.
 use answers::Answer;
 use columns::columns::joined_mask;
 use columns::columns::put_columns;
@@ -51,7 +52,7 @@ pub struct Texts {
     pub minus: bool,
 }
 
-// Two sides that were found, how many spots and nodes are the left one's, and whether a minus stands in the join's place.
+// The same of two sides that were found.
 struct FoundPair {
     left: FoundSide,
     right: FoundSide,
