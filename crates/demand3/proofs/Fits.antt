@@ -48,7 +48,7 @@ at-once (c ∷ cs) d (suc i) zero hi hj e = clash (ap (λ x. mem x cs) (sym e) �
 at-once (c ∷ cs) d (suc i) (suc j) hi hj e = ap suc (at-once cs (different-tail c cs d) i j (omega arith) (omega arith) e)
 
 -- a column that stands at one of the positions stands at its own
-found-at : {A : Type 0} (cs : List Bytes) → different cs ≡ true → (pos : A → ℕ) (i : ℕ) → i < length cs → (ks : List A) → inside cs (map pos ks) ≡ true → mem (columnAt cs i) (map (λ k. columnAt cs (pos k)) ks) ≡ true → any (eqb i) (map pos ks) ≡ true
+pub found-at : {A : Type 0} (cs : List Bytes) → different cs ≡ true → (pos : A → ℕ) (i : ℕ) → i < length cs → (ks : List A) → inside cs (map pos ks) ≡ true → mem (columnAt cs i) (map (λ k. columnAt cs (pos k)) ks) ≡ true → any (eqb i) (map pos ks) ≡ true
 unfolding any
 found-at cs d pos i hi [] h m = mem-nil (columnAt cs i) m
 found-at cs d pos i hi (k ∷ ks) h m = either
@@ -96,7 +96,7 @@ module _ (prefix : ℕ) (x : Projection) (is : List ℕ) (ks : List Constant) (k
   few-pairs : length is ≤ most
   few-pairs = let a = k .pairs in omega arith
 
-  side-fit : (prefix ≡ prefixJ → ⊥) → SideFit (standardized prefix (x .columns) (x .inner) is ks)
+  pub side-fit : (prefix ≡ prefixJ → ⊥) → SideFit (standardized prefix (x .columns) (x .inner) is ks)
   unfolding isVar
   side-fit n = record {
     apart = λ u v h j. side-apart (x .columns) (x .inner) is names-of prefix n u v (numbered-if u h) (numbered-if v j);

@@ -143,10 +143,10 @@ module _ (s : Side) (fit : SideFit s) where
   pub renamed-columns-in : Sub (renamedColumns s) newNames
   renamed-columns-in = map-sub (s .name) (s .columns) (names (whole s)) columns-in
 
-  constant-columns : constantColumns (renamedColumns s) (s .constants) ≡ map (s .name) (constantColumns (s .columns) (s .constants))
+  pub constant-columns : constantColumns (renamedColumns s) (s .constants) ≡ map (s .name) (constantColumns (s .columns) (s .constants))
   constant-columns = positions-map (s .name) (s .columns) (λ k. k .position) (s .constants) (fit .constant-inside)
 
-  constant-columns-in : Sub (constantColumns (s .columns) (s .constants)) (s .columns)
+  pub constant-columns-in : Sub (constantColumns (s .columns) (s .constants)) (s .columns)
   constant-columns-in = positions-in (s .columns) (λ k. k .position) (s .constants) (fit .constant-inside)
 
   new-constant-columns-in : Sub (constantColumns (renamedColumns s) (s .constants)) (renamedColumns s)

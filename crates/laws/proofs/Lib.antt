@@ -10,4 +10,17 @@ pub mod Readable
 pub mod Swapped
 pub mod SwapBytes
 pub mod SwapWorked
+pub mod Pushed
+pub mod Push
+pub mod PushWorked
+pub mod Erased
+pub mod ErasedTree
+pub mod ErasedNames
+pub mod ErasedCheck
+pub mod ErasedCalls
+pub mod AlikeLines
+pub mod AlikeReads
+pub mod AlikeCalls
+pub mod AlikeReported
 pub mod Theorem
+pub mod AlikeWorked

@@ -1,30 +1,39 @@
--- The laws of renaming twice and of a merge with its sides swapped, for all texts. Assumes nothing.
-use Prim.Native.Nat.{_≤_}
+-- The laws of renaming twice, of a merge with its sides swapped, of rows after a push and of literals changed, for all texts. Assumes nothing.
+use Prim.Native.Nat.{ℕ, _≤_}
 use mathlib.Core.Path.{_≡_, refl}
+use mathlib.Core.Bool.{Bool, true}
 use mathlib.Core.List.{List, _++_, map}
-use lib.ListN.{length}
+use lib.ListN.{length, take}
 use Rattle.text.specs.Text.{Bytes}
 use Rattle.algebra.specs.Tree.{Pattern}
 use Rattle.algebra.specs.Tally.{bounds}
 use Rattle.algebra.specs.Query as Lines
-use Rattle.algebra.specs.Query.{mapping}
+use Rattle.algebra.specs.Query.{Query, mapping}
 use Rattle.algebra.specs.Reader.{reads, number-of}
 use Rattle.algebra.specs.Bounded.{layoutPairs}
 use Rattle.algebra.specs.Texts.{readTree, readAnyTree, readPairs}
+use Rattle.algebra.specs.Given.{readGivenQuery}
 use Rattle.scoping.specs.Label.{prefixL, prefixR}
 use Rattle.scoping.specs.Numbering.{byPlace}
-use Rattle.answers.specs.Outcome.{written}
+use Rattle.answers.specs.Outcome.{Outcome, written, Reported}
 use Rattle.renaming.specs.Rename.{becomes, renameOutcome}
-use Rattle.merging.specs.Sides.{Pair, lefts, rights}
-use Rattle.merging.specs.Request.{readJoins, Request}
-use Rattle.merging.specs.Merge.{mergePatternsOutcome, mergeQueriesOutcome}
+use Rattle.merging.specs.Sides.{Pair, Constant, lefts, rights}
+use Rattle.merging.specs.Request.{Projection, tree, readJoins, readConstants, Request}
+use Rattle.merging.specs.Merge.{mergePatternsOutcome, isSelectOrAsk, mergeQueriesOutcome}
+use Rattle.merging.specs.Push.{pushConstantsOutcome}
+use Rattle.merging.specs.Negate.{negateOutcome}
 use Rattle.merging.specs.Asked.{Trees, Lists, Queries, behindHead}
 use Rattle.demand3.specs.Names.{columnName, mergedNames}
 use Rattle.laws.specs.Composed.{composed}
 use Rattle.laws.specs.Swapped.{turned, leftShown, rightShown, SwapCounted}
+use Rattle.laws.specs.Pushed.{PushCounted}
+use Rattle.laws.specs.Alike.{Alike, AlikeOutcome}
 use Rattle.laws.proofs.Through.{through-both, composed-once}
 use Rattle.laws.proofs.Middle.{middle-good}
 use Rattle.laws.proofs.SwapBytes.{patterns-swapped, queries-swapped}
+use Rattle.laws.proofs.Push.{pushed-counts, pushed-returned}
+use Rattle.laws.proofs.AlikeCalls.{patterns-alike, queries-alike, push-alike, negation-alike}
+use Rattle.laws.proofs.AlikeReported.{alike-reported}
 
 -- ---- renaming by one mapping and then by another
 
@@ -70,3 +79,41 @@ pub swap-queries-counts : (left right pairs pairs′ leftConstants rightConstant
     → (m : Request) × (kind dataset base text b′ text′ : Bytes) × Queries left right kind dataset base m × Lists pairs leftConstants rightConstants m
     × (b ≡ behindHead kind dataset base text) × (mergeQueriesOutcome right left pairs′ rightConstants leftConstants ≡ written b′) × (b′ ≡ behindHead kind dataset base text′) × SwapCounted m text text′
 swap-queries-counts = queries-swapped
+
+-- ---- rows after constants were pushed into a select or ask query whose root is project
+
+pub push-counts : (query constants b : Bytes) (q : Query) (x : Projection)
+    → pushConstantsOutcome query constants ≡ written b → readGivenQuery query ≡ reads q → isSelectOrAsk (q .kind) ≡ true → q .tree ≡ tree x
+    → (ks : List Constant) × (text : Bytes) × (readConstants constants ≡ reads ks) × (b ≡ behindHead (q .kind) (q .dataset) (q .base) text) × PushCounted x ks text
+push-counts = pushed-counts
+
+-- from what a caller sees: a push that returned 0
+pub push-returned : (query constants before after : Bytes) (number size : ℕ) (q : Query) (x : Projection)
+    → Reported (pushConstantsOutcome query constants) before after number size → number ≡ 0 → readGivenQuery query ≡ reads q → isSelectOrAsk (q .kind) ≡ true → q .tree ≡ tree x
+    → (size ≤ length before) × (ks : List Constant) × (text : Bytes) × (readConstants constants ≡ reads ks) × (take size after ≡ behindHead (q .kind) (q .dataset) (q .base) text) × PushCounted x ks text
+push-returned = pushed-returned
+
+-- ---- texts that differ only inside literals that may be changed: one refusal, or answers of one length that differ only inside such literals
+
+pub merge-patterns-alike : (may : Bytes → Bool) (left left′ right right′ pairs pairs′ ks ks′ ls ls′ : Bytes)
+    → Alike may left left′ → Alike may right right′ → Alike may pairs pairs′ → Alike may ks ks′ → Alike may ls ls′
+    → AlikeOutcome may (mergePatternsOutcome left right pairs ks ls) (mergePatternsOutcome left′ right′ pairs′ ks′ ls′)
+merge-patterns-alike = patterns-alike
+
+pub merge-queries-alike : (may : Bytes → Bool) (left left′ right right′ pairs pairs′ ks ks′ ls ls′ : Bytes)
+    → Alike may left left′ → Alike may right right′ → Alike may pairs pairs′ → Alike may ks ks′ → Alike may ls ls′
+    → AlikeOutcome may (mergeQueriesOutcome left right pairs ks ls) (mergeQueriesOutcome left′ right′ pairs′ ks′ ls′)
+merge-queries-alike = queries-alike
+
+pub push-constants-alike : (may : Bytes → Bool) (query query′ ks ks′ : Bytes) → Alike may query query′ → Alike may ks ks′
+    → AlikeOutcome may (pushConstantsOutcome query ks) (pushConstantsOutcome query′ ks′)
+push-constants-alike = push-alike
+
+pub negate-alike : (may : Bytes → Bool) (query query′ : Bytes) → Alike may query query′ → AlikeOutcome may (negateOutcome query) (negateOutcome query′)
+negate-alike = negation-alike
+
+-- from what a caller sees: two calls with such outcomes and buffers of one length return one number and one size, and the bytes in front are alike
+pub reported-alike : (may : Bytes → Bool) (o o′ : Outcome) (before after before′ after′ : Bytes) (number size number′ size′ : ℕ)
+    → AlikeOutcome may o o′ → length before ≡ length before′ → Reported o before after number size → Reported o′ before′ after′ number′ size′
+    → (number ≡ number′) × (size ≡ size′) × Alike may (take size after) (take size′ after′)
+reported-alike = alike-reported

@@ -1,2 +1,4 @@
 pub mod Composed
 pub mod Swapped
+pub mod Pushed
+pub mod Alike

@@ -36,6 +36,7 @@ use Rattle.merging.proofs.Lists.{Good, constants-good}
 use Rattle.merging.proofs.Names.{Letter}
 use Rattle.merging.proofs.Written.{Known, fit-of, side-valid, free-fits}
 use Rattle.answers.proofs.Answers.{bytes-of}
+use Rattle.answers.proofs.Numbered.{Numbered, written-numbered, then-numbered, test-numbered}
 
 -- a query's text is its head line, then its tree's
 pub query-over : (a : Query) (t : Pattern) → layoutQuery (over a t) ≡ behindHead (a .kind) (a .dataset) (a .base) (layout t)
@@ -73,10 +74,14 @@ letter-v : Letter prefixV
 unfolding clean
 letter-v = refl
 
-pushed-valid : (x : Projection) (ks : List Constant) → Valid (tree x) → length (byPlace (tree x)) ≤ 1024 → inside (x .columns) (positions ks) ≡ true → Good ks → Valid (pushConstantsInProjectPattern x ks)
-unfolding pushConstantsInProjectPattern Valid inside differentPositions all
+pub push-known : (x : Projection) (ks : List Constant) → Valid (tree x) → length (byPlace (tree x)) ≤ 1024 → inside (x .columns) (positions ks) ≡ true → Good ks → Known prefixV x [] ks
+unfolding inside differentPositions all
+push-known x ks v n i g = record { letter = letter-v; valid = v; names = n; pairs = omega arith; joins-inside = refl; joins-once = refl; constants-inside = i; constants-good = g }
+
+pub pushed-valid : (x : Projection) (ks : List Constant) → Valid (tree x) → length (byPlace (tree x)) ≤ 1024 → inside (x .columns) (positions ks) ≡ true → Good ks → Valid (pushConstantsInProjectPattern x ks)
+unfolding pushConstantsInProjectPattern Valid
 pushed-valid x ks v n i g =
-    let k : Known prefixV x [] ks = record { letter = letter-v; valid = v; names = n; pairs = omega arith; joins-inside = refl; joins-once = refl; constants-inside = i; constants-good = g } in
+    let k = push-known x ks v n i g in
     (fit-of variable (freeColumns (onlySide x ks)) (free-fits prefixV x [] ks k), side-valid prefixV x [] ks k)
 
 pub push-reads : (query constants b : Bytes) → pushConstantsOutcome query constants ≡ written b → (q : Query) × (readGivenQuery query ≡ reads q) × Asked q b
@@ -96,6 +101,19 @@ push-reads query constants b e =
     go : (q : Query) (ks : List Constant) → Valid (q .tree) → length (byPlace (q .tree)) ≤ 1024 → Good ks → (t : Bool) → cond t (pushed q ks (asProject (q .tree))) (written (layoutQuery q)) ≡ written b → Asked q b
     go q ks v n g true r = root q ks v n g (asProject (q .tree)) refl r
     go q ks v n g false r = asks q (q .tree) b v r
+
+-- it never refuses with 0
+pub push-numbered : (query constants : Bytes) → Numbered (pushConstantsOutcome query constants)
+unfolding pushConstantsOutcome pushConstants pushed
+push-numbered query constants = then-numbered (readGivenQuery query) _ λ q. then-numbered (readConstants constants) _ λ ks. kind q ks (isSelectOrAsk (q .kind))
+  where
+    root : (q : Query) (ks : List Constant) (o : Option Projection) → Numbered (pushed q ks o)
+    root q ks none = written-numbered (layoutQuery q)
+    root q ks (some x) = test-numbered 3 (inside (x .columns) (positions ks)) _ (λ z. omega arith) (written-numbered (layoutQuery (over q (pushConstantsInProjectPattern x ks))))
+
+    kind : (q : Query) (ks : List Constant) (t : Bool) → Numbered (cond t (pushed q ks (asProject (q .tree))) (written (layoutQuery q)))
+    kind q ks true = root q ks (asProject (q .tree))
+    kind q ks false = written-numbered (layoutQuery q)
 
 -- ---- negate
 
@@ -120,7 +138,7 @@ module _ (f : List Bytes → Pattern → Pattern) (keeps : (cs : List Bytes) (p 
   modified-valid (values cs rs) v = v
   modified-valid (service n s p) v = v
 
-negated-valid : (p : Pattern) → Valid p → Valid (negateProjectPattern p)
+pub negated-valid : (p : Pattern) → Valid p → Valid (negateProjectPattern p)
 unfolding negateProjectPattern Valid Triples Takes
 negated-valid p v = modified-valid (λ cs q. filter (bgp []) (apply NOT (econs (exists q) eend))) (λ cs q w. ((omega arith, tt), (refl, (w, tt)))) p v
 
