@@ -6,8 +6,9 @@
 Renaming by one mapping and then by another is held to renaming by their composition, byte for byte: the composed list as
 docs/SPECIFICATION.md, "Renaming twice", has it, and the same in another order, without lines that change nothing. Merges
 of trees and of queries are made both ways, and the rows of the two answers, each cell read by its column's side and
-position, have to have the same counts. The calls are second_calls.py's, the counts those of counting/semantics.py. Last
-come the two inputs of docs/DECISIONS.md that show why a premise stands.
+position, have to have the same counts. After a push each row has to have the count that "Counts after a push" of
+docs/SPECIFICATION.md says. The calls are second_calls.py's, the counts those of counting/semantics.py. Last come the two
+inputs of docs/DECISIONS.md that show why a premise stands.
 """
 import collections
 import os
@@ -25,7 +26,7 @@ from layout import text, tree
 from merges import made
 from semantics import evaluate
 
-RENAMES, MERGES = 3000, 400
+RENAMES, MERGES, PUSHES = 3000, 400, 600
 HEADS = [b"query\tselect\t-\t-\n", b"query\task\t<d>\t<b>\n"]
 NAMES = [b"?x", b"?y", b"?z", b"?s", b"?xLabel", b"?sLabel", b"?Label", b"?v0", b"?l1", b"?new"]
 
@@ -131,6 +132,39 @@ def swaps(rng):
     return len(found), sum(map(bool, found)), sum(max(each.values(), default=0) > 1 for each in found), held
 
 
+# Rows after a push
+
+def pushed_counts(columns, rows, constants):
+    """The rows of an answer that agree with the constants wherever they are bound, cut to the remaining columns, with their counts."""
+    found = collections.Counter()
+    for row in rows:
+        if all(row.get(columns[position], term) == term for position, term in constants.items()):
+            found[frozenset((i, row[name]) for i, name in enumerate(columns) if i not in constants and name in row)] += 1
+    return found
+
+
+def pushed(rng, merge, side):
+    """The counts of a side's tree after a push of its constants, which are those that the rule says."""
+    root, constants, head = merge.trees[side], merge.constants[side], rng.choice(HEADS)
+    listed = rng.sample(sorted(constants.items()), len(constants))
+    written = call("push", head + text(root).encode(), lines((b"%d" % position, term.encode()) for position, term in listed))
+    assert written.startswith(head), written
+    after = tree(written[len(head):].decode())
+    free = [i for i in range(len(root[1])) if i not in constants]
+    assert after[1] == ["?v%d" % i for i in free], (root, constants, after)
+    found = collections.Counter(frozenset((i, row["?v%d" % i]) for i in free if "?v%d" % i in row) for row in evaluate(merge.triples, after))
+    assert found == pushed_counts(root[1], merge.single[side], constants), (text(root), constants, merge.triples)
+    return found
+
+
+def pushes(rng):
+    tried = [(merge, side) for merge in made(rng, PUSHES // 2) for side in (0, 1)]
+    found = [pushed(rng, *each) for each in tried]
+    held = [merge.constants[side] for merge, side in tried]
+    unbound = sum(any(merge.trees[side][1][i] not in row for row in merge.single[side] for i in merge.constants[side]) for merge, side in tried)
+    return len(found), sum(map(bool, held)), sum(map(bool, found)), sum(max(each.values(), default=0) > 1 for each in found), unbound
+
+
 # Why a premise stands
 
 def too_many_names():
@@ -154,7 +188,8 @@ def main():
     seed = int(sys.argv[1]) if len(sys.argv) > 1 else 1
     rng = random.Random(seed)
     print("laws, seed %d: %d trees renamed twice and by the composed list, %d of them changed by both; " % (seed, *renames(rng)), end="")
-    print("%d merges with their sides swapped, %d with rows, %d with a row more than once, %d with constants on a join pair" % swaps(rng))
+    print("%d merges with their sides swapped, %d with rows, %d with a row more than once, %d with constants on a join pair; " % swaps(rng), end="")
+    print("%d pushes, %d with constants, %d with rows, %d with a row more than once, %d with a constant's column unbound in a row" % pushes(rng))
     too_many_names()
     one_half()
 

@@ -1,0 +1,108 @@
+#!/usr/bin/env python3
+"""Literals changed behind their first quote: crates/laws' Alike from outside.
+
+    python3 -B tests/literals.py [SEED]
+
+Takes inputs of the calls that docs/SPECIFICATION.md, "Literals changed", names: the recorded ones of vectors/, and random
+ones, half of them damaged. In each, some fields that start with a quote get other bytes behind it, as many, none of them
+a tab or a line end; head lines stay. Both inputs are answered by second_calls.py: the answers have to be one refusal, or
+two texts of one length that are the same line by line and field by field, but for fields that are changed literals, each
+beside what it was. Last come inputs for which this would not hold: the two of docs/DECISIONS.md.
+"""
+import random
+import sys
+
+import random_texts
+from make_vectors import recorded
+from second_calls import TEXTS, answer
+
+CALLS = ["merge", "merge_queries", "push", "negate"]
+RANDOM = 1500  # inputs a call
+BYTES = b'?<>"_:-019axL \\@^\x00\r\x7f\xff'
+
+
+def is_changeable(fields, place):
+    return place > 0 and fields[0] != b"query" and fields[place].startswith(b'"')
+
+
+def changed(data, rng, share):
+    """The input with some literals changed, and the pairs of what they were and what they are."""
+    pairs, lines = set(), []
+    for line in data.split(b"\n"):
+        fields = line.split(b"\t")
+        for place, field in enumerate(fields):
+            if is_changeable(fields, place) and rng.random() < share:
+                fields[place] = b'"' + bytes(rng.choice(BYTES) for _ in field[1:])
+                pairs.add((field, fields[place]))
+        lines.append(b"\t".join(fields))
+    return b"\n".join(lines), pairs
+
+
+def differences(first, second):
+    """The pairs of fields in which two texts of the same form differ; None if their forms are not the same."""
+    if len(first) != len(second):
+        return None
+    rows = [[line.split(b"\t") for line in text.split(b"\n")] for text in (first, second)]
+    if list(map(len, rows[0])) != list(map(len, rows[1])):
+        return None
+    return {pair for lines in zip(*rows) for pair in zip(*lines) if pair[0] != pair[1]}
+
+
+def tried(name, data, rng):
+    """Whether the input has literals that were changed, and whether its answer is a text that differs."""
+    other, pairs = changed(data, rng, rng.choice([0.3, 1]))
+    assert len(other) == len(data)
+    found = differences(answer(name, data), answer(name, other))
+    assert found is not None and found <= pairs, (name, data, other)
+    return any(a != b for a, b in pairs), bool(found)
+
+
+def random_text(kind, rng):
+    """A text of that kind; a tree mostly below a `project`, a list mostly with positions that are inside."""
+    make = random_texts.Maker(rng)
+    if kind in ("tree", "query") and rng.random() < 0.7:
+        head = b"query\tselect\t-\t-\n" if kind == "query" else b""
+        return head + b"project\t?x\t?y\t?z\n" + random_texts.well_formed("tree", rng)
+    if kind in ("joins", "constants") and rng.random() < 0.8:
+        places = [b"%d" % place for place in rng.sample(range(3), rng.randrange(3))]
+        return random_texts.joined([[place, place if kind == "joins" else make.constant()] for place in places])
+    return random_texts.well_formed(kind, rng)
+
+
+def random_input(name, rng):
+    """Texts of the call's kinds, one of them damaged in half of the inputs."""
+    texts = [random_text(kind, rng) for kind in TEXTS[name]]
+    if rng.random() < 0.5:
+        place = rng.randrange(len(texts))
+        texts[place] = random_texts.damaged(texts[place], rng)
+    return b"--\n".join(texts)
+
+
+def heads_are_compared():
+    """An opaque field of a head line is no literal, even if it starts with a quote."""
+    query = b'query\tselect\t"%s"\t-\nproject\t?a\nbgp\t0\n'
+    assert answer("merge_queries", b"--\n".join([query % b"d", query % b"d", b"", b"", b""])).startswith(b"query\t")
+    assert answer("merge_queries", b"--\n".join([query % b"e", query % b"d", b"", b"", b""])) == b"refused\t5\n"
+
+
+def first_quote_stays():
+    """The first quote itself tells what a field is."""
+    query = b'query\task\t-\t-\nproject\nbgp\t1\nt\t<s>\t<p>\t%s\n'
+    assert answer("negate", query % b'"a"').startswith(b"query\t")
+    assert answer("negate", query % b"'a'") == b"refused\t1\n"
+
+
+def main():
+    seed = int(sys.argv[1]) if len(sys.argv) > 1 else 1
+    rng = random.Random(seed)
+    for name in CALLS:
+        inputs = [given for given, _ in recorded(name)]
+        found = [tried(name, data, rng) for data in inputs + [random_input(name, rng) for _ in range(RANDOM)]]
+        print("literals changed, seed %d: %s: %d inputs, %d with a changed literal, %d of them with answers that differ there"
+              % (seed, name, len(found), sum(a for a, _ in found), sum(b for _, b in found)))
+    heads_are_compared()
+    first_quote_stays()
+
+
+if __name__ == "__main__":
+    main()
