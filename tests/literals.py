@@ -9,14 +9,15 @@ a tab or a line end; head lines stay. Both inputs are answered by second_calls.p
 two texts of one length that are the same line by line and field by field, but for fields that are changed literals, each
 beside what it was. Last come inputs for which this would not hold: the two of docs/DECISIONS.md.
 """
+import os
 import random
 import sys
 
 import random_texts
-from make_vectors import recorded
+from make_vectors import HERE, recorded
 from second_calls import TEXTS, answer
 
-CALLS = ["merge", "merge_queries", "push", "negate"]
+CALLS = [name for name in TEXTS if name in ("merge", "merge_queries", "push", "negate", "without")]
 RANDOM = 1500  # inputs a call
 BYTES = b'?<>"_:-019axL \\@^\x00\r\x7f\xff'
 
@@ -96,7 +97,8 @@ def main():
     seed = int(sys.argv[1]) if len(sys.argv) > 1 else 1
     rng = random.Random(seed)
     for name in CALLS:
-        inputs = [given for given, _ in recorded(name)]
+        kept = os.path.exists(os.path.join(HERE, "vectors", name + ".txt"))
+        inputs = [given for given, _ in recorded(name)] if kept else []
         found = [tried(name, data, rng) for data in inputs + [random_input(name, rng) for _ in range(RANDOM)]]
         print("literals changed, seed %d: %s: %d inputs, %d with a changed literal, %d of them with answers that differ there"
               % (seed, name, len(found), sum(a for a, _ in found), sum(b for _, b in found)))

@@ -49,21 +49,21 @@ made-through f g h k e (reads a) = ap reads (e a)
 made-through f g h k e (refuses n) = refl
 
 -- a tree that was read
-record Read (p : Pattern) : Type 0 where
-  valid : Valid p
-  few : length (byPlace p) ≤ 1024
+pub record Read (p : Pattern) : Type 0 where
+  pub valid : Valid p
+  pub few : length (byPlace p) ≤ 1024
 
 tree-read : (s : Bytes) (p : Pattern) → readGivenTree s ≡ reads p → Read p
 unfolding byPlace
 tree-read s p e = let x = tree-given s p e in record { valid = x .valid; few = x .names }
 
-query-read : (s : Bytes) (q : Query) → readGivenQuery s ≡ reads q → Read (q .tree)
+pub query-read : (s : Bytes) (q : Query) → readGivenQuery s ≡ reads q → Read (q .tree)
 query-read s q e = record { valid = given-valid s q e; few = given-names s q e }
 
-query-valid : (s : Bytes) (q : Query) → readGivenQuery s ≡ reads q → ValidQuery q
+pub query-valid : (s : Bytes) (q : Query) → readGivenQuery s ≡ reads q → ValidQuery q
 query-valid s q e = query-given s q e .valid
 
-root-read : (p : Pattern) (x : Projection) → asProject p ≡ some x → Read p → TreeRead x
+pub root-read : (p : Pattern) (x : Projection) → asProject p ≡ some x → Read p → TreeRead x
 root-read p x e r = let t = subst Read (project-of p x e) r in record { valid = t .valid; names = t .few }
 
 -- a query's head over another tree
@@ -95,7 +95,7 @@ module _ (may : Bytes → Bool) where
       let c : Query.Pair → Constant = λ x. record { position = position (x .first); term = x .second } in
       ap byPosition (map-map c (erasedPair may) xs ∙ sym (map-map (erasedConstant may) c xs)) ∙ sorted-erased may (constantsIn xs)
 
-  joins-alike : (s t : Bytes) → Alike may s t → ReadAlike (λ (js : List Pair). js) (readJoins s) (readJoins t)
+  pub joins-alike : (s t : Bytes) → Alike may s t → ReadAlike (λ (js : List Pair). js) (readJoins s) (readJoins t)
   unfolding readJoins
   joins-alike s t a =
       let through = made-through (map (erasedPair may)) joinPositions (λ js. js) joinPositions (λ xs. sym (positions-read xs)) in
@@ -110,17 +110,17 @@ module _ (may : Bytes → Bool) where
 
   -- ---- steps of an outcome
 
-  then-alike : {A B : Type 0} (f : A → B) (o p : Reading A) (k l : A → Outcome) → ReadAlike f o p → ((a b : A) → o ≡ reads a → p ≡ reads b → f a ≡ f b → AlikeOutcome may (k a) (l b)) → AlikeOutcome may (then o k) (then p l)
+  pub then-alike : {A B : Type 0} (f : A → B) (o p : Reading A) (k l : A → Outcome) → ReadAlike f o p → ((a b : A) → o ≡ reads a → p ≡ reads b → f a ≡ f b → AlikeOutcome may (k a) (l b)) → AlikeOutcome may (then o k) (then p l)
   then-alike f o p k l (reads-alike a b e) h = h a b refl refl e
   then-alike f o p k l (refuses-alike n) h = refused-alike (refusalNumber n)
 
-  or-alike : {A B : Type 0} (n : ℕ) (f : A → B) (o p : Option A) (k l : A → Outcome) → onOption f o ≡ onOption f p → ((a b : A) → o ≡ some a → p ≡ some b → f a ≡ f b → AlikeOutcome may (k a) (l b)) → AlikeOutcome may (orRefused n o k) (orRefused n p l)
+  pub or-alike : {A B : Type 0} (n : ℕ) (f : A → B) (o p : Option A) (k l : A → Outcome) → onOption f o ≡ onOption f p → ((a b : A) → o ≡ some a → p ≡ some b → f a ≡ f b → AlikeOutcome may (k a) (l b)) → AlikeOutcome may (orRefused n o k) (orRefused n p l)
   or-alike n f none none k l e h = refused-alike n
   or-alike n f none (some b) k l e h = let z : _≡_ {A = ℕ} 0 1 = cc in absurd (omega arith)
   or-alike n f (some a) none k l e h = let z : _≡_ {A = ℕ} 0 1 = cc in absurd (omega arith)
   or-alike n f (some a) (some b) k l e h = h a b refl refl (let t : f a ≡ f b = cc in t)
 
-  unless-alike : (n : ℕ) (s t : Bool) (o p : Outcome) → s ≡ t → (s ≡ true → AlikeOutcome may o p) → AlikeOutcome may (refusedUnless n s o) (refusedUnless n t p)
+  pub unless-alike : (n : ℕ) (s t : Bool) (o p : Outcome) → s ≡ t → (s ≡ true → AlikeOutcome may o p) → AlikeOutcome may (refusedUnless n s o) (refusedUnless n t p)
   unless-alike n true true o p e h = h refl
   unless-alike n false false o p e h = refused-alike n
   unless-alike n true false o p e h = let z : _≡_ {A = ℕ} 0 1 = cc in absurd (omega arith)
@@ -133,17 +133,17 @@ module _ (may : Bytes → Bool) where
   both-branches false true o p o′ p′ e a b = let z : _≡_ {A = ℕ} 0 1 = cc in absurd (omega arith)
 
   -- two outcomes, told in another way
-  told-alike : (o o′ p p′ : Outcome) → o ≡ p → o′ ≡ p′ → AlikeOutcome may p p′ → AlikeOutcome may o o′
+  pub told-alike : (o o′ p p′ : Outcome) → o ≡ p → o′ ≡ p′ → AlikeOutcome may p p′ → AlikeOutcome may o o′
   told-alike o o′ p p′ e e′ a = subst (λ (q : Outcome). AlikeOutcome may q o′) (sym e) (subst (AlikeOutcome may p) (sym e′) a)
 
-  roots-alike : (p q : Pattern) → erasedTree may p ≡ erasedTree may q → onOption (erasedProjection may) (asProject p) ≡ onOption (erasedProjection may) (asProject q)
+  pub roots-alike : (p q : Pattern) → erasedTree may p ≡ erasedTree may q → onOption (erasedProjection may) (asProject p) ≡ onOption (erasedProjection may) (asProject q)
   roots-alike p q e = sym (root-erased may p) ∙ ap asProject e ∙ root-erased may q
 
   -- trees and queries as they are given
   tree-step : (s t : Bytes) (k l : Pattern → Outcome) → Alike may s t → ((p q : Pattern) → readGivenTree s ≡ reads p → readGivenTree t ≡ reads q → erasedTree may p ≡ erasedTree may q → AlikeOutcome may (k p) (l q)) → AlikeOutcome may (then (readGivenTree s) k) (then (readGivenTree t) l)
   tree-step s t k l a h = then-alike (erasedTree may) (readGivenTree s) (readGivenTree t) k l (read-alike (erasedTree may) (readGivenTree s) (readGivenTree t) (given-tree-alike may s t a)) h
 
-  query-step : (s t : Bytes) (k l : Query → Outcome) → Alike may s t → ((p q : Query) → readGivenQuery s ≡ reads p → readGivenQuery t ≡ reads q → erasedQuery may p ≡ erasedQuery may q → AlikeOutcome may (k p) (l q)) → AlikeOutcome may (then (readGivenQuery s) k) (then (readGivenQuery t) l)
+  pub query-step : (s t : Bytes) (k l : Query → Outcome) → Alike may s t → ((p q : Query) → readGivenQuery s ≡ reads p → readGivenQuery t ≡ reads q → erasedQuery may p ≡ erasedQuery may q → AlikeOutcome may (k p) (l q)) → AlikeOutcome may (then (readGivenQuery s) k) (then (readGivenQuery t) l)
   query-step s t k l a h = then-alike (erasedQuery may) (readGivenQuery s) (readGivenQuery t) k l (read-alike (erasedQuery may) (readGivenQuery s) (readGivenQuery t) (given-query-alike may s t a)) h
 
   -- ---- what is written
@@ -163,13 +163,13 @@ module _ (may : Bytes → Bool) where
 
   -- ---- two trees
 
-  requests-same : (l l′ r r′ : Projection) (js js′ : List Pair) (ks ks′ ls ls′ : List Constant) → erasedProjection may l ≡ erasedProjection may l′ → erasedProjection may r ≡ erasedProjection may r′ → js ≡ js′
+  pub requests-same : (l l′ r r′ : Projection) (js js′ : List Pair) (ks ks′ ls ls′ : List Constant) → erasedProjection may l ≡ erasedProjection may l′ → erasedProjection may r ≡ erasedProjection may r′ → js ≡ js′
       → map (erasedConstant may) ks ≡ map (erasedConstant may) ks′ → map (erasedConstant may) ls ≡ map (erasedConstant may) ls′
       → erasedRequest may (request l r js ks ls) ≡ erasedRequest may (request l′ r′ js′ ks′ ls′)
   requests-same l l′ r r′ js js′ ks ks′ ls ls′ a b c d e = λ i. request (a i) (b i) (c i) (d i) (e i)
 
   -- trees that are written alike wherever they are the same erased
-  unfoldable Goes : (Pattern → Outcome) → (Pattern → Outcome) → Type 0
+  unfoldable pub Goes : (Pattern → Outcome) → (Pattern → Outcome) → Type 0
   Goes k k′ = (t t′ : Pattern) → Valid t → Valid t′ → erasedTree may t ≡ erasedTree may t′ → AlikeOutcome may (k t) (k′ t′)
 
   merged-read : (m : Request) (pairs ks ls : Bytes) → TreeRead (m .left) → TreeRead (m .right) → Lists pairs ks ls m → allInside m ≡ true → noneTwice (m .joins) ≡ true
@@ -201,13 +201,13 @@ module _ (may : Bytes → Bool) where
   unfolding Goes
   trees-go t t′ v v′ e = written-tree t t′ v v′ e
 
-  queries-go : (q q′ : Query) → ValidQuery q → ValidQuery q′ → erasedQuery may q ≡ erasedQuery may q′ → Goes (λ t. written (layoutQuery (over q t))) (λ t. written (layoutQuery (over q′ t)))
+  pub queries-go : (q q′ : Query) → ValidQuery q → ValidQuery q′ → erasedQuery may q ≡ erasedQuery may q′ → Goes (λ t. written (layoutQuery (over q t))) (λ t. written (layoutQuery (over q′ t)))
   unfolding Goes
   queries-go q q′ v v′ e t t′ w w′ f = written-query (over q t) (over q′ t′) (query-of q t v w) (query-of q′ t′ v′ w′) (ap₂ over e f)
 
   -- ---- the merges
 
-  heads-alike : (a a′ b b′ : Query) → erasedQuery may a ≡ erasedQuery may a′ → erasedQuery may b ≡ erasedQuery may b′ → mergeable a b ≡ mergeable a′ b′
+  pub heads-alike : (a a′ b b′ : Query) → erasedQuery may a ≡ erasedQuery may a′ → erasedQuery may b ≡ erasedQuery may b′ → mergeable a b ≡ mergeable a′ b′
   unfolding mergeable
   heads-alike a a′ b b′ e f = ap₂ mergeable e f
 

@@ -1,4 +1,4 @@
--- Texts that differ inside literals, at work: two queries and two constants, what is pushed and negated of them, and why a head line has to stay. Assumes nothing.
+-- Texts that differ inside literals, at work: two queries and two constants, what is pushed, left over and negated of them, and why a head line has to stay. Assumes nothing.
 use mathlib.Core.Path.{_≡_, refl, ap}
 use mathlib.Core.Bool.{Bool, true}
 use mathlib.Core.List.{[], _∷_}
@@ -27,6 +27,7 @@ use Rattle.answers.specs.Outcome.{refused, written}
 use Rattle.merging.specs.Merge.{mergeQueriesOutcome}
 use Rattle.merging.specs.Push.{pushConstantsOutcome}
 use Rattle.merging.specs.Negate.{negateOutcome}
+use Rattle.merging.specs.Without.{withoutQueriesOutcome}
 use Rattle.laws.specs.Alike.{ends, also, AlikeField, equal, literals, untouched, touched, Alike, AlikeOutcome}
 use Rattle.laws.proofs.Erased.{marked, erased}
 use Rattle.laws.proofs.AlikeLines.{field-long, field-same}
@@ -66,6 +67,14 @@ texts : pushConstantsOutcome query (bytes "0\t\"k\"\n") ∷ pushConstantsOutcome
     ∷ written (bytes "query\tselect\t-\t-\nproject\t?v1\njoin\nbgp\t2\nt\t?v0\t<p>\t\"?y<z>.\nt\t?v0\t?v1\t\"on\"\nvalues\t1\t1\ncols\t?v0\nrow\t\"m\"\n") ∷ []
 unfolding pushConstantsOutcome readGivenQuery readPairs readText within noted headed paired notes mem inside several one end tooMany kept rest times expressions orders aggregates patternAfter expressionAfter linesOf linesIn split onto same spelled numberOf digitsOf fits isKind clean isVar isIri isLiteral isBlank isDash isFlag isTag isRegion isDatatype isForm allFit layout layoutQuery put putTriples putRows putArity putQuery decimal digits textOf ended sideName columnsAt renameInGraphPattern renameInTerm renamed standardizeVariables pushAll push get insert base isLabel generated numbered inScopeByPlace hiddenByPlace byPlace tally tallyTriples tallyRows keep variablesOf tripleVariables variablesInPattern
 texts = refl
+
+-- and what without writes
+remaining : withoutQueriesOutcome (bytes "query\tselect\t-\t-\nproject\t?a\nbgp\t1\nt\t?a\t<p>\t\"k\"\n") (bytes "query\tselect\t-\t-\nproject\t?c\nbgp\t1\nt\t?c\t<q>\t\"K1\"@en\n") (bytes "0\t0\n")
+    ∷ withoutQueriesOutcome (bytes "query\tselect\t-\t-\nproject\t?a\nbgp\t1\nt\t?a\t<p>\t\"m\"\n") (bytes "query\tselect\t-\t-\nproject\t?c\nbgp\t1\nt\t?c\t<q>\t\"?y<z>.\n") (bytes "0\t0\n") ∷ []
+    ≡ written (bytes "query\tselect\t-\t-\nproject\t?j0\nminus\nbgp\t1\nt\t?j0\t<p>\t\"k\"\nbgp\t1\nt\t?j0\t<q>\t\"K1\"@en\n")
+    ∷ written (bytes "query\tselect\t-\t-\nproject\t?j0\nminus\nbgp\t1\nt\t?j0\t<p>\t\"m\"\nbgp\t1\nt\t?j0\t<q>\t\"?y<z>.\n") ∷ []
+unfolding withoutQueriesOutcome readGivenQuery readPairs readText within noted headed paired notes mem inside several one end tooMany kept rest times expressions orders aggregates patternAfter expressionAfter linesOf linesIn split onto same spelled numberOf digitsOf fits isKind clean isVar isIri isLiteral isBlank isDash isFlag isTag isRegion isDatatype isForm allFit layout layoutQuery put putTriples putRows putArity putQuery decimal digits textOf ended sideName columnsAt renameInGraphPattern renameInTerm renamed standardizeVariables pushAll push get insert base isLabel generated numbered inScopeByPlace hiddenByPlace byPlace tally tallyTriples tallyRows keep variablesOf tripleVariables variablesInPattern
+remaining = refl
 
 -- a quote that is changed is another kind of field: no term of a triple may start so
 quotes : negateOutcome (bytes "query\task\t-\t-\nproject\nbgp\t1\nt\t<s>\t<p>\t\"a\"\n") ∷ negateOutcome (bytes "query\task\t-\t-\nproject\nbgp\t1\nt\t<s>\t<p>\t'a\"\n") ∷ []

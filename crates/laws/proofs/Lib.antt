@@ -21,6 +21,7 @@ pub mod ErasedCalls
 pub mod AlikeLines
 pub mod AlikeReads
 pub mod AlikeCalls
+pub mod AlikeWithout
 pub mod AlikeReported
 pub mod Theorem
 pub mod AlikeWorked

@@ -36,7 +36,9 @@ use Rattle.merging.specs.Names.{from, isAt}
 use Rattle.merging.proofs.Lists.{isTerm}
 use Rattle.demand3.proofs.Expected.{term-cell}
 use Rattle.demand3.proofs.MergedColumns.{free-by-position}
-use Rattle.laws.specs.Pushed.{freePositions, cellAt, cutToFree, agreesWith}
+use Rattle.demand3.specs.Unmatched.{cellAt}
+use Rattle.demand3.proofs.Minus.{at-cells}
+use Rattle.laws.specs.Pushed.{freePositions, cutToFree, agreesWith}
 
 -- ---- a row against the row of constants
 
@@ -75,11 +77,6 @@ agree-named U a C (k ∷ ks) d s h =
     ∙ ap (λ (b : Bool). compatible (a (C k)) (some (k .term)) && b) (agree-named U a C ks (and-right (not (mem (C k) (map C ks))) (different (map C ks)) d) (λ v m. s v (mem-there v (C k) (map C ks) m)) (and-right (isTerm k) (all isTerm ks) h))
 
 -- ---- positions
-
-at-cells : (cs : List Bytes) (a : Row) (i : ℕ) → i < length cs → cellAt (cells cs a) i ≡ a (columnAt cs i)
-at-cells [] a i h = absurd (omega arith)
-at-cells (c ∷ cs) a zero h = refl
-at-cells (c ∷ cs) a (suc i) h = at-cells cs a i (omega arith)
 
 -- inside, and without a constant
 

@@ -22,6 +22,7 @@ use Rattle.merging.specs.Request.{Projection, tree, readJoins, readConstants, R
 use Rattle.merging.specs.Merge.{mergePatternsOutcome, isSelectOrAsk, mergeQueriesOutcome}
 use Rattle.merging.specs.Push.{pushConstantsOutcome}
 use Rattle.merging.specs.Negate.{negateOutcome}
+use Rattle.merging.specs.Without.{withoutQueriesOutcome}
 use Rattle.merging.specs.Asked.{Trees, Lists, Queries, behindHead}
 use Rattle.demand3.specs.Names.{columnName, mergedNames}
 use Rattle.laws.specs.Composed.{composed}
@@ -33,6 +34,7 @@ use Rattle.laws.proofs.Middle.{middle-good}
 use Rattle.laws.proofs.SwapBytes.{patterns-swapped, queries-swapped}
 use Rattle.laws.proofs.Push.{pushed-counts, pushed-returned}
 use Rattle.laws.proofs.AlikeCalls.{patterns-alike, queries-alike, push-alike, negation-alike}
+use Rattle.laws.proofs.AlikeWithout.{without-alike}
 use Rattle.laws.proofs.AlikeReported.{alike-reported}
 
 -- ---- renaming by one mapping and then by another
@@ -111,6 +113,10 @@ push-constants-alike = push-alike
 
 pub negate-alike : (may : Bytes → Bool) (query query′ : Bytes) → Alike may query query′ → AlikeOutcome may (negateOutcome query) (negateOutcome query′)
 negate-alike = negation-alike
+
+pub without-queries-alike : (may : Bytes → Bool) (left left′ right right′ pairs pairs′ : Bytes) → Alike may left left′ → Alike may right right′ → Alike may pairs pairs′
+    → AlikeOutcome may (withoutQueriesOutcome left right pairs) (withoutQueriesOutcome left′ right′ pairs′)
+without-queries-alike = without-alike
 
 -- from what a caller sees: two calls with such outcomes and buffers of one length return one number and one size, and the bytes in front are alike
 pub reported-alike : (may : Bytes → Bool) (o o′ : Outcome) (before after before′ after′ : Bytes) (number size number′ size′ : ℕ)

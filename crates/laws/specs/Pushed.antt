@@ -2,9 +2,8 @@
 use mathlib.Core.Path.{_≡_}
 use mathlib.Core.Bool.{Bool, cond, not, _&&_}
 use mathlib.Core.List.{List, [], map}
-use mathlib.Core.Option.{none, some}
+use mathlib.Core.Option.{some}
 use Prim.Native.Nat.{ℕ}
-use lib.ListN.{getD}
 use Rattle.text.specs.Text.{Bytes}
 use Rattle.algebra.specs.Tree.{Triple}
 use Rattle.algebra.specs.Reader.{reads}
@@ -19,6 +18,7 @@ use Rattle.merging.specs.Request.{Projection, tree, positions}
 use Rattle.merging.specs.Names.{from, isAt}
 use Rattle.demand3.specs.Names.{columnPositions, columnName}
 use Rattle.demand3.specs.Demand3.{Supposed}
+use Rattle.demand3.specs.Unmatched.{cellAt}
 
 -- ---- columns
 
@@ -33,10 +33,6 @@ unfolding freePositions columnName
 pushedNames x ks = map (columnName prefixV x []) (freePositions x ks)
 
 -- ---- rows
-
--- the cell at a position
-abbrev pub cellAt : List Cell → ℕ → Cell
-cellAt row i = getD row i none
 
 -- a row cut to the remaining columns
 unfoldable pub cutToFree : Projection → List Constant → List Cell → List Cell
