@@ -23,6 +23,7 @@ import values
 # The kinds of text that a call reads, in order.
 KINDS = {row.name: row.kinds for row in calls.ROWS}
 TEXTS = {name: kinds for name, kinds in KINDS.items() if name not in ("scope", "rename")}
+OF_NEMO = [name for name in TEXTS if name not in calls.OURS]
 BAR = b"--\n"
 EMPTY = b"project\nbgp\t0\n"
 HUGE = 4294967295
@@ -198,6 +199,9 @@ class Inputs:
         left, right, *lists = self.merge()
         head = self.head()
         return [query(head, left), query(self.other_head(head), right), *lists]
+
+    def without(self):
+        return self.merge_queries()[:3]
 
     def push(self):
         tree = self.tree(trees.name_pool(self.rng))
