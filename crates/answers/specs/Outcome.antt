@@ -8,7 +8,7 @@ use lib.ListN.{length, drop}
 use Rattle.text.specs.Text.{Bytes}
 use Rattle.algebra.specs.Reader.{Outcome as Reading, reads, refuses, refusalNumber}
 use Rattle.answers.specs.declared.Answer.{Answer}
-use Rattle.answers.specs.declared.Answer.the-variants.{Written, Malformed, OverBound, Outside, NotProject, NotMergeable, TooShort, NotUsable, ListTooShort, Repeated, NoPairs}
+use Rattle.answers.specs.declared.Answer.the-variants.{Written, Malformed, OverBound, Outside, NotProject, NotMergeable, TooShort, NotUsable, ListTooShort, Repeated, NoPairs, NotInOrder, NotCovered}
 
 -- ---- what is to come of the texts alone
 
@@ -47,6 +47,8 @@ number NotUsable = 7
 number ListTooShort = 9
 number Repeated = 10
 number NoPairs = 11
+number NotInOrder = 14
+number NotCovered = 15
 
 -- a refusal has length 0
 abbrev pub size : Answer → ℕ
@@ -61,6 +63,8 @@ size NotUsable = 0
 size ListTooShort = 0
 size Repeated = 0
 size NoPairs = 0
+size NotInOrder = 0
+size NotCovered = 0
 
 -- number, length and every byte of the buffer: what stood behind the answer stays, and 6 means that it is longer than the buffer
 unfoldable pub Reported : Outcome → Bytes → Bytes → ℕ → ℕ → Type 0

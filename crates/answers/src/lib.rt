@@ -15,6 +15,8 @@ pub enum Answer {
     ListTooShort,
     Repeated,
     NoPairs,
+    NotInOrder,
+    NotCovered,
 }
 
 // An answer, and how many numbers were written into the list beside it.
@@ -39,6 +41,8 @@ pub fn number(a: Answer) -> u8
         Answer::ListTooShort => 9,
         Answer::Repeated => 10,
         Answer::NoPairs => 11,
+        Answer::NotInOrder => 14,
+        Answer::NotCovered => 15,
     }
 }
 
@@ -58,5 +62,7 @@ pub fn size_of(a: Answer) -> usize
         Answer::ListTooShort => 0,
         Answer::Repeated => 0,
         Answer::NoPairs => 0,
+        Answer::NotInOrder => 0,
+        Answer::NotCovered => 0,
     }
 }

@@ -17,6 +17,7 @@ pub mod Side
 pub mod Merge
 pub mod Push
 pub mod Without
+pub mod Namespaces
 pub mod Theorem
 pub mod Most
 pub mod Worked

@@ -25,7 +25,8 @@ use Rattle.surveying.specs.Scope.{scopeOutcome}
 use Rattle.renaming.specs.Rename.{renameOutcome}
 use Rattle.filtering.specs.Bindings.{bindingsOutcome}
 use Rattle.filtering.specs.Filters.{filtersOutcome}
-use Rattle.room.specs.Room.{scopeRoom, renameRoom, mergeRoom, pushRoom, negateRoom, withoutRoom, bindingsRoom, filtersRoom, longest, Suffices}
+use Rattle.converting.specs.Namespaces.{namespacesOutcome}
+use Rattle.room.specs.Room.{scopeRoom, renameRoom, mergeRoom, pushRoom, negateRoom, withoutRoom, bindingsRoom, filtersRoom, namespacesRoom, longest, Suffices}
 use Rattle.room.proofs.Enough.{Enough, suffices}
 use Rattle.room.proofs.Scope.{scope-enough}
 use Rattle.room.proofs.Rename.{rename-enough}
@@ -35,6 +36,7 @@ use Rattle.room.proofs.Negate.{negate-enough}
 use Rattle.room.proofs.Without.{without-enough}
 use Rattle.room.proofs.Bindings.{bindings-given-enough}
 use Rattle.room.proofs.Filters.{filters-enough}
+use Rattle.room.proofs.Namespaces.{namespaces-enough}
 
 -- ---- texts that are read
 
@@ -110,6 +112,12 @@ filters-most tree filters = most-suffices (filtersRoom (length tree) (length fil
     let x = then-written (readGivenTree tree) _ b e in
     let y = then-written (readFilters filters) _ b (x .2) in
     omega (arith, tree-short tree (x .0) (x .1), filters-short filters (y .0) (y .1))
+
+pub namespaces-most : (tree table : Bytes) → Suffices (namespacesRoom longest) (namespacesOutcome tree table)
+unfolding namespacesOutcome namespacesRoom
+namespaces-most tree table = most-suffices (namespacesRoom (length tree)) (namespacesRoom longest) (namespacesOutcome tree table) (namespaces-enough tree table) λ b e.
+    let x = then-written (readGivenTree tree) _ b e in
+    omega (arith, tree-short tree (x .0) (x .1))
 
 module _ (left right pairs leftConstants rightConstants : Bytes) where
   abbrev own : ℕ

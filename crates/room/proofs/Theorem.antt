@@ -15,7 +15,8 @@ use Rattle.algebra.specs.Given.{readGivenTree}
 use Rattle.filtering.specs.Filters.{filtersOutcome}
 use Rattle.filtering.specs.NotPlaced.{filtersNotPlaced}
 use Rattle.filtering.proofs.NotPlaced.{list-in-bounds}
-use Rattle.room.specs.Room.{scopeRoom, renameRoom, mergeRoom, pushRoom, negateRoom, withoutRoom, bindingsRoom, filtersRoom, listRoom, Suffices, SufficesBoth}
+use Rattle.converting.specs.Namespaces.{namespacesOutcome}
+use Rattle.room.specs.Room.{scopeRoom, renameRoom, mergeRoom, pushRoom, negateRoom, withoutRoom, bindingsRoom, filtersRoom, listRoom, namespacesRoom, Suffices, SufficesBoth}
 use Rattle.room.proofs.Enough.{written-fits, suffices, suffices-both}
 use Rattle.room.proofs.Scope.{scope-enough}
 use Rattle.room.proofs.Rename.{rename-enough}
@@ -25,6 +26,7 @@ use Rattle.room.proofs.Negate.{negate-enough}
 use Rattle.room.proofs.Without.{without-enough}
 use Rattle.room.proofs.Bindings.{bindings-given-enough}
 use Rattle.room.proofs.Filters.{filters-enough, filters-not-nine}
+use Rattle.room.proofs.Namespaces.{namespaces-enough}
 
 -- ---- scope
 
@@ -103,3 +105,11 @@ filters-list-room tree filters = list-in-bounds (readGivenTree tree) filters .0
 
 pub filters-never-short : (tree filters : Bytes) → SufficesBoth (filtersRoom (length tree) (length filters)) listRoom (filtersOutcome tree filters) (filtersNotPlaced tree filters)
 filters-never-short tree filters = suffices-both (filtersRoom (length tree) (length filters)) listRoom (filtersOutcome tree filters) (filtersNotPlaced tree filters) (filters-enough tree filters) (filters-not-nine tree filters) (filters-list-room tree filters)
+
+-- ---- namespaces
+
+pub namespaces-room : (tree table b : Bytes) → namespacesOutcome tree table ≡ written b → length b ≤ namespacesRoom (length tree)
+namespaces-room tree table b e = written-fits (namespacesRoom (length tree)) (namespacesOutcome tree table) b (namespaces-enough tree table) e
+
+pub namespaces-never-short : (tree table : Bytes) → Suffices (namespacesRoom (length tree)) (namespacesOutcome tree table)
+namespaces-never-short tree table = suffices (namespacesRoom (length tree)) (namespacesOutcome tree table) (namespaces-enough tree table)

@@ -1,4 +1,4 @@
--- Closed instances: the rooms of the specification's merges beside what is written, two answers that come as near as they can, and one size of buffer for all texts. Assumes nothing.
+-- Closed instances: the rooms of the specification's merges beside what is written, answers that come as near as they can, and one size of buffer for all texts. Assumes nothing.
 use Prim.Native.Nat.{ℕ, _+_}
 use Prim.Native.String.{String}
 use mathlib.Core.Path.{_≡_, refl, ap}
@@ -21,7 +21,8 @@ use Rattle.surveying.proofs.Given.{scope-empty}
 use Rattle.merging.specs.Cases.{Call, mergePatterns, mergeQueries, pushConstants, negate, without, Case, cases, outcomeOf}
 use Rattle.merging.proofs.Worked.{worked}
 use Rattle.filtering.specs.Filters.{filtersOutcome}
-use Rattle.room.specs.Room.{scopeRoom, renameRoom, mergeRoom, pushRoom, negateRoom, withoutRoom, bindingsRoom, filtersRoom, longest}
+use Rattle.converting.specs.Namespaces.{namespacesOutcome}
+use Rattle.room.specs.Room.{scopeRoom, renameRoom, mergeRoom, pushRoom, negateRoom, withoutRoom, bindingsRoom, filtersRoom, namespacesRoom, longest}
 
 -- the bytes that an outcome writes
 abbrev lengthOf : Outcome → ℕ
@@ -73,10 +74,24 @@ pub filters-near : lengthOf (filtersOutcome (bytes wide) (bytes "ref\t0\n")) ≡
 unfolding filtersOutcome readGivenTree readFilters readText within noted headed notes mem inside several one end tooMany kept rest times expressions orders aggregates patternAfter expressionAfter parts partAfter filterIn linesOf linesIn split onto same spelled numberOf digitsOf fits isKind clean isVar isIri isLiteral isBlank isDash isFlag isTag isRegion isDatatype isForm allFit layout put putTriples putRows putArity decimal digits textOf ended
 filters-near = refl
 
+-- the two lines of an empty file
+pub namespaces-reached : lengthOf (namespacesOutcome [] []) ≡ namespacesRoom 0
+unfolding namespacesOutcome readGivenTree readText within noted headed notes mem inside several one end tooMany kept rest times expressions orders aggregates patternAfter expressionAfter parts partAfter filterIn linesOf linesIn split onto same spelled numberOf digitsOf fits isKind clean isVar isIri isLiteral isBlank isDash isFlag isTag isRegion isDatatype isForm allFit layout put putTriples putRows putArity decimal digits textOf ended namespacesRoom
+namespaces-reached = refl
+
+-- three IRIs of 3 bytes, that get a start of 128 bytes each: 273 bytes short of the room
+abbrev grows : String
+grows = "a\tbbbbbbbbbbbbbbbbbbbbbbbbbbbbbbbbbbbbbbbbbbbbbbbbbbbbbbbbbbbbbbbbbbbbbbbbbbbbbbbbbbbbbbbbbbbbbbbbbbbbbbbbbbbbbbbbbbbbbbbbbbbbbbbb\n"
+
+pub namespaces-near : lengthOf (namespacesOutcome (bytes "bgp\t1\nt\t<a>\t<a>\t<a>\n") (bytes grows)) + 273 ≡ namespacesRoom (size "bgp\t1\nt\t<a>\t<a>\t<a>\n")
+unfolding namespacesOutcome readGivenTree readText within noted headed notes mem inside several one end tooMany kept rest times expressions orders aggregates patternAfter expressionAfter parts partAfter filterIn linesOf linesIn split onto same spelled numberOf digitsOf fits isKind clean isVar isIri isLiteral isBlank isDash isFlag isTag isRegion isDatatype isForm allFit layout put putTriples putRows putArity decimal digits textOf ended namespacesRoom
+namespaces-near = refl
+
 -- ---- room for all texts
 
 pub longest-rooms :
     (scopeRoom longest ≡ 16391) × (renameRoom longest ≡ 720910) × (mergeRoom longest longest longest longest ≡ 131156) × (pushRoom longest longest ≡ 65578)
     × (negateRoom longest ≡ 16422) × (withoutRoom longest longest ≡ 98388) × (bindingsRoom longest longest ≡ 1081358) × (filtersRoom longest longest ≡ 409614)
-unfolding scopeRoom renameRoom mergeRoom pushRoom negateRoom withoutRoom bindingsRoom filtersRoom
-longest-rooms = (refl, refl, refl, refl, refl, refl, refl, refl)
+    × (namespacesRoom longest ≡ 540686)
+unfolding scopeRoom renameRoom mergeRoom pushRoom negateRoom withoutRoom bindingsRoom filtersRoom namespacesRoom
+longest-rooms = (refl, refl, refl, refl, refl, refl, refl, refl, refl)

@@ -47,6 +47,10 @@ filtersRoom tree filters = tree + 24 * filters + 14
 abbrev pub listRoom : ℕ
 listRoom = bounds .entries
 
+-- namespaces: an IRI of 3 bytes that a line covers, with its tab or line end, can grow by 127; an empty file becomes two lines
+unfoldable pub namespacesRoom : ℕ → ℕ
+namespacesRoom tree = 33 * tree + 14
+
 -- the longest text that isn't refused for its length: room for it is room for every text
 abbrev pub longest : ℕ
 longest = bounds .bytes

@@ -1,0 +1,10 @@
+pub mod Worked
+pub mod Order
+pub mod Fields
+pub mod Lines
+pub mod Iris
+pub mod Reading
+pub mod Valid
+pub mod Converted
+pub mod ByLine
+pub mod Theorem
