@@ -1,0 +1,9 @@
+pub mod Fields
+pub mod Spans
+pub mod Reading
+pub mod Keys
+pub mod Going
+pub mod Turns
+pub mod Said
+pub mod Compared
+pub mod Ordering
