@@ -18,6 +18,7 @@ use Rattle.merging.specs.Without.{withoutQueriesOutcome}
 use Rattle.filtering.specs.Bindings.{bindingsOutcome}
 use Rattle.filtering.specs.Filters.{filtersOutcome}
 use Rattle.filtering.specs.NotPlaced.{filtersNotPlaced}
+use Rattle.converting.specs.Namespaces.{namespacesOutcome}
 
 -- a call: its name, how many texts it reads, its outcome of them, and the numbers that it lists
 pub record Call : Type 0 where
@@ -55,6 +56,7 @@ calls =
     ∷ two "bindings" bindingsOutcome
     ∷ listing "filters" filtersOutcome filtersNotPlaced
     ∷ three "without" withoutQueriesOutcome
+    ∷ two "namespaces" namespacesOutcome
     ∷ []
 
 -- behind the last one: it reads no text, so that every input has too many

@@ -19,6 +19,7 @@ use negating::negate;
 use parted::part_texts;
 use parted::text_at;
 use renaming::rename::rename;
+use respelling::namespaces;
 use surveying::scope::scope;
 use text::equal;
 use text::piece;
@@ -52,7 +53,9 @@ const FILTERS: [u8; 7] = *b"filters";
 
 const WITHOUT: [u8; 7] = *b"without";
 
-// A call's number by its name; 9 is no call's.
+const NAMESPACES: [u8; 10] = *b"namespaces";
+
+// A call's number by its name; 10 is no call's.
 pub fn call_number(name: &[u8]) -> u32
     ensures { λ r. ⌜ r ≡ callNumber (now (name .entry)) ⌝ }
 {
@@ -83,7 +86,10 @@ pub fn call_number(name: &[u8]) -> u32
     if equal(name, &WITHOUT) {
         return 8;
     }
-    9
+    if equal(name, &NAMESPACES) {
+        return 9;
+    }
+    10
 }
 
 // A call's answer to one text.
@@ -112,6 +118,9 @@ fn of_two(call: u32, a: &[u8], b: &[u8], out: &mut [u8]) -> Answer
     }
     if call == 6 {
         return bindings(a, b, out);
+    }
+    if call == 9 {
+        return namespaces(a, b, out);
     }
     Answer::Malformed
 }

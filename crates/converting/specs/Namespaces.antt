@@ -1,4 +1,4 @@
--- The call namespaces: each IRI's old start becomes the new one. docs/SPECIFICATION.md, "Namespaces". Assumes nothing.
+-- The call namespaces: each IRI's old start becomes the new one. docs/SPECIFICATION.md, "namespaces". Assumes nothing.
 use Prim.Native.Nat.{suc}
 use mathlib.Core.Bool.{Bool, cond}
 use mathlib.Core.List.{List, [], _∷_, _++_}

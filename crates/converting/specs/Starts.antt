@@ -1,4 +1,4 @@
--- The namespace table: its lines `old new`, and when they are in order. docs/SPECIFICATION.md, "Namespaces". Assumes nothing.
+-- The namespace table: its lines `old new`, and when they are in order. docs/SPECIFICATION.md, "Namespace tables". Assumes nothing.
 use Prim.Native.Nat.{ℕ}
 use mathlib.Core.Bool.{Bool, true, false, not, _&&_, _||_}
 use mathlib.Core.List.{List, [], _∷_, map}

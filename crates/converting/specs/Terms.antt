@@ -1,4 +1,4 @@
--- The terms of a tree, graph and service names included, and a tree whose IRIs become others. docs/SPECIFICATION.md, "Namespaces". Assumes nothing.
+-- The terms of a tree, graph and service names included, and a tree whose IRIs become others. docs/SPECIFICATION.md, "namespaces". Assumes nothing.
 -- Columns and other variables are no IRIs; path texts, call and aggregate names are no terms, and a datatype is a part of its literal.
 use mathlib.Core.Bool.{cond}
 use mathlib.Core.List.{List, [], _∷_, _++_, map}

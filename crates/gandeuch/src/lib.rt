@@ -9,6 +9,7 @@ use joining::queries::merge_queries;
 use joining::without::without;
 use negating::negate;
 use renaming::rename::rename;
+use respelling::namespaces;
 use surveying::scope::scope;
 ghost use Rattle.answers.specs.Outcome.{Reported};
 ghost use Rattle.answers.specs.Both.{ReportedBoth};
@@ -21,6 +22,7 @@ ghost use Rattle.merging.specs.Merge.{mergePatternsOutcome, mergeQueriesOutcome
 ghost use Rattle.merging.specs.Negate.{negateOutcome};
 ghost use Rattle.merging.specs.Push.{pushConstantsOutcome};
 ghost use Rattle.merging.specs.Without.{withoutQueriesOutcome};
+ghost use Rattle.converting.specs.Namespaces.{namespacesOutcome};
 
 // scope: tree to the lines `in` and `hid`.
 #[no_mangle]
@@ -155,5 +157,20 @@ pub extern "C" fn gandeuch_filters(
     let a = listed.answer;
     *size = size_of(a);
     *many = listed.many;
+    number(a)
+}
+
+// namespaces: tree and table to tree.
+#[no_mangle]
+pub extern "C" fn gandeuch_namespaces(
+    tree: &[u8],
+    table: &[u8],
+    out: &mut [u8],
+    size: &mut usize,
+) -> u8
+    ensures { λ r. ⌜ Reported (namespacesOutcome (now (tree .entry)) (now (table .entry))) (now (out .entry)) (now (out .exit)) r (now (size .exit)) ⌝ }
+{
+    let a = namespaces(tree, table, out);
+    *size = size_of(a);
     number(a)
 }

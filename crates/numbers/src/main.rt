@@ -1,5 +1,6 @@
 // The numbers of the checks: for each record of the file `texts` a line of its label and the number of its text.
-// The kinds are 0 tree, 1 query, 2 join list, 3 constant list, 4 mapping, 5 binding sets and 6 filters.
+// The kinds are 0 tree, 1 query, 2 join list, 3 constant list, 4 mapping, 5 binding sets, 6 filters and
+// 7 namespace table.
 use algebra::Answer;
 use algebra::EMPTY_TREE;
 use algebra::ENTRIES;
@@ -16,6 +17,7 @@ use reading::check_tree;
 use records::LIMIT;
 use records::NONE;
 use records::read_record;
+use starts::table_number;
 use text::piece;
 use words::table::WordRow;
 use words::table::all_words;
@@ -64,6 +66,22 @@ fn check(
     }
 }
 
+// A text's number.
+fn number_of(
+    kind: u32,
+    text: &[u8],
+    words: &[WordRow; 56],
+    table: &mut [[u16; 2]; 1024],
+    hints: &mut [u16; 2048],
+) -> u64
+    requires { ⌜ Worded (now words) ⌝ }
+{
+    if kind == 7 {
+        return table_number(text);
+    }
+    number(check(kind, text, words, table, hints))
+}
+
 fn put(out: &mut [u8; 65536], to: usize, b: u8) -> usize {
     if to < out.len() {
         out[to] = b;
@@ -91,11 +109,20 @@ fn room(out: &[u8; 65536], to: usize) -> usize {
     0
 }
 
+// A number below 100.
+fn put_number(out: &mut [u8; 65536], from: usize, n: u64) -> usize {
+    if n < 10 {
+        return put(out, from, 48 + n as u8);
+    }
+    let to = put(out, from, 48 + (n / 10 % 10) as u8);
+    put(out, to, 48 + (n % 10) as u8)
+}
+
 fn put_line(out: &mut [u8; 65536], from: usize, label: &[u8], n: u64) -> usize {
     let to = room(out, from);
     let to = put_all(out, to, label);
     let to = put(out, to, 9);
-    let to = put(out, to, 48 + (n % 10) as u8);
+    let to = put_number(out, to, n);
     put(out, to, 10)
 }
 
@@ -123,14 +150,14 @@ fn turn(
     if r.kind == NONE {
         return Step { at: next, to };
     }
-    if 6 < r.kind {
+    if 7 < r.kind {
         let to = put_bad_record(out, to);
         return Step { at: next, to };
     }
     let text = piece(window, r.text, r.text_size);
-    let a = check(r.kind, text, words, table, hints);
+    let n = number_of(r.kind, text, words, table, hints);
     let label = piece(window, r.label, r.label_size);
-    let to = put_line(out, to, label, number(a));
+    let to = put_line(out, to, label, n);
     Step { at: next, to }
 }
 

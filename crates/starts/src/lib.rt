@@ -12,7 +12,7 @@ ghost use Rattle.text.specs.Text.{part};
 ghost use Rattle.lists.specs.bridge.Pairs.{entryOf};
 ghost use Rattle.converting.specs.Starts.{startBounds, oldStarts, less, inOrder};
 ghost use Rattle.converting.specs.bridge.Order.{before};
-ghost use Rattle.starts.specs.bridge.Starts.{isStartField, Finds, startsIn, StartsChecked, Shares, Ordered, Found};
+ghost use Rattle.starts.specs.bridge.Starts.{isStartField, Finds, startsIn, StartsTold, StartsChecked, tableNumber, Shares, Ordered, Found};
 
 // What `startBounds` says of the lines of one table.
 pub const STARTS: usize = 64;
@@ -209,6 +209,29 @@ pub fn in_order(text: &[u8], keys: &Starts, n: usize) -> bool
         i += 1;
     }
     true
+}
+
+// The number of a table whose lines were read: 14 if they are not in order.
+fn order_number(text: &[u8], keys: &Starts, n: usize) -> u64
+    requires { ⌜ StartsTold (now text) (now keys) n ⌝ }
+    ensures { λ r. ⌜ r ≡ tableNumber (now (text .entry)) ⌝ }
+{
+    if in_order(text, keys, n) {
+        return 0;
+    }
+    14
+}
+
+// A table's number by itself: 1, 2, then 14.
+pub fn table_number(text: &[u8]) -> u64
+    ensures { λ r. ⌜ r ≡ tableNumber (now (text .entry)) ⌝ }
+{
+    let mut keys = [[0u16; 4]; STARTS];
+    match check_starts(text, &mut keys) {
+        Answer::Good(n) => order_number(text, &keys, n),
+        Answer::Malformed => 1,
+        Answer::OverBound => 2,
+    }
 }
 
 // The entry of the line that covers an IRI, or that none does.

@@ -2,12 +2,12 @@
 use Prim.Native.Nat.{ℕ, _+_, _≤_, _<_}
 use mathlib.Core.Path.{_≡_}
 use mathlib.Core.List.{List, [], _∷_, map}
-use mathlib.Core.Bool.{Bool, true, false, not, _&&_}
+use mathlib.Core.Bool.{Bool, true, false, cond, not, _&&_}
 use mathlib.Core.Option.{none, some}
 use lib.ListN.{length, getD, take}
 use lib.Dec.{leb, eqb}
 use Rattle.text.specs.Text.{Bytes, Line, part, piece}
-use Rattle.algebra.specs.Reader.{reads, refuses, malformed, overBound}
+use Rattle.algebra.specs.Reader.{Outcome as Reading, reads, refuses, malformed, overBound, refusalNumber}
 use Rattle.algebra.specs.declared.Answer.{Answer}
 use Rattle.algebra.specs.declared.Answer.the-variants.{Good, Malformed, OverBound}
 use Rattle.cursor.specs.bridge.Cursor.{left}
@@ -15,7 +15,7 @@ use Rattle.cursor.specs.declared.Cursor.{Cursor}
 use Rattle.cursor.specs.declared.Field.{Field}
 use Rattle.cursor.specs.declared.Field.the-variants.{At, None}
 use Rattle.scoping.specs.Sets.{all}
-use Rattle.converting.specs.Starts.{Start, readStarts, oldStarts}
+use Rattle.converting.specs.Starts.{Start, startBounds, readStarts, oldStarts, inOrder}
 use Rattle.converting.specs.Namespaces.{coveringLine}
 use Rattle.converting.specs.bridge.Order.{neighbours}
 use Rattle.starts.specs.declared.Covering.{Covering}
@@ -29,10 +29,10 @@ startAt s e = record { old = piece (getD e 0 0) (getD e 1 0) s; new = piece (get
 unfoldable pub startsIn : Bytes → List (List ℕ) → ℕ → List Start
 startsIn s keys n = map (startAt s) (take n keys)
 
--- the first n of 64 entries tell the lines that a text says
+-- the first n entries tell the lines that a text says
 pub record StartsTold (s : Bytes) (keys : List (List ℕ)) (n : ℕ) : Type 0 where
-  pub room : length keys ≡ 64
-  pub few : n ≤ 64
+  pub room : length keys ≡ startBounds .entries
+  pub few : n ≤ startBounds .entries
   pub read : readStarts s ≡ reads (startsIn s keys n)
 
 -- entries tell the lines of a good table; else the answer is its refusal
@@ -40,6 +40,15 @@ unfoldable pub StartsChecked : Bytes → List (List ℕ) → Answer → Type 0
 StartsChecked s keys (Good n) = StartsTold s keys n
 StartsChecked s keys Malformed = readStarts s ≡ refuses malformed
 StartsChecked s keys OverBound = readStarts s ≡ refuses overBound
+
+-- a table's number by itself: its refusal, then 14 if its lines are not in order
+abbrev ordered : Reading (List Start) → ℕ
+ordered (reads ss) = cond (inOrder (oldStarts ss)) 0 14
+ordered (refuses n) = refusalNumber n
+
+unfoldable pub tableNumber : Bytes → ℕ
+unfolding readStarts inOrder
+tableNumber s = ordered (readStarts s)
 
 -- ---- a line
 
@@ -70,10 +79,10 @@ pub record Shares (a b : Bytes) (r : ℕ) : Type 0 where
   pub alike : (k : ℕ) → k < r → getD a k 0 ≡ getD b k 0
   pub parted : r < length a → r < length b → getD a r 0 ≡ getD b r 0 → ⊥
 
--- the first n of 64 entries tell lines that are in order
+-- the first n entries tell lines that are in order
 pub record Ordered (s : Bytes) (keys : List (List ℕ)) (n : ℕ) : Type 0 where
-  pub room : length keys ≡ 64
-  pub few : n ≤ 64
+  pub room : length keys ≡ startBounds .entries
+  pub few : n ≤ startBounds .entries
   pub ordered : neighbours (oldStarts (startsIn s keys n)) ≡ true
 
 -- the entry of the line that covers an IRI; or none does
