@@ -34,6 +34,7 @@ static int made(void) {
     if (!strcmp(call, "bindings")) return gandeuch_bindings(GIVEN(0), GIVEN(1), OUT);
     if (!strcmp(call, "filters")) return gandeuch_filters(GIVEN(0), GIVEN(1), OUT, LIST);
     if (!strcmp(call, "without")) return gandeuch_without(GIVEN(0), GIVEN(1), GIVEN(2), OUT);
+    if (!strcmp(call, "namespaces")) return gandeuch_namespaces(GIVEN(0), GIVEN(1), OUT);
     return -1;
 }
 

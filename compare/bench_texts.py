@@ -3,7 +3,8 @@
 
     bench_texts.py FOLDER
 
-writes NAME.scope, NAME.rename, NAME.merge, NAME.push, NAME.bindings, NAME.filters and NAME.without, what the program of that name reads, for each NAME:
+writes NAME.scope, NAME.rename, NAME.merge, NAME.push, NAME.bindings, NAME.filters, NAME.without and NAME.namespaces, what the program of that name
+reads, for each NAME:
 lines10, lines50, lines200   ordinary queries of that many lines
 names1024                    16,384 bytes but for less than a line, with 1,024 short names
 names12                      16,384 bytes but for less than a line, with 12 names
@@ -12,7 +13,7 @@ A mapping renames every third name of an ordinary query, and 64 names (256, or a
 the `distinct` of the others. For an ordinary query it joins the first columns and has a constant on the left's last column; at the
 bounds it joins half of the columns (all of 256), and a quarter has constants, on both sides. A push has the left side's constants, without
 the merge's trees behind a head, and its pairs. Bindings are a set of four rows at the first two columns, and at the bounds one of 16 rows at
-the first eight; filters are three, and at the bounds 64 (256).
+the first eight; filters are three, and at the bounds 64 (256). A namespace table has 64 lines.
 """
 
 import itertools
@@ -132,6 +133,12 @@ def filters(width, many):
     return laid(*[line.replace("%d", str(number % width)) for number in range(many) for line in (tag if number % 3 == 2 else compare)])
 
 
+def namespaces():
+    """A table of 64 lines that covers every IRI of these trees."""
+    olds = ["http://example.org/grid/", "http://www.w3.org/", *PROPERTIES, *(f"http://example.org/g{number:02}/" for number in range(52))]
+    return "".join(f"{old}\t{old.replace('/g', '/2026/g')}\n" for old in sorted(olds))
+
+
 def input_texts(tree, step, left, right, short, lists, placed):
     """What each program reads; `short` are two trees that leave room for a query's head, `placed` are binding sets and filters."""
     return {
@@ -142,6 +149,7 @@ def input_texts(tree, step, left, right, short, lists, placed):
         "bindings": [tree, placed[0]],
         "filters": [tree, placed[1]],
         "without": [HEAD + short[0], HEAD + short[1], lists[0]],
+        "namespaces": [tree, namespaces()],
     }
 
 

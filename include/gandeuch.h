@@ -3,8 +3,8 @@
  *
  * A text is a pointer and a number of bytes; no byte is special, and no zero byte ends it. A call returns a number: 0, and the answer
  * stands in the first `*size` bytes of `out`, the bytes behind it unchanged; or the number of a refusal, and `*size` is 0 and `out` is
- * unchanged. Texts are checked in the order of the parameters (1, 2); then come 5, 4, 11, 3, 10, 7, 6, 9 in this order, as far as a call
- * has them. `gandeuch_filters` also lists numbers: they stand in the first `*many` entries of `list`, those behind them unchanged; after
+ * unchanged. Texts are checked in the order of the parameters (1, 2); then come 5, 4, 11, 3, 10, 14, 15, 7, 6, 9 in this order, as far
+ * as a call has them. `gandeuch_filters` also lists numbers: they stand in the first `*many` entries of `list`, those behind them unchanged; after
  * a refusal `*many` is 0 and `list` is unchanged.
  *
  * An empty file is a tree: each call reads a tree of no bytes, and a query of its head line alone, as if the lines `project` and `bgp 0`
@@ -41,7 +41,9 @@ enum {
     GANDEUCH_NOT_USABLE = 7,     /* a value can't be used */
     GANDEUCH_LIST_TOO_SHORT = 9, /* more numbers are to be listed than `list_size` */
     GANDEUCH_REPEATED = 10,      /* a join list has a position twice on one side */
-    GANDEUCH_NO_PAIRS = 11       /* a join list of without is empty */
+    GANDEUCH_NO_PAIRS = 11,      /* a join list of without is empty */
+    GANDEUCH_NOT_IN_ORDER = 14,  /* a namespace table is unsorted, or two of its old starts overlap */
+    GANDEUCH_NOT_COVERED = 15    /* no line of a namespace table covers an IRI of the tree */
 };
 
 /* The stack that a call needs, with room to spare: bench/stack measures it. */
@@ -61,6 +63,7 @@ enum {
 #define GANDEUCH_WITHOUT_ROOM(left_size, right_size) (3 * ((size_t)(left_size) + (size_t)(right_size)) + 84)
 #define GANDEUCH_BINDINGS_ROOM(tree_size, sets_size) ((size_t)(tree_size) + 65 * (size_t)(sets_size) + 14)
 #define GANDEUCH_FILTERS_ROOM(tree_size, filters_size) ((size_t)(tree_size) + 24 * (size_t)(filters_size) + 14)
+#define GANDEUCH_NAMESPACES_ROOM(tree_size) (33 * (size_t)(tree_size) + 14)
 
 /* How many entries to lend as `list`: a call that is lent so many never returns GANDEUCH_LIST_TOO_SHORT. It is proved too. */
 #define GANDEUCH_LIST_ROOM ((size_t)256)
@@ -129,6 +132,12 @@ uint8_t gandeuch_filters(const uint8_t *tree, size_t tree_size,
                          const uint8_t *filters, size_t filters_size,
                          uint8_t *out, size_t out_size, size_t *size,
                          uint16_t *list, size_t list_size, size_t *many);
+
+/* namespaces: the tree in which each IRI, graph and service names included, has its old start replaced by the new one, by the lines `old new` of
+ * a table that is sorted by its old starts. Datatypes, paths, and the names of calls and aggregates stay. Numbers 1, 2, 14, 15, 6. */
+uint8_t gandeuch_namespaces(const uint8_t *tree, size_t tree_size,
+                            const uint8_t *table, size_t table_size,
+                            uint8_t *out, size_t out_size, size_t *size);
 
 #ifdef __cplusplus
 }

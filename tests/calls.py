@@ -26,7 +26,7 @@ def rows():
 ROWS = rows()
 NAMES = [row.name for row in ROWS]
 COUNT = {"one": 1, "two": 2, "three": 3, "five": 5, "listing": 2}
-OURS = {"without"}  # the calls that nemo has not
+OURS = {"without", "namespaces"}  # the calls that nemo has not
 
 
 def read(path):

@@ -26,6 +26,7 @@ import sys
 
 import bound_texts
 import specification
+import written_namespaces
 from random_texts import damaged, well_formed, write
 from second_reader import KINDS, number
 
@@ -69,7 +70,7 @@ def small():
         case(1, kind, "line-end-alone-" + kind, b"\n")
         case(1, kind, "return-unended-" + kind, b"\r")
         case(1, kind, "byte-0-alone-" + kind, b"\x00")
-        case(1, kind, "mark-of-order-" + kind, b"\xef\xbb\xbf" + text("bgp 0"))
+        case(0 if kind == "namespaces" else 1, kind, "mark-of-order-" + kind, b"\xef\xbb\xbf" + text("bgp 0"))
 
 
 # 2. Field by field. A specimen is well formed as the sorts of field it names;
@@ -384,7 +385,7 @@ def values():
 
 def random_cases():
     rng = random.Random(20240117)
-    shares = {"tree": 160, "query": 40, "joins": 10, "constants": 15, "mapping": 15, "bindings": 30, "filters": 30}
+    shares = {"tree": 160, "query": 40, "joins": 10, "constants": 15, "mapping": 15, "bindings": 30, "filters": 30, "namespaces": 15}
     for kind, share in shares.items():
         for i in range(share):
             data = well_formed(kind, rng)
@@ -410,6 +411,7 @@ if __name__ == "__main__":
     for section in (small, fields, places, cut_and_left_over, values):
         section()
     bound_texts.add(case)
+    written_namespaces.texts(case)
     random_cases()
     documented()
     write(RECORDS, sys.argv[1])

@@ -5,8 +5,8 @@
 
 writes OUTDIR/cases and OUTDIR/expected, the same bytes each time. First come
 the cases of vectors/, whose answers are those of nemo's Rust, then the inputs
-below, in written_merges.py, written_placings.py and written_empty.py, whose
-answers are written by hand from the rules of docs/SPECIFICATION.md, then the
+below, in written_merges.py, written_placings.py, written_empty.py and
+written_namespaces.py, whose answers are written by hand from the rules of docs/SPECIFICATION.md, then the
 calls of that page. It stops where second_calls.py writes another answer or lists
 other filters. The Rust lists none, so that its cases have the list of second_calls.py.
 
@@ -27,6 +27,7 @@ import second_calls
 import specification
 import written_empty
 import written_merges
+import written_namespaces
 import written_placings
 from written_texts import BAR, LONG, MALFORMED, OVER, padded, refused, text
 
@@ -86,7 +87,8 @@ def records():
     for program in sorted(set(calls.NAMES) - calls.OURS, key=calls.NAMES.index):
         for number, (given, answer) in enumerate(recorded(program), 1):
             yield program, "%s-%d" % (program, number), given, answer + second_calls.left(program, given)
-    for program, name, given, answer in WRITTEN + written_merges.WRITTEN + written_placings.WRITTEN + written_empty.WRITTEN:
+    written = WRITTEN + written_merges.WRITTEN + written_placings.WRITTEN + written_empty.WRITTEN + written_namespaces.WRITTEN
+    for program, name, given, answer in written:
         yield program, "%s-%s" % (program, name), given, answer
     for program, name, given, answer in specification.calls():
         yield program, "%s-%s" % (program, name), given, answer

@@ -9,7 +9,7 @@ expected numbers are those of second_reader.py and of nothing else.
 
 texts: for each record a line `DIGIT TAB LENGTH TAB LABEL`, then LENGTH bytes
 and a line end; DIGIT is the kind: 0 tree, 1 query, 2 joins, 3 constants,
-4 mapping, 5 bindings, 6 filters. expected: a line `LABEL TAB NUMBER` each.
+4 mapping, 5 bindings, 6 filters, 7 namespaces. expected: a line `LABEL TAB NUMBER` each.
 """
 import os
 import random
@@ -214,6 +214,11 @@ class Maker:
     def filters(self):
         return sum([self.part(self.some(4)) for _ in range(self.some(3))], [])
 
+    def namespaces(self):
+        pool = [b"http://a/", b"http://b/", b"http://c/1#", b"http://c/2#", b"urn:x:", b"urn:y:\xff", b"-", b"?x"]
+        olds = sorted(self.rng.sample(pool, self.some(5)))
+        return [[old, self.rng.choice([*pool, b"a", b"n" * 128, self.opaque().replace(b">", b"")])] for old in olds]
+
 
 def joined(lines):
     return b"".join(b"\t".join(fields) + b"\n" for fields in lines)
@@ -284,7 +289,7 @@ def close_to_bound(kind, rng):
         start, end = {"tree": (b"path\t?x\t", b"\t?x\n"), "query": (b"path\t?x\t", b"\t?x\n"),
                       "joins": (b"0\t0\n1\t", b"\n"), "constants": (b'0\t"', b"\n"),
                       "mapping": (b"?x\t?", b"\n"), "bindings": (b"set\t1\t1\nat\t0\nrow\tIri\t", b"\t-\n"),
-                      "filters": (b"leaf\tIri\t", b"\t-\n")}[kind]
+                      "filters": (b"leaf\tIri\t", b"\t-\n"), "namespaces": (b"a\t", b"\n")}[kind]
         return head + start + b"a" * (near(16384) - len(head + start + end)) + end
     if measure == "lines":
         n = near(2048)
@@ -310,7 +315,7 @@ def close_to_bound(kind, rng):
         n = near(256)
         line = {"joins": lambda i: b"0\t1\n", "constants": lambda i: b"%d\t<k>\n" % i,
                 "mapping": lambda i: b"?%d\t?x\n" % i, "bindings": lambda i: b"set\t0\t1\nat\nrow\n",
-                "filters": lambda i: joined(make.part(1))}[kind]
+                "filters": lambda i: joined(make.part(1)), "namespaces": lambda i: b"a%03d\tb\n" % i}[kind]
         return b"".join(map(line, range(n)))
     n = near(64)
     if kind == "filters":

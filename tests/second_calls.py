@@ -325,6 +325,23 @@ def with_filters(root, filters):
     return root
 
 
+# Namespaces
+
+def new_start(iri, table):
+    """An IRI by the line of the table that covers it."""
+    for old, new in table:
+        if iri[1:].startswith(old):
+            return b"<" + new + iri[1 + len(old):]
+    raise Refused(15)
+
+
+def converted(node, table):
+    places = range(1, len(node.fields)) if node.word == b"row" else term_places(node)
+    iris = [place for place in places if node.fields[place].startswith(b"<")]
+    fields = [new_start(field, table) if place in iris else field for place, field in enumerate(node.fields)]
+    return Node(fields, [converted(below, table) for below in node.below])
+
+
 # The calls and the programs
 
 def split_head(query):
@@ -345,6 +362,8 @@ def rewritten(program, texts):
         return with_bindings(tree(first), nodes(records(texts[1]))).text()
     if program == "filters":
         return with_filters(tree(first), nodes(records(texts[1]))).text()
+    if program == "namespaces":
+        return converted(tree(first), records(texts[1])).text()
     head, root = split_head(first)
     select_or_ask = head.split(b"\t")[1] in (b"select", b"ask")
     if program in ("merge_queries", "without"):

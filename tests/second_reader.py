@@ -2,9 +2,10 @@
 """A second reader of the texts of docs/SPECIFICATION.md.
 
 number(kind, data) is 0 for a text that is well formed and within the bounds,
-1 for a malformed one and 2 for one over a bound. The kinds are tree, query,
-joins, constants, mapping, bindings and filters. A tree may be an
-empty file, and so may what follows a query's head line.
+1 for a malformed one and 2 for one over a bound; 14 for a namespace table of which
+a line is unsorted or overlaps another. The kinds are tree, query, joins, constants,
+mapping, bindings, filters and namespaces. A tree may be an empty file, and so may
+what follows a query's head line.
 
 Written from the rules alone, and
 sharing no code with the product: here each function takes its own line, checks
@@ -26,6 +27,10 @@ class Malformed(Exception):
 
 class OverBound(Exception):
     """With the bound."""
+
+
+class NotInOrder(Exception):
+    """With a line's number, and why it may not stand there."""
 
 
 # Fields. Any byte but 9 and 10 may stand in one.
@@ -72,6 +77,10 @@ def flag(f):
 
 def opaque(f):
     return f != b""
+
+
+def start(f):
+    return 1 <= len(f) <= 128 and b">" not in f
 
 
 def value(domain, lexical, extra):
@@ -355,7 +364,26 @@ class Text:
             self.part(depth + 1, entry)
 
 
-KINDS = ["tree", "query", "joins", "constants", "mapping", "bindings", "filters"]
+    def namespaces(self):
+        olds = []
+        while self.more():
+            match self.line():
+                case [old, new] if start(old) and start(new):
+                    olds.append(old)
+                    self.within()
+                    if len(olds) > 64:
+                        raise OverBound("64 lines of a namespace table")
+                case _:
+                    raise Malformed("two starts of 1 to 128 bytes without >")
+        for line, old in enumerate(olds, 1):
+            for above, other in enumerate(olds[:line - 1], 1):
+                if old.startswith(other) or other.startswith(old):
+                    raise NotInOrder(line, "overlaps that of line %d" % above)
+            if line > 1 and old < olds[line - 2]:
+                raise NotInOrder(line, "is unsorted")
+
+
+KINDS = ["tree", "query", "joins", "constants", "mapping", "bindings", "filters", "namespaces"]
 
 
 def number(kind, data):
@@ -377,6 +405,8 @@ def explained(kind, data):
         return 1, "line %d: wanted %s, found: %s" % (line, wanted, found or "nothing")
     except OverBound as bound:
         return 2, "line %d: over the bound of %s" % (text.lines, bound)
+    except NotInOrder as order:
+        return 14, "line %d: its old start %s" % order.args
     return 0, None
 
 

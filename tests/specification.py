@@ -34,7 +34,7 @@ from semantics import evaluate
 
 ROOT = os.path.dirname(HERE)
 PAGES = ["SPECIFICATION", "VARIANTS"]
-HEAD = re.compile("(%s)( [12])?|call (%s)|rows" % ("|".join(KINDS), "|".join(TEXTS)))
+HEAD = re.compile("(%s)( 1| 2| 14)?|call (%s)|rows" % ("|".join(KINDS), "|".join(TEXTS)))
 CODE = re.compile("`([^`]+)`")
 
 

@@ -103,4 +103,14 @@ unsafe extern "C" {
         list_size: usize,
         many: *mut usize,
     ) -> u8;
+
+    pub fn gandeuch_namespaces(
+        tree: *const u8,
+        tree_size: usize,
+        table: *const u8,
+        table_size: usize,
+        out: *mut u8,
+        out_size: usize,
+        size: *mut usize,
+    ) -> u8;
 }

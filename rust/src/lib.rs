@@ -269,6 +269,24 @@ pub fn filters(tree: &[u8], filters: &[u8]) -> Result<(Vec<u8>, Vec<u16>), Refus
     Ok((answer, list))
 }
 
+/// The tree in which each IRI has its old start replaced by the new one, by the lines `old new` of a table that is sorted by its old
+/// starts, from one edition of a model to the next. Datatypes, paths, and the names of calls and aggregates stay. An IRI that no line
+/// covers is [`NotCovered`](Refusal::NotCovered). Two IRIs may become one.
+///
+/// ```
+/// let tree = b"project\t?relay\nbgp\t1\nt\t?relay\t<http://grid/2019/bay>\t<http://site/b4>\n";
+/// let table = b"http://grid/2019/\thttp://grid/2026/\nhttp://site/\thttp://site/\n";
+/// let converted = gandeuch::namespaces(tree, table)?;
+/// assert_eq!(
+///     converted,
+///     b"project\t?relay\nbgp\t1\nt\t?relay\t<http://grid/2026/bay>\t<http://site/b4>\n"
+/// );
+/// # Ok::<(), gandeuch::Refusal>(())
+/// ```
+pub fn namespaces(tree: &[u8], table: &[u8]) -> Result<Vec<u8>, Refusal> {
+    answer!(gandeuch_namespaces, room::namespaces(tree), tree, table)
+}
+
 /// More than any answer has.
 const MOST: usize = 1 << 24;
 

@@ -4,7 +4,7 @@ use std::error::Error;
 use std::fmt::{Display, Formatter, Result};
 
 /// Why a call has no answer. Texts are checked in the order of the parameters ([`Malformed`](Refusal::Malformed),
-/// [`OverBound`](Refusal::OverBound)); then 5, 4, 11, 3, 10, 7 in this order, as far as a call has them.
+/// [`OverBound`](Refusal::OverBound)); then 5, 4, 11, 3, 10, 14, 15, 7 in this order, as far as a call has them.
 #[derive(Debug, Clone, Copy, PartialEq, Eq, Hash)]
 #[non_exhaustive]
 pub enum Refusal {
@@ -28,6 +28,10 @@ pub enum Refusal {
     Repeated,
     /// A join list of [`without`](crate::without) is empty.
     NoPairs,
+    /// A namespace table is unsorted, or two of its old starts overlap.
+    NotInOrder,
+    /// No line of a namespace table covers an IRI of the tree.
+    NotCovered,
     /// A number that this version of the crate has no name for.
     Other(u8),
 }
@@ -45,6 +49,8 @@ impl Refusal {
         Self::ListTooShort,
         Self::Repeated,
         Self::NoPairs,
+        Self::NotInOrder,
+        Self::NotCovered,
     ];
 
     /// The number that the library returns for it.
@@ -60,6 +66,8 @@ impl Refusal {
             Self::ListTooShort => 9,
             Self::Repeated => 10,
             Self::NoPairs => 11,
+            Self::NotInOrder => 14,
+            Self::NotCovered => 15,
             Self::Other(number) => number,
         }
     }
@@ -87,6 +95,8 @@ impl Display for Refusal {
             Self::ListTooShort => "more numbers are to be listed than there is room for",
             Self::Repeated => "a join list has a position twice on one side",
             Self::NoPairs => "a join list of without is empty",
+            Self::NotInOrder => "a namespace table is unsorted, or two of its old starts overlap",
+            Self::NotCovered => "no line of a namespace table covers an IRI of the tree",
             Self::Other(number) => return write!(f, "refused by the number {number}"),
         })
     }

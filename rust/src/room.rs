@@ -41,5 +41,9 @@ pub fn filters(tree: &[u8], filters: &[u8]) -> usize {
     length(tree) + 24 * length(filters) + 14
 }
 
+pub fn namespaces(tree: &[u8]) -> usize {
+    33 * length(tree) + 14
+}
+
 /// Entries of a list: as many as there are filters at most.
 pub const LIST: usize = 256;

@@ -44,7 +44,7 @@ fn every_number_but_0_is_a_refusal() {
             panic!("{number} is an answer");
         };
         assert_eq!(refusal.number(), number);
-        let named = matches!(number, 1..=7 | 9..=11);
+        let named = matches!(number, 1..=7 | 9..=11 | 14 | 15);
         assert_eq!(refusal == Refusal::Other(number), !named);
         assert!(!refusal.to_string().is_empty());
     }
@@ -66,6 +66,7 @@ fn recorded_answers_have_room() {
                 ("negate", [query]) => room::negate(query),
                 ("bindings", [tree, sets]) => room::bindings(tree, sets),
                 ("filters", [tree, filters]) => room::filters(tree, filters),
+                ("namespaces", [tree, _]) => room::namespaces(tree),
                 _ => panic!("{name} is no call"),
             };
             assert!(
@@ -113,9 +114,9 @@ fn from_c(parameter: &str) -> String {
 fn declarations_are_those_of_the_header() {
     let code = HEADER.split_once("extern \"C\" {").expect("declarations").1;
     let in_header = functions(code, from_c);
-    assert_eq!(in_header.len(), 9);
-    assert_eq!(code.matches("uint8_t gandeuch_").count(), 9);
-    assert_eq!(DECLARED.matches(") -> u8;").count(), 9);
+    assert_eq!(in_header.len(), 10);
+    assert_eq!(code.matches("uint8_t gandeuch_").count(), 10);
+    assert_eq!(DECLARED.matches(") -> u8;").count(), 10);
     assert_eq!(functions(DECLARED, str::to_string), in_header);
 }
 
@@ -165,6 +166,11 @@ fn rooms_are_those_of_the_header() {
             "FILTERS_ROOM(tree_size,filters_size)((tree_size)+24*(filters_size)+14)",
             room::filters(&tree, &list),
             354,
+        ),
+        (
+            "NAMESPACES_ROOM(tree_size)(33*(tree_size)+14)",
+            room::namespaces(&tree),
+            3314,
         ),
         ("LIST_ROOM(256)", room::LIST, 256),
         ("TEXT(16384)", room::scope(&[0; 20_000]), 16_391),

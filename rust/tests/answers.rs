@@ -21,6 +21,7 @@ fn call(name: &str, texts: &[Vec<u8>]) -> Result<Vec<u8>, Refusal> {
         ("negate", [query]) => gandeuch::negate(query),
         ("bindings", [tree, sets]) => gandeuch::bindings(tree, sets),
         ("filters", [tree, filters]) => gandeuch::filters(tree, filters).map(|(answer, _)| answer),
+        ("namespaces", [tree, table]) => gandeuch::namespaces(tree, table),
         _ => panic!("{name} with {} texts is no call", texts.len()),
     }
 }
@@ -139,9 +140,20 @@ fn bindings_and_filters() {
 }
 
 #[test]
+fn namespaces() {
+    let tree = b"bgp\t1\nt\t<a:x>\t<b:p>\t\"1\"^^<a:int>\n";
+    let converted = gandeuch::namespaces(tree, b"a:\tc:\nb:\td:\n");
+    assert_eq!(converted, Ok(b"bgp\t1\nt\t<c:x>\t<d:p>\t\"1\"^^<a:int>\n".to_vec()));
+    assert_eq!(gandeuch::namespaces(b"", b""), Ok(b"project\nbgp\t0\n".to_vec()));
+    assert_eq!(gandeuch::namespaces(tree, b"a:\tc:\n"), Err(Refusal::NotCovered));
+    assert_eq!(gandeuch::namespaces(tree, b"b:\tc:\na:\td:\n"), Err(Refusal::NotInOrder));
+    assert_eq!(gandeuch::namespaces(tree, b"a:\t\n"), Err(Refusal::Malformed));
+}
+
+#[test]
 fn numbers_and_messages() {
     let numbers: Vec<_> = Refusal::ALL.iter().map(|refusal| refusal.number()).collect();
-    assert_eq!(numbers, [1, 2, 3, 4, 5, 6, 7, 9, 10, 11]);
+    assert_eq!(numbers, [1, 2, 3, 4, 5, 6, 7, 9, 10, 11, 14, 15]);
     for &refusal in Refusal::ALL {
         let error: Box<dyn std::error::Error> = Box::new(refusal);
         assert!(!error.to_string().is_empty());

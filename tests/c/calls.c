@@ -6,7 +6,7 @@
 
 #include "gandeuch.h"
 
-enum { AROUND = 64, ROOM = 1024, BUFFER = AROUND + ROOM + AROUND, LONGEST = 16384, ENTRIES = 256, TEXTS = 5, MADE = 14 };
+enum { AROUND = 64, ROOM = 1024, BUFFER = AROUND + ROOM + AROUND, LONGEST = 16384, ENTRIES = 256, TABLE_LINES = 64, TEXTS = 5, MADE = 15 };
 
 #define TREE "project\t?a\t?b\nminus\nbgp\t1\nt\t?a\t<p>\t?b\nservice\t?s\t0\nbgp\t1\nt\t?b\t<q>\t?c\n"
 #define SCOPE "in\t?a\t?b\nhid\t?a\t?b\t?c\n"
@@ -22,6 +22,8 @@ enum { AROUND = 64, ROOM = 1024, BUFFER = AROUND + ROOM + AROUND, LONGEST = 1638
 #define WITHOUT "project\t?l0\t?j0\nminus\nbgp\t1\nt\t?l0\t<by>\t?j0\nbgp\t1\nt\t?j0\t<in>\t?r1\n"
 #define DISTINCT "distinct\n" LEFT
 #define BAD "bgp\t1\n"
+#define OLD_NAMES "graph\t<a:g>\nbgp\t1\nt\t?s\t<b:p>\t\"1\"^^<a:int>\n"
+#define NEW_NAMES "graph\t<c:g>\nbgp\t1\nt\t?s\t<dd:p>\t\"1\"^^<a:int>\n"
 #define EMPTY "project\nbgp\t0\n"
 #define JOINED "project\njoin\nbgp\t0\nbgp\t0\n"
 #define EMPTY_LEFT "project\t?r0\t?r1\njoin\nbgp\t0\nbgp\t1\nt\t?r0\t<in>\t?r1\n"
@@ -79,6 +81,10 @@ static uint8_t negate(const struct text *texts, uint8_t *out, size_t out_size, s
 
 static uint8_t bindings(const struct text *texts, uint8_t *out, size_t out_size, size_t *size) {
     return gandeuch_bindings(GIVEN(0), GIVEN(1), out, out_size, size);
+}
+
+static uint8_t namespaces(const struct text *texts, uint8_t *out, size_t out_size, size_t *size) {
+    return gandeuch_namespaces(GIVEN(0), GIVEN(1), out, out_size, size);
 }
 
 /* The list that is lent to filters, with entries around it, how many of it are lent, and how many numbers were written. */
@@ -350,6 +356,19 @@ static void filters_placed(void) {
     expect("filters-outside-though-dropped", filters, TEXTS_OF(LEFT, "nary\tOther\t1\nref\t2\n"), 0, 3, "");
 }
 
+static void namespaces_converted(void) {
+    expect_in_rooms("namespaces", namespaces, TEXTS_OF(OLD_NAMES, "a:\tc:\nb:\tdd:\n"), NEW_NAMES);
+    expect_in_rooms("namespaces-empty-file", namespaces, TEXTS_OF("", "b:\tc:\n"), EMPTY);
+    expect("namespaces-no-texts", namespaces, TEXTS_OF("", ""), ROOM, 0, EMPTY);
+    expect("namespaces-bad-tree-first", namespaces, TEXTS_OF(BAD, "b\tx\na\ty\n"), ROOM, 1, "");
+    expect("namespaces-bad-table", namespaces, TEXTS_OF(OLD_NAMES, "b\tx\na\ty\nc\n"), ROOM, 1, "");
+    expect("namespaces-over", namespaces, TEXTS_OF(OLD_NAMES, repeated("", "a%03d\tb\n", TABLE_LINES + 1, "")), ROOM, 2, "");
+    expect("namespaces-unsorted", namespaces, TEXTS_OF(OLD_NAMES, "b:\tx\na:\ty\n"), 0, 14, "");
+    expect("namespaces-overlap", namespaces, TEXTS_OF(OLD_NAMES, "a\tx\na:\ty\nb:\tz\n"), 0, 14, "");
+    expect("namespaces-unsorted-before-gap", namespaces, TEXTS_OF(OLD_NAMES, "z\tx\ny\tx\n"), 0, 14, "");
+    expect("namespaces-gap", namespaces, TEXTS_OF(OLD_NAMES, "a:\tc:\n"), 0, 15, "");
+}
+
 int main(void) {
     scopes();
     renames();
@@ -361,5 +380,6 @@ int main(void) {
     bindings_of_sets();
     filters_placed();
     filters_listed();
+    namespaces_converted();
     return failures ? EXIT_FAILURE : EXIT_SUCCESS;
 }

@@ -15,6 +15,7 @@ _Static_assert(GANDEUCH_NEGATE_ROOM(LONGEST) == 16422, "negate");
 _Static_assert(GANDEUCH_WITHOUT_ROOM(LONGEST, LONGEST) == 98388, "without");
 _Static_assert(GANDEUCH_BINDINGS_ROOM(LONGEST, LONGEST) == 1081358, "bindings");
 _Static_assert(GANDEUCH_FILTERS_ROOM(LONGEST, LONGEST) == 409614, "filters");
+_Static_assert(GANDEUCH_NAMESPACES_ROOM(LONGEST) == 540686, "namespaces");
 _Static_assert(GANDEUCH_LIST_ROOM == 256, "list");
 
 /* A text, and a byte more for the zero that ends it while it is made. */
@@ -118,10 +119,26 @@ static void placings(void) {
     held("filters", number, size, room, tree.size + 23 * filters.size);
 }
 
+static void conversions(void) {
+    struct text tree = text("values\t1000\t3\ncols"), table = text("a\t");
+    add(&tree, "\t?x", 1000);
+    for (int row = 0; row < 3; row++) {
+        add(&tree, "\nrow", 1);
+        add(&tree, "\t<a>", 1000);
+    }
+    add(&tree, "\n", 1);
+    add(&table, "c", 128);
+    add(&table, "\n", 1);
+    size_t size, room = GANDEUCH_NAMESPACES_ROOM(tree.size);
+    uint8_t number = gandeuch_namespaces(tree.bytes, tree.size, table.bytes, table.size, out, room, &size);
+    held("namespaces", number, size, room, 25 * tree.size);
+}
+
 int main(void) {
     single();
     renames();
     merges();
     placings();
+    conversions();
     return failures != 0;
 }
