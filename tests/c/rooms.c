@@ -120,18 +120,19 @@ static void placings(void) {
 }
 
 static void conversions(void) {
-    struct text tree = text("values\t1000\t3\ncols"), table = text("a\t");
-    add(&tree, "\t?x", 1000);
-    for (int row = 0; row < 3; row++) {
+    enum { ROWS = 54, CELLS = 73 };
+    struct text tree = text("values\t73\t54\ncols"), table = text("a\t");
+    add(&tree, "\t?x", CELLS);
+    for (int row = 0; row < ROWS; row++) {
         add(&tree, "\nrow", 1);
-        add(&tree, "\t<a>", 1000);
+        add(&tree, "\t<a>", CELLS);
     }
     add(&tree, "\n", 1);
     add(&table, "c", 128);
     add(&table, "\n", 1);
     size_t size, room = GANDEUCH_NAMESPACES_ROOM(tree.size);
     uint8_t number = gandeuch_namespaces(tree.bytes, tree.size, table.bytes, table.size, out, room, &size);
-    held("namespaces", number, size, room, 25 * tree.size);
+    held("namespaces", number, size, room, 31 * tree.size);
 }
 
 int main(void) {
