@@ -131,10 +131,23 @@ class Inputs:
         room = (trees.BYTES - sum(map(len, head)) - 80) // 3
         maker.lines += [head[0], head[1] + b"%d\t0" % (len(first) + room), head[2] + b"".join(b"\t" + self.rng.choice(short) for _ in range(room))]
 
+    def wide(self, pool):
+        """As many columns as there may be, of names that are seen below or not, some more than once."""
+        maker = trees.Maker(self.rng, pool, trees.DEPTH)
+        names = [b"?%x" % number for number in self.rng.sample(range(2 * trees.COLUMNS), trees.COLUMNS)]
+        maker.line(b"project", *(self.rng.choices(names, k=trees.COLUMNS) if self.chance(0.2) else names))
+        maker.line(b"join")
+        maker.line(b"values", b"%d" % (trees.COLUMNS // 2), b"0")
+        maker.line(b"cols", *self.rng.sample(names, trees.COLUMNS // 2))
+        maker.bgp(3, 3)
+        return maker.text()
+
     def tree(self, pool):
         """A tree whose root is project, most often."""
         if self.chance(0.01):
             return self.edge(pool)
+        if self.chance(0.02):
+            return self.wide(pool)
         if self.chance(0.9):
             return self.projected(pool)
         return self.outer(pool) if self.chance(0.5) else trees.tree(self.rng)
@@ -160,6 +173,8 @@ class Inputs:
         if 0 in (left, right) and self.chance(0.9):
             most = 0
         pairs = [(self.position(left), self.position(right)) for _ in range(most)]
+        if most == trees.ENTRIES and self.chance(0.5):
+            pairs = list(zip(*(self.rng.sample(range(width), min(left, right)) for width in (left, right))))
         return b"".join(b"%d\t%d\n" % pair for pair in (pairs if self.chance(0.05) else once(pairs)))
 
     def constants(self, width):
@@ -167,6 +182,8 @@ class Inputs:
         if width == 0 and self.chance(0.9):
             most = 0
         places = list(dict.fromkeys(self.position(width) for _ in range(most)))
+        if most == trees.ENTRIES and self.chance(0.5):
+            places = self.rng.sample(range(width), width)
         terms = self.rng.sample(TERMS, len(places))
         if self.chance(0.1):
             terms = [self.rng.choice(terms[:2]) for _ in places]
@@ -187,7 +204,7 @@ class Inputs:
     def two_trees(self):
         pool = trees.name_pool(self.rng)
         other = pool if self.chance(0.5) else trees.name_pool(self.rng)
-        make = self.edge if self.chance(0.01) else self.tree
+        make = self.edge if self.chance(0.01) else self.wide if self.chance(0.03) else self.tree
         return make(pool), make(other)
 
     def merge(self):

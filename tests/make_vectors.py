@@ -75,6 +75,8 @@ WRITTEN = [
     ("rename", "over-bound", OVER + BAR + SWAP, refused(2)),
     ("rename", "over-bound-first", OVER + BAR + MALFORMED, refused(2)),
     ("rename", "malformed-first", MALFORMED + BAR + text("/".join("?c%d ?d" % i for i in range(257))), refused(1)),
+    ("rename", "mapping-256", text("project " + " ".join("?c%d" % i for i in range(256)) + "/bgp 0") + BAR
+     + text("/".join("?c%d ?d%d" % (i, 255 - i) for i in range(256))), text("project " + " ".join("?d%d" % i for i in range(255, -1, -1)) + "/bgp 0")),
     ("rename", "mapping-over-bound", TREE + BAR + text("/".join("?c%d ?d" % i for i in range(257))), refused(2)),
     ("rename", "from-repeated", TREE + BAR + text("?a ?b/?a ?b"), refused(1)),
     ("rename", "unended-bar", OVER + b"--", refused(1)),

@@ -124,4 +124,14 @@ LISTS = [
     filters("too-long-lists-none", 6, "project ?%s/bgp 0" % ("a" * 128), "nary x 0/nary x 0" + ("/bin Equals" * 9 + "/ref 0" * 10) * 62),
 ]
 
-WRITTEN = VALUES + BINDINGS + FILTERS + LISTS
+# 256 columns, sets and references: the last ones.
+WIDE = "project %s/" % " ".join("?c%d" % i for i in range(256))
+WIDEST = [
+    bindings("at-255", WIDE + "join/bgp 0/values 1 1/cols ?c255/row <x>", WIDE + "bgp 0", "set 1 1/at 255/row Iri x -"),
+    bindings("at-256", 3, WIDE + "bgp 0", "set 1 1/at 256/row Iri x -"),
+    bindings("sets-256", WIDE + "join/" * 256 + "bgp 0/" + "/".join(["values 0 1/cols/row"] * 256), WIDE + "bgp 0", "/".join(["set 0 1/at/row"] * 256)),
+    filters("ref-255", WIDE + "filter/bgp 0/term ?c255", WIDE + "bgp 0", "ref 255"),
+    filters("ref-256", 3, WIDE + "bgp 0", "ref 256"),
+]
+
+WRITTEN = VALUES + BINDINGS + FILTERS + LISTS + WIDEST

@@ -133,8 +133,8 @@ fn bindings_and_filters() {
         gandeuch::filters(TREE, &others.concat()),
         Ok((placed.to_vec(), vec![0, 2]))
     );
-    let all = gandeuch::filters(b"bgp\t0\n", &b"ref\t9\n".repeat(64));
-    assert_eq!(all, Ok((b"bgp\t0\n".to_vec(), (0..64).collect())));
+    let all = gandeuch::filters(b"bgp\t0\n", &b"ref\t9\n".repeat(256));
+    assert_eq!(all, Ok((b"bgp\t0\n".to_vec(), (0..256).collect())));
     assert_eq!(gandeuch::filters(TREE, b"ref\t2\n"), Err(Refusal::Outside));
     assert_eq!(gandeuch::filters(TREE, b"un\t"), Err(Refusal::Malformed));
 }

@@ -121,9 +121,16 @@ fn the_deepest_answer_is_read() {
         let parts = text("bound|?a").repeat(count + 1);
         [text("filter/bgp|0"), text("and").repeat(count), parts].concat()
     };
-    assert!(layout::read_pattern(&chain(255)).is_ok());
-    let longer = layout::read_pattern(&chain(256));
-    assert_eq!(longer, Err(ReadError::TooDeep { line: 258 }));
+    assert!(layout::read_pattern(&chain(510)).is_ok());
+    let longer = layout::read_pattern(&chain(511));
+    assert_eq!(longer, Err(ReadError::TooDeep { line: 514 }));
+    let chains = [
+        text("filter/bgp|0"),
+        [text("and").repeat(200), text("not")].concat().repeat(3),
+    ]
+    .concat();
+    let read = layout::read_pattern(&chains);
+    assert_eq!(read, Err(ReadError::TooDeep { line: 514 }));
 }
 
 #[test]

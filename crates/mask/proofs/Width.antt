@@ -9,7 +9,7 @@ use lib.ListN.{length}
 use lib.Pow.{pow-mono}
 use lib.Count.{ones}
 use Rattle.mask.specs.bridge.Mask.{bitOf, maskOf, countOf, stayOf, valueOf, onesIn}
-use Rattle.mask.proofs.Words.{Words, value-ones}
+use Rattle.mask.proofs.Words.{Words, none, also, value-ones}
 use Rattle.mask.proofs.Bits.{mask-ones}
 
 -- as many bits as there are columns are room enough
@@ -36,3 +36,11 @@ columns-left {ws} w bs e =
     let a : onesIn ws ≡ countOf bs = sym (value-ones w) ∙ ap ones e ∙ mask-ones bs in
     let b = count-stay bs in
     omega arith
+
+-- one word serves 64 columns, and four serve 256: their ones are those of the columns that go
+pub one-word-left : (w : ℕ) → w < 2 ^ 64 → (bs : List Bool) → length bs ≤ 64 → valueOf (w ∷ []) ≡ maskOf bs → length bs - onesIn (w ∷ []) ≡ stayOf bs
+one-word-left w h bs few e = columns-left (also h none) bs e
+
+pub four-words-left : (a b c d : ℕ) → a < 2 ^ 64 → b < 2 ^ 64 → c < 2 ^ 64 → d < 2 ^ 64 → (bs : List Bool) → length bs ≤ 256 → valueOf (a ∷ b ∷ c ∷ d ∷ []) ≡ maskOf bs
+    → length bs - onesIn (a ∷ b ∷ c ∷ d ∷ []) ≡ stayOf bs
+four-words-left a b c d p q r s bs few e = columns-left (also p (also q (also r (also s none)))) bs e

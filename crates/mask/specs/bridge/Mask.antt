@@ -19,6 +19,12 @@ abbrev pub countOf : List Bool → ℕ
 countOf [] = 0
 countOf (b ∷ bs) = bitOf b + countOf bs
 
+-- how many bits are not set
+abbrev pub stayOf : List Bool → ℕ
+stayOf [] = 0
+stayOf (true ∷ bs) = stayOf bs
+stayOf (false ∷ bs) = 1 + stayOf bs
+
 -- the number that words are, the lowest word first
 unfoldable pub valueOf : List ℕ → ℕ
 valueOf [] = 0
@@ -28,9 +34,3 @@ valueOf (w ∷ ws) = valueOf ws * 2 ^ 64 + w
 unfoldable pub onesIn : List ℕ → ℕ
 onesIn [] = 0
 onesIn (w ∷ ws) = ones w + onesIn ws
-
--- how many bits are not
-abbrev pub stayOf : List Bool → ℕ
-stayOf [] = 0
-stayOf (true ∷ bs) = stayOf bs
-stayOf (false ∷ bs) = 1 + stayOf bs

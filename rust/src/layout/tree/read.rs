@@ -22,12 +22,12 @@ pub trait ReadLeaves<'t> {
     fn base(field: &str) -> Option<&str>;
 }
 
-/// No answer is deeper: at most 63 patterns stand above a filter, a chain of `and` joins its parts, and a part with 63 `Unequals`,
-/// of two words each, has depth 127.
+/// Levels that are read by descent, a chain of `and` being one. No answer has more: at most 63 patterns stand above a filter, a chain
+/// of `and` joins its parts, and a part with 63 `Unequals`, of two words each, has depth 127.
 const DEEPEST: usize = 256;
 
-/// No answer has a longer chain of `and`, which counts as one level: 255 of them join 256 filters.
-pub(super) const CHAIN: usize = 255;
+/// Levels of the tree that is read, each `and` of a chain being one. No answer has more: a chain has 255, which join 256 filters.
+const MOST: usize = 512;
 
 /// Parts that there is room for before they are read.
 const ROOM: usize = 256;
@@ -36,6 +36,7 @@ pub struct Reader<'t, L> {
     rest: &'t str,
     read: usize,
     depth: usize,
+    levels: usize,
     pub leaves: L,
 }
 
@@ -47,6 +48,7 @@ impl<'t, L: ReadLeaves<'t>> Reader<'t, L> {
             rest: text,
             read: 0,
             depth: 0,
+            levels: 0,
             leaves,
         }
     }
@@ -91,21 +93,40 @@ impl<'t, L: ReadLeaves<'t>> Reader<'t, L> {
             return Err(self.too_deep());
         }
         self.depth += 1;
+        self.level()?;
         let part = part(self, line)?;
         self.depth -= 1;
+        self.levels -= 1;
         Ok(part)
+    }
+
+    /// One more level of the tree.
+    pub(super) fn level(&mut self) -> Read<()> {
+        if self.levels == MOST {
+            return Err(self.too_deep());
+        }
+        self.levels += 1;
+        Ok(())
+    }
+
+    /// So many levels less.
+    pub(super) fn above(&mut self, levels: usize) {
+        self.levels -= levels;
     }
 
     /// The next line, if it is this word alone.
     pub(super) fn next_is(&mut self, word: &str) -> bool {
-        let rest = self.rest.strip_prefix(word).and_then(|rest| rest.strip_prefix('\n'));
+        let rest = self
+            .rest
+            .strip_prefix(word)
+            .and_then(|rest| rest.strip_prefix('\n'));
         if let Some(rest) = rest {
             (self.rest, self.read) = (rest, self.read + 1);
         }
         rest.is_some()
     }
 
-    pub(super) fn too_deep(&self) -> ReadError {
+    fn too_deep(&self) -> ReadError {
         ReadError::TooDeep { line: self.read }
     }
 

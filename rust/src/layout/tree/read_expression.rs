@@ -6,7 +6,7 @@ use spargebra::term::{
 };
 
 use super::line::Line;
-use super::read::{CHAIN, Read, ReadLeaves, Reader};
+use super::read::{Read, ReadLeaves, Reader};
 
 impl<'t, L: ReadLeaves<'t>> Reader<'t, L> {
     pub fn expression(&mut self) -> Read<Expression> {
@@ -70,15 +70,14 @@ impl<'t, L: ReadLeaves<'t>> Reader<'t, L> {
     /// A chain of `and` down its first parts, read without descent: filters are joined so, as many as there are.
     fn all(&mut self, line: Line<'t>) -> Read<Expression> {
         line.end()?;
-        let mut chain = 1;
+        let mut more = 0;
         while self.next_is("and") {
-            chain += 1;
-            if CHAIN < chain {
-                return Err(self.too_deep());
-            }
+            self.level()?;
+            more += 1;
         }
         let mut all = self.expression()?;
-        for _ in 0..chain {
+        self.above(more);
+        for _ in 0..=more {
             all = Expression::And(Box::new(all), self.part()?);
         }
         Ok(all)
