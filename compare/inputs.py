@@ -235,6 +235,25 @@ class Inputs:
         tree = self.placed()
         return [tree, values.Values(self.rng).filters(self.width(tree, outermost))]
 
+    def namespaces(self):
+        """A tree, most often without the IRI that no start covers, and a table, most often in order and of all that it needs."""
+        tree = self.tree(trees.name_pool(self.rng))
+        return [tree.replace(b"\t<>", b"\t<c>") if self.chance(0.9) else tree, self.table()]
+
+    def table(self):
+        wholes = [b"by", b"in", b"c", b"http://example.org/a#b", b"?x", b"a", "é".encode()]
+        olds = [whole[:self.rng.randint(1, len(whole))] for whole in wholes]
+        olds += [b"z%d:" % number for number in range(self.rng.choice([0, 0, 3, 10, 57]))]
+        if self.chance(0.1):
+            olds.remove(self.rng.choice(olds))
+        if self.chance(0.05):
+            olds.append(self.rng.choice(olds) + self.rng.choice([b"", b"x"]))
+        if self.chance(0.05):
+            self.rng.shuffle(olds)
+        else:
+            olds.sort()
+        return b"".join(b"%s\t%s\n" % (old, self.rng.choice([old, b"n:", b"a", b"<", b"n" * 128])) for old in olds)
+
     def placed(self):
         """A tree, most often with an outermost projection."""
         return self.rng.choice([self.outer, self.outer, self.tree])(trees.name_pool(self.rng))

@@ -39,5 +39,5 @@ line-over-spec =
     (λ c. let v = c .before .before .before .before .before .before .before .loop .inv .0 in let p = v .2 in let t = c .before .before .before .before .before .before .loop-test .taken in ((v .0, O.below _ _ _ (c .before .before .before .before .before .before .before .before .before .before .before .pre .0) _ _ (omega arith) _ (c .before .is-less .ensures ∙ ap (less _) (c .before .before .before .before .field-at .ensures)) (c .if2 .taken), omega arith), c .before .before .before .before .before .before .before .loop .inv .1))
     (λ c. let v = c .before .before .before .before .before .before .before .loop .inv .0 .2 in let f = c .before .before .before .before .before .before .before .before .before .before .before .pre .0 .few in omega arith)
     (λ c. omega (arith, c .before .before .before .before .before .before .loop-test .taken))
-    (λ c. let v = c .before .before .before .before .before .before .before .loop .inv .0 in let p = v .2 in let t = c .before .before .before .before .before .before .loop-test .taken in ((O.above _ _ _ (c .before .before .before .before .before .before .before .before .before .before .before .pre .0) _ _ (omega arith) _ (c .before .is-less .ensures ∙ ap (less _) (c .before .before .before .before .field-at .ensures)) (c .if2 .left), v .1, v .2), O.untaken (now (c .before .before .before .before .before .before .before .before .before .before .before .args .text)) (now (c .before .before .before .before .before .before .before .before .before .before .before .args .keys)) _ _ _ (c .before .before .before .before .field-at .ensures) _ (c .before .before .before .shared .ensures) (c .before .before .if1 .left)))
+    (λ c. let c2 = c .before .before in let c3 = c2 .before in let c4 = c3 .before in let c6 = c4 .before .before in let c7 = c6 .before in let c11 = c7 .before .before .before .before in let v = c7 .loop .inv .0 in let p = v .2 in let t = c6 .loop-test .taken in ((O.above _ _ _ (c11 .pre .0) _ _ (omega arith) _ (c .before .is-less .ensures ∙ ap (less _) (c4 .field-at .ensures)) (c .if2 .left), v .1, v .2), O.untaken (now (c11 .args .text)) (now (c11 .args .keys)) _ _ _ (c4 .field-at .ensures) _ (c3 .shared .ensures) (c2 .if1 .left)))
     (λ c. let v = c .before .loop .inv in O.none-covers _ _ _ (c .before .before .before .before .before .pre .0) _ (c .before .before .before .before .before .pre .1) _ _ (v .0) (v .1) (c .loop-test .left)))
