@@ -1,4 +1,4 @@
--- Without at work: a call whose premises hold, with each row's count computed in the tree that is written and as it has to be; and what goes wrong where a name ends in Label. Assumes nothing.
+-- Without at work: a call whose premises hold, with each row's count computed in the tree that is written and as it has to be; rows that agree on one pair of two; and what goes wrong where a name ends in Label. Assumes nothing.
 use mathlib.Core.Path.{_≡_, refl}
 use mathlib.Core.List.{List, [], _∷_, map}
 use mathlib.Core.Option.{none, some}
@@ -73,6 +73,26 @@ said = refl
 counted : map (λ x. count sameRow x (answer (bytes "?l0" ∷ bytes "?j0" ∷ []) [] (withoutProjectPatterns asked))) rows ≡ 0 ∷ 1 ∷ 2 ∷ 0 ∷ []
 unfolding withoutProjectPatterns count answer sameRow sideName columnsAt renamed standardizeVariables pushAll push get insert base isLabel generated decimal digits numbered inScopeByPlace hiddenByPlace byPlace tally tallyTriples tallyRows noted headed notes mem isVar same keep variablesOf tripleVariables variablesInPattern
 counted = refl
+
+-- ---- two pairs: a right row that agrees on one and contradicts on the other matches nothing; a cell that is unbound on either side contradicts nothing
+
+abbrev two : Request
+two = plainRequest
+    (record { columns = bytes "?event" ∷ bytes "?relay" ∷ []; inner = values (bytes "?event" ∷ bytes "?relay" ∷ []) ((bytes "<e>" ∷ bytes "<1>" ∷ []) ∷ (bytes "<f>" ∷ bytes "<1>" ∷ []) ∷ (bytes "<g>" ∷ bytes "-" ∷ []) ∷ []) })
+    (record { columns = bytes "?e" ∷ bytes "?r" ∷ []; inner = values (bytes "?e" ∷ bytes "?r" ∷ []) ((bytes "<e>" ∷ bytes "<2>" ∷ []) ∷ (bytes "<f>" ∷ bytes "-" ∷ []) ∷ (bytes "<g>" ∷ bytes "<2>" ∷ []) ∷ []) })
+    (record { left = 0; right = 0 } ∷ record { left = 1; right = 1 } ∷ [])
+
+-- contradicted; agrees on one, unbound on the right; agrees on one, unbound on the left
+abbrev pairs : List (List Cell)
+pairs = (some (bytes "<e>") ∷ some (bytes "<1>") ∷ []) ∷ (some (bytes "<f>") ∷ some (bytes "<1>") ∷ []) ∷ (some (bytes "<g>") ∷ none ∷ []) ∷ []
+
+pairs-said : map (unmatchedCount two []) pairs ≡ 1 ∷ 0 ∷ 0 ∷ []
+unfolding unmatchedCount
+pairs-said = refl
+
+pairs-counted : map (λ x. count sameRow x (answer (bytes "?j0" ∷ bytes "?j1" ∷ []) [] (withoutProjectPatterns two))) pairs ≡ 1 ∷ 0 ∷ 0 ∷ []
+unfolding withoutProjectPatterns count answer sameRow sideName columnsAt renamed standardizeVariables pushAll push get insert base isLabel generated decimal digits numbered inScopeByPlace hiddenByPlace byPlace tally tallyTriples tallyRows noted headed notes mem isVar same keep variablesOf tripleVariables variablesInPattern
+pairs-counted = refl
 
 -- ---- with names that end in "Label": the columns beside the join columns are linked too, so the premise is needed
 
