@@ -13,11 +13,12 @@ sys.dont_write_bytecode = True
 HERE = os.path.dirname(os.path.abspath(__file__))
 sys.path += [os.path.join(HERE, '..'), os.path.join(HERE, '..', '..', 'compare')]
 
+import second_calls
 from evaluations import save
 from layout import text, tree
 from merges import Merge, POOLS, ROWS
 from second_calls import answer
-from semantics import evaluate
+from semantics import agree, evaluate, pairs as joined
 
 HEADS = ['query\tselect\t-\t-\n', 'query\task\t<d>\t<b>\n']
 
@@ -93,18 +94,31 @@ def by_jena(cases, written, keep):
     return [cut[i:i + 3] for i in range(0, len(cut), 3)]
 
 
+def merged_negation(store, left, right, joins):
+    """The number of rows of the left query merged with the right one negated, by the tree that both calls write. Its filter asks whether a pattern has a
+    row, which is no expression of semantics.py: that is evaluated here, for each row that the filter is asked of."""
+    head = HEADS[0]
+    negation = answer('negate', (head + text(right)).encode())
+    merged = answer('merge_queries', b'--\n'.join([(head + text(left)).encode(), negation, joins, b'', b'']))
+    kept, asked = second_calls.tree(merged.removeprefix(head.encode())).below[0].below
+    over, condition = asked.below
+    assert (asked.word, condition.word, condition.below[0].word) == (b'filter', b'not', b'exists'), merged
+    rows, found = (evaluate(store, tree(node.text().decode())) for node in (over, condition.below[0].below[0]))
+    passed = [row for row in rows if not any(agree(row, other) for other in found)]
+    return sum(len(joined(None, row, passed)) for row in evaluate(store, tree(kept.text().decode())))
+
+
 def negated():
     """Why it is no merged negation: two triples on which the two differ, and no store of fewer does, for these two queries. Events of relays; relays that
     tripped a breaker. The negation's filter asks whether any relay did; joined to the left rows it keeps all of them or none."""
     left = 'project', ['?event', '?relay'], ('bgp', [('?event', '<by>', '?relay')])
     right = 'project', ['?relay'], ('bgp', [('?relay', '<tripped>', '?breaker')])
-    event, tripped = ('<e>', '<by>', '<r1>'), ('<r2>', '<tripped>', '<b>')
+    event, tripped, joins = ('<e>', '<by>', '<r1>'), ('<r2>', '<tripped>', '<b>'), b'1\t0\n'
 
     def both(store):
         head = HEADS[0]
-        without = tree(answer('without', f'{head}{text(left)}--\n{head}{text(right)}--\n1\t0\n'.encode()).decode().removeprefix(head))
-        exists = evaluate(store, right[2])
-        return len(evaluate(store, without)), 0 if exists else len(evaluate(store, left))
+        without = answer('without', b'--\n'.join([(head + text(left)).encode(), (head + text(right)).encode(), joins])).decode().removeprefix(head)
+        return len(evaluate(store, tree(without))), merged_negation(store, left, right, joins)
 
     assert [both(store) for store in (set(), {event}, {tripped}, {event, tripped})] == [(0, 0), (1, 1), (0, 0), (1, 0)]
 
