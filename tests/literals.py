@@ -1,21 +1,25 @@
 #!/usr/bin/env python3
 """Literals changed behind their first quote: crates/laws' Alike from outside.
 
-    python3 -B tests/literals.py [SEED]
+    python3 -B tests/literals.py [SEED] [--programs FOLDER]
 
-Takes inputs of the calls that docs/SPECIFICATION.md, "Literals changed", names: the recorded ones of vectors/, and random
-ones, half of them damaged. In each, some fields that start with a quote get other bytes behind it, as many, none of them
-a tab or a line end; head lines stay. Both inputs are answered by second_calls.py: the answers have to be one refusal, or
-two texts of one length that are the same line by line and field by field, but for fields that are changed literals, each
-beside what it was. Last come inputs for which this would not hold: the two of docs/DECISIONS.md.
+Takes inputs of the calls that docs/SPECIFICATION.md, "Literals changed", names: the recorded ones of vectors/, those of
+without in written_merges.py, and random ones, half of them damaged. In each, some fields that start with a quote get
+other bytes behind it, as many, none of them a tab or a line end; head lines stay. Both inputs are answered by
+second_calls.py, or by the product's program in FOLDER: the answers have to be one refusal, or two texts of one length
+that are the same line by line and field by field, but for fields that are changed literals, each beside what it was.
+Last come inputs for which this would not hold: the two of docs/DECISIONS.md. `./test` runs it without any argument.
 """
+import argparse
 import os
 import random
 import sys
 
+import calls
 import random_texts
 from make_vectors import HERE, recorded
 from second_calls import TEXTS, answer
+from written_merges import WITHOUT
 
 CALLS = [name for name in TEXTS if name in ("merge", "merge_queries", "push", "negate", "without")]
 RANDOM = 1500  # inputs a call
@@ -49,13 +53,39 @@ def differences(first, second):
     return {pair for lines in zip(*rows) for pair in zip(*lines) if pair[0] != pair[1]}
 
 
-def tried(name, data, rng):
-    """Whether the input has literals that were changed, and whether its answer is a text that differs."""
-    other, pairs = changed(data, rng, rng.choice([0.3, 1]))
-    assert len(other) == len(data)
-    found = differences(answer(name, data), answer(name, other))
-    assert found is not None and found <= pairs, (name, data, other)
-    return any(a != b for a, b in pairs), bool(found)
+class Answering:
+    """The second implementation, or the programs of a folder."""
+
+    def __init__(self, programs):
+        self.ours = None
+        if programs:
+            sys.path.append(os.path.join(HERE, "..", "compare"))
+            import sides
+            self.ours = sides.ours(programs)
+
+    def answers(self, name, inputs):
+        return self.ours.answers(name, inputs) if self.ours else [answer(name, data) for data in inputs]
+
+    def answer(self, name, data):
+        return self.answers(name, [data])[0]
+
+
+def tried(answering, name, inputs, rng):
+    """Of each input whether it has literals that were changed, and whether its answer is a text that differs."""
+    others = [changed(data, rng, rng.choice([0.3, 1])) for data in inputs]
+    before, after = answering.answers(name, inputs), answering.answers(name, [other for other, _ in others])
+    for data, (other, pairs), first, second in zip(inputs, others, before, after):
+        assert len(other) == len(data)
+        found = differences(first, second)
+        assert found is not None and found <= pairs, (name, data, other)
+        yield any(a != b for a, b in pairs), bool(found)
+
+
+def written(name):
+    """The recorded inputs of a call."""
+    if name in calls.OURS:
+        return [given for program, _, given, _ in WITHOUT if program == name]
+    return [given for given, _ in recorded(name)]
 
 
 def random_text(kind, rng):
@@ -79,31 +109,32 @@ def random_input(name, rng):
     return b"--\n".join(texts)
 
 
-def heads_are_compared():
+def heads_are_compared(answering):
     """An opaque field of a head line is no literal, even if it starts with a quote."""
     query = b'query\tselect\t"%s"\t-\nproject\t?a\nbgp\t0\n'
-    assert answer("merge_queries", b"--\n".join([query % b"d", query % b"d", b"", b"", b""])).startswith(b"query\t")
-    assert answer("merge_queries", b"--\n".join([query % b"e", query % b"d", b"", b"", b""])) == b"refused\t5\n"
+    assert answering.answer("merge_queries", b"--\n".join([query % b"d", query % b"d", b"", b"", b""])).startswith(b"query\t")
+    assert answering.answer("merge_queries", b"--\n".join([query % b"e", query % b"d", b"", b"", b""])) == b"refused\t5\n"
 
 
-def first_quote_stays():
+def first_quote_stays(answering):
     """The first quote itself tells what a field is."""
     query = b'query\task\t-\t-\nproject\nbgp\t1\nt\t<s>\t<p>\t%s\n'
-    assert answer("negate", query % b'"a"').startswith(b"query\t")
-    assert answer("negate", query % b"'a'") == b"refused\t1\n"
+    assert answering.answer("negate", query % b'"a"').startswith(b"query\t")
+    assert answering.answer("negate", query % b"'a'") == b"refused\t1\n"
 
 
 def main():
-    seed = int(sys.argv[1]) if len(sys.argv) > 1 else 1
-    rng = random.Random(seed)
+    ap = argparse.ArgumentParser()
+    ap.add_argument("seed", nargs="?", type=int, default=1)
+    ap.add_argument("--programs")
+    said = ap.parse_args()
+    answering, rng = Answering(said.programs), random.Random(said.seed)
     for name in CALLS:
-        kept = os.path.exists(os.path.join(HERE, "vectors", name + ".txt"))
-        inputs = [given for given, _ in recorded(name)] if kept else []
-        found = [tried(name, data, rng) for data in inputs + [random_input(name, rng) for _ in range(RANDOM)]]
+        found = list(tried(answering, name, written(name) + [random_input(name, rng) for _ in range(RANDOM)], rng))
         print("literals changed, seed %d: %s: %d inputs, %d with a changed literal, %d of them with answers that differ there"
-              % (seed, name, len(found), sum(a for a, _ in found), sum(b for _, b in found)))
-    heads_are_compared()
-    first_quote_stays()
+              % (said.seed, name, len(found), sum(a for a, _ in found), sum(b for _, b in found)))
+    heads_are_compared(answering)
+    first_quote_stays(answering)
 
 
 if __name__ == "__main__":
