@@ -282,14 +282,14 @@ def close_to_bound(kind, rng):
     make = Maker(rng)
     near = lambda bound: bound + rng.choice([-2, -1, 0, 0, 0, 1, 1, 1, 2])
     measures = {"tree": "depth depth columns columns names lines bytes", "query": "depth columns names lines bytes",
-                "bindings": "entries entries lines bytes", "filters": "depth depth entries entries lines bytes"}
+                "bindings": "entries entries lines bytes", "filters": "depth depth entries entries lines bytes", "namespaces": "entries"}
     measure = rng.choice(measures.get(kind, "entries entries entries bytes").split())
     head = joined(make.head()) if kind == "query" else b""
     if measure == "bytes":
         start, end = {"tree": (b"path\t?x\t", b"\t?x\n"), "query": (b"path\t?x\t", b"\t?x\n"),
                       "joins": (b"0\t0\n1\t", b"\n"), "constants": (b'0\t"', b"\n"),
                       "mapping": (b"?x\t?", b"\n"), "bindings": (b"set\t1\t1\nat\t0\nrow\tIri\t", b"\t-\n"),
-                      "filters": (b"leaf\tIri\t", b"\t-\n"), "namespaces": (b"a\t", b"\n")}[kind]
+                      "filters": (b"leaf\tIri\t", b"\t-\n")}[kind]
         return head + start + b"a" * (near(16384) - len(head + start + end)) + end
     if measure == "lines":
         n = near(2048)
@@ -312,7 +312,7 @@ def close_to_bound(kind, rng):
         after = b"bound\t?x\n" if above == b"filter\n" else b""
         return head + above + b"project" + b"\t?x" * n + b"\nbgp\t0\n" + after
     if measure == "entries":
-        n = near(256)
+        n = near(64 if kind == "namespaces" else 256)
         line = {"joins": lambda i: b"0\t1\n", "constants": lambda i: b"%d\t<k>\n" % i,
                 "mapping": lambda i: b"?%d\t?x\n" % i, "bindings": lambda i: b"set\t0\t1\nat\nrow\n",
                 "filters": lambda i: joined(make.part(1)), "namespaces": lambda i: b"a%03d\tb\n" % i}[kind]

@@ -363,7 +363,6 @@ class Text:
         for _ in range(parts):
             self.part(depth + 1, entry)
 
-
     def namespaces(self):
         olds = []
         while self.more():

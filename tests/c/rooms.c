@@ -1,5 +1,6 @@
 /* Makes each call of gandeuch.h on texts whose answer needs nearly all of the room that the header says, with just that room lent.
- * Writes a line for each; exits with 1 if one is refused, or if a smaller whole factor would have been enough. */
+ * Writes a line for each; exits with 1 if one is refused, or if a smaller whole factor would have been enough
+ * (namespaces: if 31 would). */
 #include <stdio.h>
 #include <string.h>
 

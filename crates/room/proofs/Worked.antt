@@ -1,4 +1,4 @@
--- Closed instances: the rooms of the specification's merges beside what is written, answers that come as near as they can, and one size of buffer for all texts. Assumes nothing.
+-- Closed instances: the rooms of the specification's merges beside what is written, answers beside their rooms, and one size of buffer for all texts. Assumes nothing.
 use Prim.Native.Nat.{ℕ, _+_}
 use Prim.Native.String.{String}
 use mathlib.Core.Path.{_≡_, refl, ap}
