@@ -22,7 +22,7 @@ use Rattle.counting.specs.Answer.{answer}
 use Rattle.merging.specs.Sides.{Pair, bindConstants, renamedColumns, renamedPattern, lefts, rights}
 use Rattle.merging.specs.Request.{Projection, tree, readJoins, Request, leftSide, rightSide}
 use Rattle.merging.specs.Merge.{mergeable, over}
-use Rattle.merging.specs.Without.{minusSides, withoutProjectPatterns, plainRequest, withoutQueriesOutcome}
+use Rattle.merging.specs.Without.{minusSides, plainRequest, withoutQueriesOutcome}
 use Rattle.merging.specs.Asked.{Lists, queryOf, Queries, behindHead}
 use Rattle.merging.proofs.Given.{then-written, test-written, without-written}
 use Rattle.merging.proofs.Lists.{no-constants}
@@ -48,15 +48,15 @@ module _ (l r : Projection) (js : List Pair) (a : Known prefixL l (lefts js) [])
   remainingProjection : Projection
   remainingProjection = record { columns = renamedColumns (leftSide m); inner = minus (renamedPattern (leftSide m)) (renamedPattern (rightSide m)) }
 
-  counts-left : Premises m → (g : List Triple) (row : List Cell) → count sameRow row (answer (renamedColumns (leftSide m)) g (withoutProjectPatterns m)) ≡ unmatchedCount m g row
-  unfolding withoutProjectPatterns minusSides renamedPattern bindConstants unmatchedCount
+  counts-left : Premises m → (g : List Triple) (row : List Cell) → count sameRow row (answer (renamedColumns (leftSide m)) g (minusSides (leftSide m) (rightSide m))) ≡ unmatchedCount m g row
+  unfolding minusSides renamedPattern bindConstants unmatchedCount
   counts-left s g row = remaining-count (leftSide m) (rightSide m) js (sides-fit m a b s) (a .joins-inside) (b .joins-inside) g row
 
-  promised : (text : Bytes) → layout (withoutProjectPatterns m) ≡ text → Unmatched m text
-  unfolding withoutProjectPatterns minusSides remainingProjection
+  promised : (text : Bytes) → layout (minusSides (leftSide m) (rightSide m)) ≡ text → Unmatched m text
+  unfolding minusSides remainingProjection
   promised text e = record {
     remaining = remainingProjection;
-    read = read-any-exactly text (withoutProjectPatterns m) .1 (e, without-valid m a b);
+    read = read-any-exactly text (minusSides (leftSide m) (rightSide m)) .1 (e, without-valid m a b);
     columns = λ s. side-names prefixL l (lefts js) (left-names m a b s);
     counts = counts-left;
   }
@@ -91,11 +91,11 @@ without-queries-counts left right pairs b e =
       q .kind,
       q .dataset,
       q .base,
-      layout (withoutProjectPatterns m),
+      layout (minusSides (leftSide m) (rightSide m)),
       record { left-query = lq; right-query = rq },
       z .1,
-      sym (bytes-of (layoutQuery (over q (withoutProjectPatterns m))) b (w .gives)) ∙ query-over q (withoutProjectPatterns m),
-      promised l r js (left-known m pairs [] [] lr rr ls (w .all-inside) (w .none-twice)) (right-known m pairs [] [] lr rr ls (w .all-inside) (w .none-twice)) (layout (withoutProjectPatterns m)) refl,
+      sym (bytes-of (layoutQuery (over q (minusSides (leftSide m) (rightSide m)))) b (w .gives)) ∙ query-over q (minusSides (leftSide m) (rightSide m)),
+      promised l r js (left-known m pairs [] [] lr rr ls (w .all-inside) (w .none-twice)) (right-known m pairs [] [] lr rr ls (w .all-inside) (w .none-twice)) (layout (minusSides (leftSide m) (rightSide m))) refl,
     )
 
 -- the same for the trees and the list that the texts are read as

@@ -27,9 +27,9 @@ use Rattle.counting.specs.Row.{Cell, sameRow}
 use Rattle.counting.specs.Answer.{answer}
 use Rattle.counting.specs.Countable.{isCountable, extendsFresh, valuesOnce, expressionsKnown}
 use Rattle.answers.specs.Outcome.{Outcome, written}
-use Rattle.merging.specs.Request.{Request}
+use Rattle.merging.specs.Request.{Request, leftSide, rightSide}
 use Rattle.demand3.specs.Demand3.{Premises}
-use Rattle.merging.specs.Without.{plainRequest, withoutProjectPatterns, withoutQueriesOutcome}
+use Rattle.merging.specs.Without.{minusSides, plainRequest, withoutQueriesOutcome}
 use Rattle.demand3.specs.Unmatched.{unmatchedCount}
 
 abbrev call : String → String → String → Outcome
@@ -70,8 +70,8 @@ unfolding unmatchedCount
 said = refl
 
 -- and as the tree counts
-counted : map (λ x. count sameRow x (answer (bytes "?l0" ∷ bytes "?j0" ∷ []) [] (withoutProjectPatterns asked))) rows ≡ 0 ∷ 1 ∷ 2 ∷ 0 ∷ []
-unfolding withoutProjectPatterns count answer sameRow sideName columnsAt renamed standardizeVariables pushAll push get insert base isLabel generated decimal digits numbered inScopeByPlace hiddenByPlace byPlace tally tallyTriples tallyRows noted headed notes mem isVar same keep variablesOf tripleVariables variablesInPattern
+counted : map (λ x. count sameRow x (answer (bytes "?l0" ∷ bytes "?j0" ∷ []) [] (minusSides (leftSide asked) (rightSide asked)))) rows ≡ 0 ∷ 1 ∷ 2 ∷ 0 ∷ []
+unfolding minusSides count answer sameRow sideName columnsAt renamed standardizeVariables pushAll push get insert base isLabel generated decimal digits numbered inScopeByPlace hiddenByPlace byPlace tally tallyTriples tallyRows noted headed notes mem isVar same keep variablesOf tripleVariables variablesInPattern
 counted = refl
 
 -- ---- two pairs: a right row that agrees on one and contradicts on the other matches nothing; a cell that is unbound on either side contradicts nothing
@@ -90,8 +90,8 @@ pairs-said : map (unmatchedCount two []) pairs ≡ 1 ∷ 0 ∷ 0 ∷ []
 unfolding unmatchedCount
 pairs-said = refl
 
-pairs-counted : map (λ x. count sameRow x (answer (bytes "?j0" ∷ bytes "?j1" ∷ []) [] (withoutProjectPatterns two))) pairs ≡ 1 ∷ 0 ∷ 0 ∷ []
-unfolding withoutProjectPatterns count answer sameRow sideName columnsAt renamed standardizeVariables pushAll push get insert base isLabel generated decimal digits numbered inScopeByPlace hiddenByPlace byPlace tally tallyTriples tallyRows noted headed notes mem isVar same keep variablesOf tripleVariables variablesInPattern
+pairs-counted : map (λ x. count sameRow x (answer (bytes "?j0" ∷ bytes "?j1" ∷ []) [] (minusSides (leftSide two) (rightSide two)))) pairs ≡ 1 ∷ 0 ∷ 0 ∷ []
+unfolding minusSides count answer sameRow sideName columnsAt renamed standardizeVariables pushAll push get insert base isLabel generated decimal digits numbered inScopeByPlace hiddenByPlace byPlace tally tallyTriples tallyRows noted headed notes mem isVar same keep variablesOf tripleVariables variablesInPattern
 pairs-counted = refl
 
 -- ---- with names that end in "Label": the columns beside the join columns are linked too, so the premise is needed
@@ -103,6 +103,6 @@ labelled = plainRequest
     (record { left = 0; right = 0 } ∷ [])
 
 -- the join column agrees, so 0 is due; the tree compares the labels as well and keeps the row
-labels : unmatchedCount labelled [] (some (bytes "<1>") ∷ some (bytes "\"a\"") ∷ []) ∷ count sameRow (some (bytes "<1>") ∷ some (bytes "\"a\"") ∷ []) (answer (bytes "?j0" ∷ bytes "?j0Label" ∷ []) [] (withoutProjectPatterns labelled)) ∷ [] ≡ 0 ∷ 1 ∷ []
-unfolding unmatchedCount withoutProjectPatterns count answer sameRow sideName columnsAt renamed standardizeVariables pushAll push get insert base isLabel generated decimal digits numbered inScopeByPlace hiddenByPlace byPlace tally tallyTriples tallyRows noted headed notes mem isVar same keep variablesOf tripleVariables variablesInPattern
+labels : unmatchedCount labelled [] (some (bytes "<1>") ∷ some (bytes "\"a\"") ∷ []) ∷ count sameRow (some (bytes "<1>") ∷ some (bytes "\"a\"") ∷ []) (answer (bytes "?j0" ∷ bytes "?j0Label" ∷ []) [] (minusSides (leftSide labelled) (rightSide labelled))) ∷ [] ≡ 0 ∷ 1 ∷ []
+unfolding unmatchedCount minusSides count answer sameRow sideName columnsAt renamed standardizeVariables pushAll push get insert base isLabel generated decimal digits numbered inScopeByPlace hiddenByPlace byPlace tally tallyTriples tallyRows noted headed notes mem isVar same keep variablesOf tripleVariables variablesInPattern
 labels = refl

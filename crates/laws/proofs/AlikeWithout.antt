@@ -10,9 +10,9 @@ use Rattle.algebra.specs.Reader.{reads}
 use Rattle.scoping.specs.Label.{prefixL, prefixR}
 use Rattle.answers.specs.Outcome.{Outcome, written}
 use Rattle.merging.specs.Sides.{Pair, lefts, rights}
-use Rattle.merging.specs.Request.{asProject, readJoins, Request, allInside}
+use Rattle.merging.specs.Request.{asProject, readJoins, Request, leftSide, rightSide, allInside}
 use Rattle.merging.specs.Merge.{namedSides, mergeable, over}
-use Rattle.merging.specs.Without.{minusSides, withoutProjectPatterns, plainRequest, isJoined, withoutTrees, withoutQueriesOutcome}
+use Rattle.merging.specs.Without.{minusSides, plainRequest, isJoined, withoutTrees, withoutQueriesOutcome}
 use Rattle.merging.specs.Asked.{Lists}
 use Rattle.merging.specs.bridge.Twice.{noneTwice}
 use Rattle.merging.proofs.Given.{sides-named}
@@ -25,15 +25,15 @@ use Rattle.laws.proofs.ErasedCalls.{erasedProjection, erasedRequest, co
 use Rattle.laws.proofs.AlikeCalls.{Read, query-read, query-valid, root-read, joins-alike, then-alike, or-alike, unless-alike, told-alike, roots-alike, query-step, requests-same, Goes, queries-go, heads-alike}
 
 module _ (may : Bytes → Bool) where
-  without-erased : (m : Request) → Known prefixL (m .left) (lefts (m .joins)) (m .left-constants) → Known prefixR (m .right) (rights (m .joins)) (m .right-constants) → withoutProjectPatterns (erasedRequest may m) ≡ erasedTree may (withoutProjectPatterns m)
-  unfolding withoutProjectPatterns minusSides erasedTree
+  without-erased : (m : Request) → Known prefixL (m .left) (lefts (m .joins)) (m .left-constants) → Known prefixR (m .right) (rights (m .joins)) (m .right-constants) → minusSides (leftSide (erasedRequest may m)) (rightSide (erasedRequest may m)) ≡ erasedTree may (minusSides (leftSide m) (rightSide m))
+  unfolding minusSides erasedTree
   without-erased m a b = λ i.
       project (columns-same may prefixL (m .left) (lefts (m .joins)) (m .left-constants) a i)
       (minus (pattern-same may prefixL (m .left) (lefts (m .joins)) (m .left-constants) a i) (pattern-same may prefixR (m .right) (rights (m .joins)) (m .right-constants) b i))
 
   trees-alike : (pairs pairs′ : Bytes) (p p′ q q′ : Pattern) (js js′ : List Pair) (k k′ : Pattern → Outcome) → readJoins pairs ≡ reads js → readJoins pairs′ ≡ reads js′ → Read p → Read p′ → Read q → Read q′
       → erasedTree may p ≡ erasedTree may p′ → erasedTree may q ≡ erasedTree may q′ → js ≡ js′ → Goes may k k′ → AlikeOutcome may (withoutTrees p q js k) (withoutTrees p′ q′ js′ k′)
-  unfolding withoutTrees withoutProjectPatterns Goes
+  unfolding withoutTrees Goes
   trees-alike pairs pairs′ p p′ q q′ js js′ k k′ j j′ rp rp′ rq rq′ ep eq ej go =
       or-alike may 4 (erasedProjection may) (asProject p) (asProject p′) _ _ (roots-alike may p p′ ep) (λ l l′ x x′ a.
       or-alike may 4 (erasedProjection may) (asProject q) (asProject q′) _ _ (roots-alike may q q′ eq) (λ r r′ y y′ b.
@@ -52,7 +52,7 @@ module _ (may : Bytes → Bool) where
       let v = right-known m pairs [] [] (root-read p l x rp) (root-read q r y rq) ls h o in
       let u′ = left-known m′ pairs′ [] [] (root-read p′ l′ x′ rp′) (root-read q′ r′ y′ rq′) ls′ i′ o′ in
       let v′ = right-known m′ pairs′ [] [] (root-read p′ l′ x′ rp′) (root-read q′ r′ y′ rq′) ls′ i′ o′ in
-      go (withoutProjectPatterns m) (withoutProjectPatterns m′) (without-valid m u v) (without-valid m′ u′ v′) (sym (without-erased m u v) ∙ ap withoutProjectPatterns one ∙ without-erased m′ u′ v′)))))))
+      go (minusSides (leftSide m) (rightSide m)) (minusSides (leftSide m′) (rightSide m′)) (without-valid m u v) (without-valid m′ u′ v′) (sym (without-erased m u v) ∙ ap (λ (n : Request). minusSides (leftSide n) (rightSide n)) one ∙ without-erased m′ u′ v′)))))))
 
   pub without-alike : (left left′ right right′ pairs pairs′ : Bytes) → Alike may left left′ → Alike may right right′ → Alike may pairs pairs′ → AlikeOutcome may (withoutQueriesOutcome left right pairs) (withoutQueriesOutcome left′ right′ pairs′)
   unfolding withoutQueriesOutcome

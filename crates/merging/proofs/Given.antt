@@ -14,7 +14,7 @@ use Rattle.scoping.specs.Premises.{differentPositions, sideName, nameSide}
 use Rattle.merging.specs.Sides.{Pair, Constant, Side, lefts, rights, merged}
 use Rattle.merging.specs.Request.{Projection, tree, asProject, made, readJoins, readConstants, Request, request, leftSide, rightSide, allInside}
 use Rattle.merging.specs.Merge.{mergeProjectPatterns, namedSides, mergeSides, lists, mergeTrees}
-use Rattle.merging.specs.Without.{minusSides, withoutProjectPatterns, plainRequest, isJoined, withoutTrees}
+use Rattle.merging.specs.Without.{minusSides, plainRequest, isJoined, withoutTrees}
 use Rattle.merging.specs.Asked.{Lists}
 use Rattle.merging.specs.bridge.Twice.{noneTwice}
 
@@ -100,17 +100,17 @@ pub record Subtracted (p q : Pattern) (js : List Pair) (k : Pattern → Outcome)
   pub joined : isJoined js ≡ true
   pub all-inside : allInside (plainRequest left right js) ≡ true
   pub none-twice : noneTwice js ≡ true
-  pub gives : k (withoutProjectPatterns (plainRequest left right js)) ≡ written b
+  pub gives : k (minusSides (leftSide (plainRequest left right js)) (rightSide (plainRequest left right js))) ≡ written b
 
 pub without-written : (p q : Pattern) (js : List Pair) (k : Pattern → Outcome) (b : Bytes) → withoutTrees p q js k ≡ written b → Subtracted p q js k b
-unfolding withoutTrees withoutProjectPatterns
+unfolding withoutTrees
 without-written p q js k b e =
     let x = some-written 4 (asProject p) _ b e in
     let y = some-written 4 (asProject q) _ b (x .2) in
     let n = test-written 11 (isJoined js) _ b (y .2) in
     let m = plainRequest (x .0) (y .0) js in
     let z = test-written 3 (allInside m) _ b (n .1) in
-    let w = test-written 10 (noneTwice js) (k (withoutProjectPatterns m)) b (sym (sides-named m (λ s t. k (minusSides s t))) ∙ z .1) in
+    let w = test-written 10 (noneTwice js) (k (minusSides (leftSide m) (rightSide m))) b (sym (sides-named m (λ s t. k (minusSides s t))) ∙ z .1) in
     record { left = x .0; right = y .0; left-is = project-of p (x .0) (x .1); right-is = project-of q (y .0) (y .1); joined = n .0; all-inside = z .0; none-twice = w .0; gives = w .1 }
 
 -- three lists that are read

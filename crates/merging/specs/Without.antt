@@ -8,7 +8,7 @@ use Rattle.algebra.specs.Bounded.{layoutQuery}
 use Rattle.answers.specs.Outcome.{Outcome, written, then, orRefused, refusedUnless}
 use Rattle.scoping.specs.Premises.{nameSide}
 use Rattle.merging.specs.Sides.{Pair, Side, renamedColumns, renamedPattern}
-use Rattle.merging.specs.Request.{Projection, asProject, readJoins, Request, request, leftSide, rightSide, allInside}
+use Rattle.merging.specs.Request.{Projection, asProject, readJoins, Request, request, allInside}
 use Rattle.merging.specs.Merge.{namedSides, mergeable, over}
 
 -- ---- the tree
@@ -17,11 +17,6 @@ use Rattle.merging.specs.Merge.{namedSides, mergeable, over}
 unfoldable pub minusSides : Side → Side → Pattern
 unfolding renamedPattern
 minusSides l r = project (renamedColumns l) (minus (renamedPattern l) (renamedPattern r))
-
--- for two projects whose naming isn't refused
-unfoldable pub withoutProjectPatterns : Request → Pattern
-unfolding minusSides
-withoutProjectPatterns m = minusSides (leftSide m) (rightSide m)
 
 -- no constants are bound
 abbrev pub plainRequest : Projection → Projection → List Pair → Request

@@ -19,7 +19,7 @@ use Rattle.scoping.specs.Sets.{all}
 use Rattle.merging.specs.Sides.{Pair, lefts, rights, renamedPattern}
 use Rattle.merging.specs.Request.{Projection, tree, asProject, readJoins, Request, leftSide, rightSide, allInside}
 use Rattle.merging.specs.Merge.{mergeable, over}
-use Rattle.merging.specs.Without.{minusSides, withoutProjectPatterns, plainRequest, isJoined, withoutTrees, withoutQueriesOutcome}
+use Rattle.merging.specs.Without.{minusSides, plainRequest, isJoined, withoutTrees, withoutQueriesOutcome}
 use Rattle.merging.specs.bridge.Twice.{noneTwice}
 use Rattle.merging.proofs.Given.{project-of, sides-named}
 use Rattle.merging.proofs.Lines.{columns-free}
@@ -39,15 +39,15 @@ module _ (l r : Projection) (js : List Pair) (pairs : Bytes) (a : TreeRead l) (b
   pairs-few : (f : Pair → ℕ) → length (map f js) ≤ bounds .entries
   pairs-few f = omega (arith, map-length f js, joins-few pairs js listed)
 
-  remaining-size : size (put (withoutProjectPatterns m) []) ≤ 3 * (size (put (tree l) []) + size (put (tree r) []))
-  unfolding withoutProjectPatterns minusSides put size width inside all
+  remaining-size : size (put (minusSides (leftSide m) (rightSide m)) []) ≤ 3 * (size (put (tree l) []) + size (put (tree r) []))
+  unfolding minusSides put size width inside all
   remaining-size =
       let x = side-size prefixL l (lefts js) [] [] (a .valid) (a .names) (pairs-few (λ j. j .left)) no-constants refl in
       let y = side-size prefixR r (rights js) [] [] (b .valid) (b .names) (pairs-few (λ j. j .right)) no-constants refl in
       omega (arith, x, y, ap width (columns-free (leftSide m) refl), put-same (renamedPattern (leftSide m)) (put (renamedPattern (rightSide m)) []) [])
 
 pub without-enough : (left right pairs : Bytes) → Enough (withoutRoom (length left) (length right)) (withoutQueriesOutcome left right pairs)
-unfolding withoutQueriesOutcome withoutTrees withoutProjectPatterns withoutRoom Enough
+unfolding withoutQueriesOutcome withoutTrees withoutRoom Enough
 without-enough left right pairs =
     let room = withoutRoom (length left) (length right) in
     then-enough room (readGivenQuery left) _ λ a e. then-enough room (readGivenQuery right) _ λ b h. then-enough room (readJoins pairs) _ λ js j.
@@ -60,7 +60,7 @@ without-enough left right pairs =
     omega (
       arith,
       remaining-size l r js pairs (query-tree left a l e p) (query-tree right b r h q) j,
-      query-size (over a (withoutProjectPatterns (plainRequest l r js))),
+      query-size (over a (minusSides (leftSide (plainRequest l r js)) (rightSide (plainRequest l r js)))),
       query-size a,
       query-size b,
       ap (λ (t : Pattern). size (put t [])) p,
