@@ -55,7 +55,7 @@ listedBehind less may head p q pairs leftConstants rightConstants =
     refusedUnless 5 may
     (combineTrees less p q js ks ls λ t. written (head ++ layout t))
 
--- a left text that says a, and the four other texts
+-- a left text that says a, the right text and the three lists; without has no constants, so its two lists of them are empty texts
 unfoldable pub mergeWith : Bool → Bool → Query → Bytes → Bytes → Bytes → Bytes → Outcome
 unfolding readGivenTree readGivenQuery mergeable listedBehind
 mergeWith less query a right pairs leftConstants rightConstants =
