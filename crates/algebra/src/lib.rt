@@ -1,4 +1,6 @@
 // The answer of a check: a good text with the number of its distinct names, or the refusal; and the bounds that code goes by.
+#![tactic(auto)]
+
 ghost use Rattle.std.specs.Prelude.{◌≡◌};
 ghost use Rattle.algebra.specs.bridge.Answers.{answer_number};
 
@@ -15,7 +17,7 @@ pub const EMPTY_TREE: [u8; 14] = *b"project\nbgp\t0\n";
 // A number for each entry of a list.
 pub type PerEntry = [u16; ENTRIES];
 
-#[derive(Drop)]
+#[derive(Clone, Copy)]
 pub enum Answer {
     Good(usize),
     Malformed,

@@ -1,4 +1,6 @@
 // The calls by number and name: an input's texts go to one, and its answer and its list are printed.
+#![tactic(auto)]
+
 mod fields;
 mod more;
 

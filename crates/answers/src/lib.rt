@@ -1,9 +1,11 @@
 // What a public call answers, and its number and length: docs/SPECIFICATION.md, "Numbers".
+#![tactic(auto)]
+
 ghost use Rattle.std.specs.Prelude.{◌≡◌};
 ghost use Rattle.answers.specs.Outcome.{number as number_of, size as size_of};
 
 // So many bytes were written, or the call was refused and the buffer is as it was.
-#[derive(Drop)]
+#[derive(Clone, Copy)]
 pub enum Answer {
     Written(usize),
     Malformed,
@@ -24,7 +26,7 @@ pub enum Answer {
 }
 
 // An answer, and how many numbers were written into the list beside it.
-#[derive(Drop)]
+#[derive(Clone, Copy)]
 pub struct Listed {
     pub answer: Answer,
     pub many: usize,

@@ -2,6 +2,8 @@
 // more, and writes the length of the answer and a mix of the lengths, which keeps every call in the compiled program. The second
 // argument is the call's number: 0 scope, 1 rename, 2 merge, 3 merge_queries, 4 push, 5 negate, 6 bindings, 7 filters,
 // 8 without, 9 namespaces.
+#![tactic(auto)]
+
 use algebra::ENTRIES;
 use answering::answer;
 use answers::size_of;

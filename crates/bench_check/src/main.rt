@@ -1,5 +1,7 @@
 // Reads a tree from standard input, checks it as often as the first argument says and once more, each time over a table of its own and one table of words, and writes the
 // number of the check, and a mix of entries of the tables, which keeps every check in the compiled program.
+#![tactic(auto)]
+
 ghost use Rattle.words.specs.bridge.Words.{Worded};
 
 use algebra::{Answer, number};

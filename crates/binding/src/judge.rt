@@ -48,7 +48,7 @@ fn are_usable(sets: &[u8], from: usize, end: usize) -> bool
 }
 
 // All positions are inside, all values become cells, and there are so many sets.
-#[derive(Drop)]
+#[derive(Clone, Copy)]
 pub struct Judged {
     pub inside: bool,
     pub usable: bool,

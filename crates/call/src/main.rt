@@ -1,4 +1,6 @@
 // Reads a call's texts from standard input, and writes its answer, and its list to standard error. The first argument is the call's name.
+#![tactic(auto)]
+
 use algebra::ENTRIES;
 use answering::{answer, call_number, write_answer, write_left};
 use libc::{STDERR_FILENO, STDIN_FILENO};

@@ -145,7 +145,7 @@ fn left_over<'a>(reader: LineReader<'a>) -> bool
 }
 
 // Where the check of a text ended, and whether something is left over.
-#[derive(Drop)]
+#[derive(Clone, Copy)]
 pub struct Ended {
     pub place: Place,
     pub left: bool,
@@ -225,7 +225,7 @@ pub fn check_one(
 }
 
 // The answer of a check that notes spots and lines: how many names, spots and nodes there are.
-#[derive(Drop)]
+#[derive(Clone, Copy)]
 pub enum Noting {
     Good(usize, usize, usize),
     Malformed,

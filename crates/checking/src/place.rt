@@ -20,7 +20,7 @@ use words::Row;
 use words::table::WordRow;
 
 // Where the text goes on, how many lines, names, spots and nodes there were; and the fault that ended the check: 0 for none, 1 for malformed, else over a bound.
-#[derive(Drop)]
+#[derive(Clone, Copy)]
 pub struct Place {
     pub cursor: Cursor,
     pub lines: usize,
@@ -82,7 +82,7 @@ pub fn mark_below(sort: u8, flag: u8, last: bool, mark: u8) -> u8
 }
 
 // A line that was read: what it asks for, and the place behind it.
-#[derive(Drop)]
+#[derive(Clone, Copy)]
 pub struct Taken {
     pub row: Row,
     pub first: usize,

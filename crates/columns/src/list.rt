@@ -18,7 +18,7 @@ use reader::line_end;
 use walking::line::count_at;
 
 // A position is outside its projection, or there are so many.
-#[derive(Drop)]
+#[derive(Clone, Copy)]
 pub enum Positions {
     Outside,
     Are(usize),

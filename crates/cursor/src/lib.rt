@@ -1,4 +1,6 @@
 // A cursor by value: it steps from line to line and from field to field of a text, and counts down the lines that are awaited.
+#![tactic(auto)]
+
 ghost use Rattle.std.specs.Prelude.{◌≡◌, ◌+◌, ◌≤◌, ◌<◌, length};
 ghost use Rattle.text.specs.Text.{First};
 ghost use Rattle.cursor.specs.bridge.Cursor.{Reads, moved_to, line_at, line_done, awaiting_many, child_done};
@@ -8,7 +10,7 @@ use text::find;
 
 // `at` is the next byte to read and `end` the end of the line. Behind the last field of a line `at` is one past `end`, where the
 // next line starts; two past `end` says that a field was missing or not what it should be.
-#[derive(Drop)]
+#[derive(Clone, Copy)]
 pub struct Cursor {
     pub at: usize,
     pub end: usize,
@@ -16,7 +18,7 @@ pub struct Cursor {
 }
 
 // The end of a field, and the cursor behind it.
-#[derive(Drop)]
+#[derive(Clone, Copy)]
 pub enum Field {
     At(usize, Cursor),
     None,

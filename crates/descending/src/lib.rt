@@ -1,2 +1,4 @@
 // A checked tree renamed by its noted lines, in one descent.
+#![tactic(auto)]
+
 pub mod tree;

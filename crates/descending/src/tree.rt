@@ -16,14 +16,14 @@ use names::{Entry, wide};
 use words::table::WordRow;
 
 // How far a descent is: the number of the next line, and of the next variable.
-#[derive(Drop)]
+#[derive(Clone, Copy)]
 pub struct Reached {
     pub node: usize,
     pub spot: usize,
 }
 
 // What stands below a line that was renamed: its row's groups as one number, its two numbers, and the next variable.
-#[derive(Drop)]
+#[derive(Clone, Copy)]
 pub struct Head {
     pub groups: u64,
     pub first: usize,

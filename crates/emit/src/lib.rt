@@ -1,4 +1,6 @@
 // Writers: each stores a byte only where the buffer has its place, and always moves the place on. So one routine measures, on an empty buffer, and writes.
+#![tactic(auto)]
+
 ghost use Rattle.std.specs.Prelude.{◌≡◌, [], ◌∷◌, ℕ, ◌+◌, ◌<◌, ◌≤◌, min, length};
 ghost use Rattle.std.proofs.lemmas.List.Edits.{sets};
 ghost use Rattle.emit.specs.bridge.Emit.{em, last, puts};

@@ -17,7 +17,7 @@ use words::table::WordRow;
 use words::word_at;
 
 // Whether all of a filter is expressed, and where its text and the output go on.
-#[derive(Drop)]
+#[derive(Clone, Copy)]
 pub struct Walked {
     pub expressed: bool,
     pub from: usize,

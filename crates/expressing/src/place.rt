@@ -23,7 +23,7 @@ const LINES: usize = 2048;
 pub type Starts = [usize; ENTRIES];
 
 // How many filters are placed, how long their expressions' lines are, and how many filters are not placed.
-#[derive(Drop)]
+#[derive(Clone, Copy)]
 pub struct Noted {
     pub many: usize,
     pub size: usize,

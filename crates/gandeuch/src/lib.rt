@@ -1,4 +1,6 @@
 // The calls for C: a slice is a pointer and a length, the answer is the specification's number, and the length goes through `size`.
+#![tactic(auto)]
+
 ghost use Rattle.answers.specs.Outcome.{Reported};
 ghost use Rattle.answers.specs.Both.{ReportedBoth};
 ghost use Rattle.filtering.specs.Bindings.{bindings_outcome};

@@ -1,4 +1,6 @@
 // A query's head line: where it ends, its kind, and whether two heads are one; and texts copied as they are.
+#![tactic(auto)]
+
 ghost use Rattle.std.specs.Prelude.{◌≡◌, ◌++◌};
 ghost use Rattle.algebra.specs.Query.{Query};
 ghost use Rattle.emit.specs.bridge.Emit.{em, puts};

@@ -26,7 +26,7 @@ use text::piece;
 use words::table::{WordRow, all_words};
 
 // Which it is: of trees or of queries, by a join or by a minus.
-#[derive(Drop)]
+#[derive(Clone, Copy)]
 pub struct Form {
     pub query: bool,
     pub minus: bool,
@@ -65,7 +65,7 @@ fn longer(a: usize, b: usize) -> usize
 }
 
 // Two trees that were checked, and whether the heads that they stand behind let them be merged.
-#[derive(Drop)]
+#[derive(Clone, Copy)]
 struct Both {
     texts: Texts,
     mergeable: bool,
@@ -169,7 +169,7 @@ fn merge_listed(
 
 // A left tree that was checked, how many spots and nodes it has, the form of both texts, and whether a minus stands in
 // the join's place.
-#[derive(Drop)]
+#[derive(Clone, Copy)]
 struct Noted {
     query: bool,
     minus: bool,

@@ -10,7 +10,7 @@ use text::{Number, is_kind, number_of};
 use words::extra_kind;
 
 // A cursor and the number in a field.
-#[derive(Drop)]
+#[derive(Clone, Copy)]
 pub struct Taken {
     pub cursor: Cursor,
     pub number: usize,

@@ -1,4 +1,6 @@
 // One line of a text by the one table of words: its fields, its variables kept and noted on the way, and what it asks for.
+#![tactic(auto)]
+
 pub mod below;
 pub mod fields;
 pub mod line;

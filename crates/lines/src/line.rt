@@ -21,7 +21,7 @@ use words::table::{WordRow, row_at, word_by};
 use words::{Found, Row, word_at};
 
 // The fields of a whole line behind its word. They are all taken exactly if the cursor stands one past the line's end.
-#[derive(Drop)]
+#[derive(Clone, Copy)]
 pub struct Said {
     pub cursor: Cursor,
     pub names: usize,
@@ -82,7 +82,7 @@ fn spots_behind(flag: u8, before: usize, after: usize) -> usize
 }
 
 // What a good line asks for: its word's number in the table, its row, its first two numbers, and the numbers of names and spots kept so far.
-#[derive(Drop)]
+#[derive(Clone, Copy)]
 pub struct Asked {
     pub number: usize,
     pub row: Row,
@@ -92,7 +92,7 @@ pub struct Asked {
     pub spots: usize,
 }
 
-#[derive(Drop)]
+#[derive(Clone, Copy)]
 pub enum Line {
     Asks(Asked),
     Malformed,

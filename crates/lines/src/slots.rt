@@ -18,7 +18,7 @@ use names::Entry;
 use words::Row;
 
 // A cursor, the number of names in the table, and the number in a field or of a project's columns.
-#[derive(Drop)]
+#[derive(Clone, Copy)]
 pub struct Step {
     pub cursor: Cursor,
     pub names: usize,
@@ -91,7 +91,7 @@ fn slot(
 }
 
 // The fields of a line behind its word: the cursor, the number of names, and the first two numbers.
-#[derive(Drop)]
+#[derive(Clone, Copy)]
 pub struct Filled {
     pub cursor: Cursor,
     pub names: usize,

@@ -17,14 +17,14 @@ use names::{Entry, keep_name};
 use text::{is_kind, is_var, piece};
 
 // How many names are in the table, and how many spots were noted.
-#[derive(Drop)]
+#[derive(Clone, Copy)]
 pub struct Counts {
     pub names: usize,
     pub spots: usize,
 }
 
 // A cursor, and how many names and spots there are.
-#[derive(Drop)]
+#[derive(Clone, Copy)]
 pub struct Noted {
     pub cursor: Cursor,
     pub names: usize,

@@ -1,4 +1,6 @@
 // The check of the three lists of pairs: join list, constant list and mapping. Each is read line by line into an array of its pairs.
+#![tactic(auto)]
+
 ghost use Rattle.std.specs.Prelude.{◌≡◌, ℕ, ◌≤◌, ◌<◌, List, true, length, set};
 ghost use Rattle.text.specs.Text.{part, piece as piece_of, same};
 ghost use Rattle.text.specs.bridge.Code.{kind_at};

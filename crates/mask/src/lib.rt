@@ -1,11 +1,13 @@
 // Which columns: four words with one bit a column, the lowest bit of the first word for the first column.
+#![tactic(auto)]
+
 ghost use Rattle.std.specs.Prelude.{◌≡◌, ◌+◌, ◌*◌, ◌/◌, ◌%◌, ◌^◌, ◌≤◌, ◌<◌, get_or};
 ghost use Rattle.std.specs.Int.Bits.{bit_or};
 ghost use Rattle.std.specs.Int.Count.{ones};
 ghost use Rattle.mask.specs.bridge.Mask.{bit_of};
 ghost use Rattle.mask.specs.bridge.Words.{words_of, mask_value};
 
-#[derive(Drop)]
+#[derive(Clone, Copy)]
 pub struct Mask(pub u64, pub u64, pub u64, pub u64);
 
 // No column.

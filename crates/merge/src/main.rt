@@ -1,4 +1,6 @@
 // Reads two trees, a join list and constants of both from standard input, and writes the merged tree.
+#![tactic(auto)]
+
 use answering::{answer, call_number, write_answer};
 use libc::STDIN_FILENO;
 

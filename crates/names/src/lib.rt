@@ -1,5 +1,7 @@
 // The variable table of a text: its distinct names by first place, each an entry, and a hint to each name at the first place
 // that was empty from a cheap hash of it on.
+#![tactic(auto)]
+
 ghost use Rattle.std.specs.Prelude.{◌≡◌, ℕ, ◌+◌, ◌≤◌, ◌<◌, List, false, true, length, set, replicate, drop};
 ghost use Rattle.text.specs.Text.{same, piece as piece_of};
 ghost use Rattle.algebra.specs.Valid.{mem};
@@ -149,7 +151,7 @@ fn is_hinted(f: &[u8], s: &[u8], table: &[Entry; 1024], n: usize, hint: usize) -
 }
 
 // The entry of a name among the first n, or n; and where the hint of one that is new goes, 2,048 for nowhere.
-#[derive(Drop)]
+#[derive(Clone, Copy)]
 struct Seen {
     entry: usize,
     at: usize,
@@ -207,7 +209,7 @@ fn put_entry(table: &mut [Entry; 1024], n: usize, from: usize, size: usize)
 }
 
 // A name's entry in the table, and how many names there are.
-#[derive(Drop)]
+#[derive(Clone, Copy)]
 pub struct Listed {
     pub entry: usize,
     pub names: usize,

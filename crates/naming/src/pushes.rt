@@ -44,7 +44,7 @@ fn base_at(text: &[u8], table: &[Entry; 1024], k: usize) -> usize
 }
 
 // What the next push gets: its prefix, its place, its number.
-#[derive(Drop)]
+#[derive(Clone, Copy)]
 struct Pass {
     prefix: u8,
     m: usize,

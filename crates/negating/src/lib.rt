@@ -1,4 +1,6 @@
 // The call negate: a query that asks for what its pattern doesn't match.
+#![tactic(auto)]
+
 ghost use Rattle.std.specs.Prelude.{◌≡◌, ◌++◌, ◌≤◌, length};
 ghost use Rattle.algebra.specs.Query.{Query};
 ghost use Rattle.algebra.specs.Reader.{reads};
@@ -37,7 +39,7 @@ fn is_passed(key: u64) -> bool
 }
 
 // Where the outermost projection's line and its inner pattern start, or that there is none.
-#[derive(Drop)]
+#[derive(Clone, Copy)]
 pub enum Outermost {
     At(usize, usize),
     None,

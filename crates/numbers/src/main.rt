@@ -1,6 +1,8 @@
 // The numbers of the checks: for each record of the file `texts` a line of its label and the number of its text.
 // The kinds are 0 tree, 1 query, 2 join list, 3 constant list, 4 mapping, 5 binding sets, 6 filters and
 // 7 namespace table.
+#![tactic(auto)]
+
 ghost use Rattle.std.specs.Prelude.{◌<◌};
 ghost use Rattle.words.specs.bridge.Words.{Worded};
 
@@ -30,7 +32,7 @@ fn check_given(
 }
 
 // Where the next record starts, and where the output goes on.
-#[derive(Drop)]
+#[derive(Clone, Copy)]
 struct Step {
     at: u64,
     to: usize,

@@ -47,7 +47,7 @@ const BOOLEAN: [u8; 7] = *b"Boolean";
 const TRUE: [u8; 4] = *b"true";
 
 // Whether a line is expressed, and where the output goes on. Nothing is written of one that isn't.
-#[derive(Drop)]
+#[derive(Clone, Copy)]
 pub struct Head {
     pub expressed: bool,
     pub at: usize,

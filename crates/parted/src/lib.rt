@@ -1,4 +1,6 @@
 // The texts of an input, parted by lines `--`, as parts of the lent slice.
+#![tactic(auto)]
+
 ghost use Rattle.std.specs.Prelude.{◌≡◌, [], true, false, ◌+◌, ◌-◌, ◌≤◌, ◌<◌, length, get_or};
 ghost use Rattle.parted.specs.Parted.{texts};
 ghost use Rattle.parted.specs.bridge.Code.{BarAt, Ends, start_of, Parted};

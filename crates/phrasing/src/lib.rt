@@ -1,4 +1,6 @@
 // A select query's text for an edition of SPARQL: the calls sparql_1_1 and sparql_1_0.
+#![tactic(auto)]
+
 use crate::judge::judge;
 use algebra::Answer as Check;
 use answers::Answer;

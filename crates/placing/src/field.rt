@@ -7,7 +7,7 @@ use cursor::field_end;
 use text::{Number, number_of};
 
 // Where a field ends, and where the next one starts.
-#[derive(Drop)]
+#[derive(Clone, Copy)]
 pub struct Field {
     pub to: usize,
     pub next: usize,

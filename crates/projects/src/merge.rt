@@ -35,7 +35,7 @@ const JOIN: [u8; 6] = *b"\njoin\n";
 const MINUS: [u8; 7] = *b"\nminus\n";
 
 // Both texts of a merge, how many spots and nodes are the left one's, and whether a minus stands in the join's place.
-#[derive(Drop)]
+#[derive(Clone, Copy)]
 pub struct Texts {
     pub left: Standing,
     pub right: Standing,
@@ -45,7 +45,7 @@ pub struct Texts {
 }
 
 // The same of two sides that were found.
-#[derive(Drop)]
+#[derive(Clone, Copy)]
 struct FoundPair {
     left: FoundSide,
     right: FoundSide,

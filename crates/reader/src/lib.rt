@@ -1,11 +1,13 @@
 // The line reader: a text and the start of its next line. It is thin: what is done over it takes it apart and calls a function on slice and number.
+#![tactic(auto)]
+
 ghost use Rattle.std.specs.Prelude.{◌≤◌, length};
 ghost use Rattle.text.specs.Text.{First};
 ghost use Rattle.reader.specs.bridge.Lines.{EndsAt, LineEnd};
 
 use text::find;
 
-#[derive(Drop)]
+#[derive(Clone, Copy)]
 pub struct LineReader<'a> {
     pub text: &'a [u8],
     pub next: usize,

@@ -1,4 +1,6 @@
 // The check of trees, queries, binding sets and filters: each text's number, and the table of its variables.
+#![tactic(auto)]
+
 ghost use Rattle.std.specs.Prelude.{◌≡◌, ℕ, ◌+◌, List, [], length, replicate};
 ghost use Rattle.text.specs.Text.{First};
 ghost use Rattle.algebra.specs.Texts.{read_tree, read_query, read_sets, read_filters};

@@ -1,4 +1,6 @@
 // Records of a file. A record is a header line of a kind, a size and a label, then a text of so many bytes, then a line end.
+#![tactic(auto)]
+
 ghost use Rattle.std.specs.Prelude.{◌≤◌, ◌<◌};
 
 use cursor::{Cursor, Field};
@@ -14,7 +16,7 @@ pub const NONE: u32 = 100;
 pub const BAD: u32 = 101;
 
 // A record by places in the bytes that were read, and the place of the next one in the file.
-#[derive(Drop)]
+#[derive(Clone, Copy)]
 pub struct Record {
     pub kind: u32,
     pub label: usize,
@@ -25,7 +27,7 @@ pub struct Record {
 }
 
 // Where the label starts and the header ends.
-#[derive(Drop)]
+#[derive(Clone, Copy)]
 struct Header {
     kind: u32,
     size: u32,

@@ -1,5 +1,7 @@
 // The call namespaces: a tree whose IRIs have the starts that a table gives. Each line is converted by itself: its word tells which of its fields
 // are texts, and of the others the first byte tells the IRIs.
+#![tactic(auto)]
+
 ghost use Rattle.std.specs.Prelude.{◌≡◌, ◌+◌, ◌≤◌, ◌<◌, true, cond, [], ◌∷◌, map, length, get_or};
 ghost use Rattle.text.specs.Text.{Bytes, part, text_of, lines_from};
 ghost use Rattle.algebra.specs.Tree.{Pattern};
@@ -28,7 +30,7 @@ use words::table::all_words;
 use words::{keys, word_at};
 
 // Where the next byte goes, the first byte of the tree that is not copied yet, and whether a line covers each IRI so far.
-#[derive(Drop)]
+#[derive(Clone, Copy)]
 struct Put {
     at: usize,
     done: usize,
@@ -145,7 +147,7 @@ fn put_fields(
 }
 
 // How long the converted tree is, and whether a line of the table covers each of its IRIs.
-#[derive(Drop)]
+#[derive(Clone, Copy)]
 pub struct Converted {
     pub size: usize,
     pub covered: bool,

@@ -1,4 +1,6 @@
 // The shape of a tree from the lines of its text: how many there are, and how deep they go.
+#![tactic(auto)]
+
 ghost use Rattle.std.specs.Prelude.{◌≡◌, ◌+◌, ◌≤◌, ◌<◌, max, [], length, get_or};
 ghost use Rattle.text.specs.Text.{part, split};
 ghost use Rattle.words.specs.bridge.Key.{key_in};
@@ -11,7 +13,7 @@ use words::table::WordRow;
 use words::{keys, word_at};
 
 // How far a walk over lines is: where the next one starts, how many were passed, and the deepest level among them.
-#[derive(Drop)]
+#[derive(Clone, Copy)]
 pub struct Reached {
     pub at: usize,
     pub lines: usize,

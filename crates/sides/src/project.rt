@@ -37,7 +37,7 @@ fn count_fields(text: &[u8], from: usize, end: usize) -> usize
 }
 
 // Where a project's inner pattern starts, and how many columns it has.
-#[derive(Drop)]
+#[derive(Clone, Copy)]
 pub struct Found {
     pub inner: usize,
     pub columns: usize,

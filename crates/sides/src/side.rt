@@ -62,14 +62,14 @@ fn name_side(
 }
 
 // Where a text's tree starts, and how many names it has.
-#[derive(Drop)]
+#[derive(Clone, Copy)]
 pub struct Standing {
     pub from: usize,
     pub n: usize,
 }
 
 // The positions that a side's lists name: of joins, of constants, and where the constants' lines start.
-#[derive(Drop)]
+#[derive(Clone, Copy)]
 pub struct Places {
     pub joins: PerEntry,
     pub at: PerEntry,
@@ -78,7 +78,7 @@ pub struct Places {
 
 // What is found of a side before its names: where its inner pattern starts, how many columns it has, which of them are joined
 // and which carry constants, and how many positions each list has. Where a position is not inside the projection, the rest says nothing.
-#[derive(Drop)]
+#[derive(Clone, Copy)]
 pub struct Outline {
     pub inside: bool,
     pub inner: usize,
@@ -90,7 +90,7 @@ pub struct Outline {
 }
 
 // A side that was found.
-#[derive(Drop)]
+#[derive(Clone, Copy)]
 pub struct FoundSide {
     pub standing: Standing,
     pub outline: Outline,

@@ -1,4 +1,6 @@
 // A select query's text for an edition, from the lines of the query.
+#![tactic(auto)]
+
 pub mod after;
 pub mod before;
 pub mod fields;

@@ -15,7 +15,7 @@ use words::table::WordRow;
 use words::{keys, word_at};
 
 // Where the text and the output go on.
-#[derive(Drop)]
+#[derive(Clone, Copy)]
 pub struct Said {
     pub from: usize,
     pub at: usize,

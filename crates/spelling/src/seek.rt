@@ -103,7 +103,7 @@ fn shows_child(key: u64, i: usize) -> bool
 }
 
 // Whether it was found, and where the lines behind start.
-#[derive(Drop)]
+#[derive(Clone, Copy)]
 pub struct Sought {
     pub found: bool,
     pub from: usize,

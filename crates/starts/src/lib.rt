@@ -1,4 +1,6 @@
 // The namespace table: its check, whether its lines are in order, and the line that covers an IRI.
+#![tactic(auto)]
+
 ghost use Rattle.std.specs.Prelude.{◌≡◌, ℕ, ◌+◌, ◌≤◌, ◌<◌, true, length, get_or, set};
 ghost use Rattle.text.specs.Text.{part};
 ghost use Rattle.lists.specs.bridge.Pairs.{entry_of};
@@ -232,7 +234,7 @@ pub fn table_number(text: &[u8]) -> u64
 }
 
 // The entry of the line that covers an IRI, or that none does.
-#[derive(Drop)]
+#[derive(Clone, Copy)]
 pub enum Covering {
     By(usize),
     None,

@@ -1,4 +1,6 @@
 // The call report: up to eight queries of one input, merged one after the other.
+#![tactic(auto)]
+
 mod check;
 mod merge;
 

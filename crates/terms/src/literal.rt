@@ -16,7 +16,7 @@ fn is_tag_byte(first: bool, b: u8) -> bool
 }
 
 // Whether the byte may stand there; some byte of this part was read then, and it is the first part.
-#[derive(Drop)]
+#[derive(Clone, Copy)]
 pub struct Tag {
     pub good: bool,
     pub more: bool,

@@ -4,7 +4,7 @@ ghost use Rattle.editions.specs.Lexical.{lead as leadOf, is_utf8};
 ghost use Rattle.terms.specs.bridge.State.{state_of, Steps};
 
 // So many bytes are still to come, the next of them from low to high; 1 from 1 to 0 is nothing.
-#[derive(Drop)]
+#[derive(Clone, Copy)]
 pub struct Follow {
     pub count: u8,
     pub low: u8,

@@ -1,4 +1,6 @@
 // Lines and fields of a text: finding, comparing and judging parts of a lent slice, which are handed back without a copy.
+#![tactic(auto)]
+
 mod integers;
 mod kinds;
 
@@ -104,7 +106,7 @@ pub fn piece(s: &[u8], from: usize, size: usize) -> &[u8]
 }
 
 // What a field is as a number.
-#[derive(Drop)]
+#[derive(Clone, Copy)]
 pub enum Number {
     Is(u32),
     Not,

@@ -1,4 +1,6 @@
 // The check of a list of triples: where the three fields of each line stand.
+#![tactic(auto)]
+
 ghost use Rattle.std.specs.Prelude.{◌≡◌, ℕ, ◌+◌, ◌≤◌, ◌<◌, length, set};
 ghost use Rattle.text.specs.Text.{part, piece as piece_of};
 ghost use Rattle.evaluating.specs.Triples.{most_triples};
@@ -18,7 +20,7 @@ pub type Entry = [u16; 4];
 pub type Triples = [Entry; TRIPLES];
 
 // The ends of a line's first two fields, or that it is no line of three.
-#[derive(Drop)]
+#[derive(Clone, Copy)]
 pub enum Ends {
     At(usize, usize),
     None,

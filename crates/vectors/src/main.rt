@@ -1,6 +1,8 @@
 // The calls' answers: for each record of the file `cases` a line of its label, then what the program `call` writes for its text, its list last.
 // A record's kind is its call's number: 0 scope, 1 rename, 2 merge, 3 merge_queries, 4 push, 5 negate, 6 bindings,
 // 7 filters, 8 without and 9 namespaces.
+#![tactic(auto)]
+
 ghost use Rattle.std.specs.Prelude.{◌<◌};
 
 use algebra::ENTRIES;

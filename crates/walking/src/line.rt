@@ -7,7 +7,7 @@ use cursor::field_end;
 use text::{Number, number_of};
 
 // The number that the field from here on is, or 0; and where the next field starts.
-#[derive(Drop)]
+#[derive(Clone, Copy)]
 pub struct Count {
     pub number: usize,
     pub next: usize,

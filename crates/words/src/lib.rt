@@ -1,4 +1,6 @@
 // The one table of words: the fields of a line that begins with each word, and the lines that come below it.
+#![tactic(auto)]
+
 mod codes;
 pub mod keys;
 pub mod table;
@@ -12,7 +14,7 @@ use text::equal;
 
 // What a word says of its line: its fields, a byte each, from the lowest on; what stands behind them; what it means for the names of its line
 // and of its last pattern; and the groups of lines below, nine bits each, from the lowest on. `specs/bridge/Code.antt` says what each number means.
-#[derive(Drop)]
+#[derive(Clone, Copy)]
 pub struct Row {
     pub fields: u64,
     pub behind: u8,
@@ -20,7 +22,7 @@ pub struct Row {
     pub below: u64,
 }
 
-#[derive(Drop)]
+#[derive(Clone, Copy)]
 pub enum Found {
     Is(Row),
     None,
@@ -66,7 +68,7 @@ fn wide(x: u8) -> u64
 }
 
 // A word at the head of a line: where it ends, and its key.
-#[derive(Drop)]
+#[derive(Clone, Copy)]
 pub struct Word {
     pub end: usize,
     pub key: u64,
