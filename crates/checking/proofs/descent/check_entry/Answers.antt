@@ -1,0 +1,35 @@
+-- `checking::descent/check_entry` meets its contract. Assumes nothing.
+use native.Mathlib.Omega.{arith}
+use mathlib.Core.Path.{refl, ap}
+use mathlib.Core.List.{[], ◌∷◌}
+use Rattle.algebra.specs.bridge.Machine.{want}
+use Rattle.words.specs.bridge.Code.{sort_at}
+use Rattle.lines.specs.bridge.Says.{below}
+use Rattle.checking.proofs.DescentLaw as D
+use Rattle.checking.proofs.WalksLaw as W
+use Rattle.checking.proofs.descent.check_entry.Goals as goal
+
+pub check_lines-requires : goal.check_lines-requires
+check_lines-requires c =
+  (c.requires.0, D.ready_moved _ _ _ (D.other-cursor c.args.p _ (ap (λ k. k.at) c.awaiting-cursor.ensures)) c.requires.1, c.requires.2)
+
+pub returns : goal.returns
+returns c = let e = c.check_lines.ensures in
+    let at = ap (λ k. k.at) c.awaiting-cursor.ensures in
+    let one = ap (λ k. k.awaited) c.awaiting-cursor.ensures in
+    let same = D.other-cursor c.args.p _ at in (
+      (λ wh. D.goes_one _ _ _ _ c.args.p _ _ _ _ (want (sort_at c.args.sort) c.args.level 0) _ _ same one (e.0 wh)),
+      (
+        (λ z. let u = e.1.0 z in let g = (u.2 (omega (arith, one))).0 in (omega (arith, g, at), u.1)),
+        (
+          (λ wh z low. W.walks_from _ _ c.args.p _ _ _ _ at (e.1.1.1.0 one wh z low)),
+          (
+            (λ z. ((e.1.0 z).2 (omega (arith, one))).1),
+            (
+              (λ w h. D.rest-moved _ _ _ _ c.args.p _ _ _ _ (want (sort_at c.args.sort) c.args.level 0 ∷ []) (want (sort_at 2) (below c.args.sort c.args.level) 0 ∷ []) _ same (e.1.1.1.1.0 one w h)),
+              λ w h z. W.head-from _ _ c.args.p _ _ _ at (e.1.1.1.1.1 one w h refl z),
+            ),
+          ),
+        ),
+      ),
+    )

@@ -1,0 +1,12 @@
+-- `surveying::scope/put_name` meets its contract. Assumes nothing.
+use Rattle.names.specs.bridge.Names.{starts_of, sizes_of}
+use Rattle.names.proofs.Columns.{column-is}
+use Rattle.surveying.proofs.Lists as L
+use Rattle.surveying.proofs.scope.put_name.Goals as goal
+
+pub returns-then-flag-eq0 : goal.returns-then-flag-eq0
+returns-then-flag-eq0 c = L.name-none _ _ _ c.if-flag-eq0.true
+
+pub returns : goal.returns
+returns c =
+  let s = c15 in L.name-put _ _ _ _ _ _ c.if-flag-eq0.false c.put-to.ensures c.put_all.ensures (L.name-at s.args.tree.now (starts_of s.args.table.now) (sizes_of s.args.table.now) s.args.k _ _ _ (column-is 0 s.args.table.now s.args.k _ c.wide.ensures) (column-is 1 s.args.table.now s.args.k _ c.wide-2.ensures) c.piece.ensures)
