@@ -5,4 +5,3 @@ pub mod WalksLaw
 pub mod GroupsLaw
 pub mod OneLaw
 pub mod ReadLaw
-pub mod LentLaw

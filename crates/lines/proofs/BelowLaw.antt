@@ -5,7 +5,7 @@ use mathlib.Core.List.{List, [], ◌∷◌, ◌++◌, append-nil}
 use mathlib.Core.Bool.{Bool, true, false}
 use native.Mathlib.Numerals.{sub-one}
 use lib.ListN.{get_or, replicate}
-use Rattle.algebra.specs.bridge.Table.{Sort, Below, opens}
+use Rattle.algebra.specs.bridge.Table.{Sort, Below, always, given, more, opens}
 use Rattle.algebra.specs.bridge.Machine.{Want, want, amount_of, wants}
 use Rattle.words.specs.bridge.Code.{sort_at, group_of, groups_in}
 use Rattle.lines.specs.bridge.Says.{below}
@@ -50,11 +50,11 @@ module _ (d : ℕ) (cs : List ℕ) where
 
   below-group : (b f : ℕ) (s : Sort) (bs : List Below) → wants d cs (group_of b f s ++ bs) ≡ replicate (amount_in b f (get_or cs 0 0) (get_or cs 1 0)) (want s d (get_or cs 0 0)) ++ wants d cs bs
   below-group zero zero s bs = refl
-  below-group (suc b) zero s bs = wants-cons _ bs
-  below-group b (suc zero) s bs = wants-cons _ bs
-  below-group b (suc (suc zero)) s bs = wants-cons _ bs
-  below-group b (suc (suc (suc zero))) s bs = wants-cons _ bs
-  below-group b (suc (suc (suc (suc zero)))) s bs = wants-cons _ bs
+  below-group (suc b) zero s bs = wants-cons (record { amount = always (suc b); sort = s }) bs
+  below-group b (suc zero) s bs = wants-cons (record { amount = given 0; sort = s }) bs
+  below-group b (suc (suc zero)) s bs = wants-cons (record { amount = given 1; sort = s }) bs
+  below-group b (suc (suc (suc zero))) s bs = wants-cons (record { amount = more 0 b; sort = s }) bs
+  below-group b (suc (suc (suc (suc zero)))) s bs = wants-cons (record { amount = more 1 b; sort = s }) bs
   below-group b (suc (suc (suc (suc (suc f))))) s bs = refl
 
   pub below-groups : (k n : ℕ) → wants d cs (groups_in k n) ≡ groups k n d (get_or cs 0 0) (get_or cs 1 0)

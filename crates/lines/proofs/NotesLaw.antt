@@ -16,7 +16,7 @@ use Rattle.text.proofs.Basics.{and_left, and_right, same-eq}
 use Rattle.cursor.specs.declared.Cursor.{Cursor}
 use Rattle.cursor.proofs.Laws.{left-all, Next}
 use Rattle.algebra.specs.Reader.{kept, zero_one}
-use Rattle.algebra.specs.bridge.Table.{Slot, term, text, count, choice, Sort, triples, columns, patterns, expressions, rows, orders, aggregates, heads, sets, positions, value_rows, parts, Row, row as row_of, one, ◌of◌, Entry, rows_of, row_in, row_for, opens}
+use Rattle.algebra.specs.bridge.Table.{Slot, term, text, count, choice, Sort, triples, columns, patterns, expressions, rows, orders, aggregates, heads, sets, positions, value_rows, parts, Row, row as a_row, one, ◌of◌, Entry, rows_of, row_in, row_for, opens}
 use Rattle.scoping.specs.bridge.Places.{Mark}
 use Rattle.scoping.specs.bridge.Walk.{State, state, number_in, hides, beneath, whole}
 use Rattle.scoping.specs.bridge.Spots.{Spot, spots_in, fields_size, Node, node, Group, noted, Trace, trace, line_spots, line_nodes, spot_line}
@@ -318,7 +318,7 @@ module _ (s : Bytes) (c : Cursor) (e : ℕ) (d : Cursor) (i : InLine s c) (low :
   head-row h = go (same (field s c e d i here) (bytes "query")) refl (ap (λ (n : ℕ). row_for (sort_at n) (field s c e d i here)) (sym h) ∙ sym is ∙ ap row_found q)
     where
       head : Row
-      head = row_of (text form ∷ text opaque ∷ text opaque ∷ []) (one of patterns ∷ [])
+      head = a_row (text form ∷ text opaque ∷ text opaque ∷ []) (one of patterns ∷ [])
 
       zero-first : head ≡ row_of row → x ≡ 0
       zero-first g =

@@ -1,6 +1,1 @@
 pub mod Laws
-pub mod Straight
-pub mod Signed
-pub mod Again
-pub mod Loans
-pub mod Taken

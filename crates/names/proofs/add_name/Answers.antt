@@ -2,4 +2,4 @@
 use Rattle.names.proofs.add_name.Goals as goal
 
 pub returns : goal.returns
-returns c = c.keep_name-l.ensures.0
+returns c = c.keep_name-l.ensures.by_index

@@ -2,4 +2,4 @@
 use Rattle.names.proofs.find_name.Goals as goal
 
 pub returns : goal.returns
-returns c = c.probe-r.ensures.0
+returns c = c.probe-r.ensures.result_le_n

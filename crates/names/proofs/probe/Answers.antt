@@ -11,11 +11,11 @@ loop-left-init c =
 
 pub returns-then-hint-eq0 : goal.returns-then-hint-eq0
 returns-then-hint-eq0 c =
-  ((omega arith, λ h. absurd (omega arith), λ e q. L.seek-end _ _ _ _ _ _ _ _ c.loop-left.invariant.1 c.loop-left-test.true _ c.wide-hint.ensures c.if-hint-eq0.true q), λ e. L.free-here _ _ _ _ c.loop-left.invariant.2 c.loop-left.invariant.0 (sym c.wide-hint.ensures ∙ c.if-hint-eq0.true))
+  record { result_le_n = (omega arith, λ h. absurd (omega arith), λ e q. L.seek-end _ _ _ _ _ _ _ _ c.loop-left.invariant.1 c.loop-left-test.true _ c.wide-hint.ensures c.if-hint-eq0.true q); free = λ e. L.free-here _ _ _ _ c.loop-left.invariant.2 c.loop-left.invariant.0 (sym c.wide-hint.ensures ∙ c.if-hint-eq0.true) }
 
 pub returns-then-is_hinted : goal.returns-then-is_hinted
 returns-then-is_hinted c =
-  (L.seek-here _ _ _ _ _ _ _ _ c.if-hint-eq0.false c.is_hinted.ensures.0 c.is_hinted.ensures.1 c.if-is_hinted.true, λ e. let h = c.is_hinted.ensures.0 c.if-is_hinted.true in let z = c.if-hint-eq0.false in absurd (omega arith))
+  record { result_le_n = L.seek-here _ _ _ _ _ _ _ _ c.if-hint-eq0.false c.is_hinted.ensures.0 c.is_hinted.ensures.1 c.if-is_hinted.true; free = λ e. let h = c.is_hinted.ensures.0 c.if-is_hinted.true in let z = c.if-hint-eq0.false in absurd (omega arith) }
 
 pub loop-left-preserved : goal.loop-left-preserved
 loop-left-preserved c =
@@ -23,4 +23,4 @@ loop-left-preserved c =
 
 pub returns : goal.returns
 returns c =
-  ((c.scan-e.ensures.0, c.scan-e.ensures.1, λ e q. c.scan-e.ensures.2 e), λ e. L.free-none _ _ _ _ c.loop-left.invariant.2 c.loop-left-test.false)
+  record { result_le_n = (c.scan-e.ensures.0, c.scan-e.ensures.1, λ e q. c.scan-e.ensures.2 e); free = λ e. L.free-none _ _ _ _ c.loop-left.invariant.2 c.loop-left-test.false }

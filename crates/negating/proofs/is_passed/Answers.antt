@@ -31,4 +31,4 @@ returns-in-1668246643 c = sym (ap (λ k. key_in k passed) c.in-1668246643.is)
 
 pub returns-in_default : goal.returns-in_default
 unfolding key_of key_in
-returns-in_default c = not_in _ passed _ c.in_default.rest
+returns-in_default c = not_in _ passed _ c.in_default.in_default-own.rest

@@ -13,4 +13,4 @@ note_one-requires c =
 
 pub returns : goal.returns
 returns c =
-  C.charted tally_query query_start _ _ _ _ _ _ _ _ 7 _ _ _ _ (check-query c.args.text.now) c.note_one.ensures.0 (c.note_one.ensures.1 (omega arith)) (C.query-inside c.args.text.now)
+  C.charted tally_query query_start _ _ _ _ _ _ _ _ 7 _ _ _ _ (check-query c.args.text.now) c.note_one.ensures.tells (c.note_one.ensures.charts (omega arith)) (C.query-inside c.args.text.now)

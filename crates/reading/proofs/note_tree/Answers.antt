@@ -13,4 +13,4 @@ note_one-requires c =
 
 pub returns : goal.returns
 returns c =
-  C.charted tally tree_start _ _ _ _ _ _ _ _ 2 _ _ _ _ (check-tree c.args.text.now) c.note_one.ensures.0 (c.note_one.ensures.1 (omega arith)) (C.tree-inside c.args.text.now _)
+  C.charted tally tree_start _ _ _ _ _ _ _ _ 2 _ _ _ _ (check-tree c.args.text.now) c.note_one.ensures.tells (c.note_one.ensures.charts (omega arith)) (C.tree-inside c.args.text.now _)

@@ -35,4 +35,4 @@ returns-in-107096743963756 c = sym (ap (λ k. key_in k flat) c.in-10709674396375
 
 pub returns-in_default : goal.returns-in_default
 unfolding key_of key_in
-returns-in_default c = not_in _ flat _ c.in_default.rest
+returns-in_default c = not_in _ flat _ c.in_default.in_default-own.rest

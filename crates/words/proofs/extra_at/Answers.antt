@@ -48,4 +48,4 @@ pub returns-in-14 : goal.returns-in-14
 returns-in-14 c = D.at-extra _ 14 c.in-14.is
 
 pub returns-in_default : goal.returns-in_default
-returns-in_default c = D.at-extra _ 15 (D.last-domain _ _ c.requires c.in_default.rest)
+returns-in_default c = D.at-extra _ 15 (D.last-domain _ _ c.requires c.in_default.in_default-own.rest)

@@ -54,4 +54,4 @@ returns-in-7499639 c =
 pub returns-in_default : goal.returns-in_default
 unfolding key_of
 returns-in_default c =
-  let n = c.in_default.rest in J.other-line _ _ _ _ c.requires.0 c.requires.1 c.word_at-w.ensures.0 _ c.word_at-w.ensures.1 _ _ n.0.0.1 n.0.1 n.1
+  let n = c.in_default.in_default-own.rest in J.other-line _ _ _ _ c.requires.0 c.requires.1 c.word_at-w.ensures.0 _ c.word_at-w.ensures.1 _ _ n.0.0.1 n.0.1 n.1

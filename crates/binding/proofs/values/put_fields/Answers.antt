@@ -85,4 +85,4 @@ shape_of-out-in_default c = search rules
 pub returns-in_default : goal.returns-in_default
 unfolding key_of
 returns-in_default c =
-  let p = c.requires in let n = c.in_default.rest in Vd.row_line _ _ _ _ _ p.1 p.2 c.word_at-w.ensures.0 _ c.word_at-w.ensures.1 _ _ _ n.0.1 n.1 c.put_all-c.ensures c.put_cells.ensures
+  let p = c.requires in let n = c.in_default.in_default-own.rest in Vd.row_line _ _ _ _ _ p.1 p.2 c.word_at-w.ensures.0 _ c.word_at-w.ensures.1 _ _ _ n.0.1 n.1 c.put_all-c.ensures c.put_cells.ensures

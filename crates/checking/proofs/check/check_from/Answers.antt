@@ -22,6 +22,6 @@ check_entry-requires c =
 pub returns : goal.returns
 returns c = let p = c.args.p in let at = ap (λ k. k.at) c.moved_to-cursor.ensures ∙ c.requires.at in let e = c.check_entry.ensures in
     let k = c.part_sort.result in let us = want (sort_at k) c.args.level 0 ∷ [] in let vs = want (sort_at 2) (below k c.args.level) 0 ∷ [] in let same = D.other-cursor p _ at in let going = c.if-p-ne0.false in
-    R.reads-entry c.args.head _ _ _ _ _ _ p c.args.sort c.args.level _ _ _ _ _ (λ z. (e.1.0 z).1.few) (sym c.lacks_head.ensures ∙ c.if-lacks_head.false) k c.part_sort.ensures
-    (λ whole ρ ws x w. D.onward-rest _ _ _ _ p _ _ _ us [] _ ws ρ x going (D.rest-moved _ _ _ _ p _ _ _ _ us [] _ same (e.0 whole)) w) (λ whole z. (going, e.1.1.1.0 z, λ low. W.walks_from _ _ p _ _ _ _ at (e.1.1.0 whole z low)))
-    (λ alone seven ρ ws x w. D.onward-rest _ _ _ _ p _ _ _ us vs _ ws ρ x going (D.rest-moved _ _ _ _ p _ _ _ _ us vs _ same (e.1.1.1.1.0 alone seven)) w) (λ alone seven z. W.head-from _ _ p _ _ _ at (e.1.1.1.1.1 alone seven z))
+    R.reads-entry c.args.head _ _ _ _ _ _ p c.args.sort c.args.level _ _ _ _ _ (λ z. (e.ready z).1.few) (sym c.lacks_head.ensures ∙ c.if-lacks_head.false) k c.part_sort.ensures
+    (λ whole ρ ws x w. D.onward-rest _ _ _ _ p _ _ _ us [] _ ws ρ x going (D.rest-moved _ _ _ _ p _ _ _ _ us [] _ same (e.runs whole)) w) (λ whole z. (going, e.deep z, λ low. W.walks_from _ _ p _ _ _ _ at (e.walks whole z low)))
+    (λ alone seven ρ ws x w. D.onward-rest _ _ _ _ p _ _ _ us vs _ ws ρ x going (D.rest-moved _ _ _ _ p _ _ _ _ us vs _ same (e.head alone seven)) w) (λ alone seven z. W.head-from _ _ p _ _ _ at (e.shown alone seven z))

@@ -7,10 +7,10 @@ pub note_one-r-requires : goal.note_one-r-requires
 note_one-r-requires c = c.requires
 
 pub returns-in-Good : goal.returns-in-Good
-returns-in-Good c = W.tells_as _ _ _ _ _ _ (G.Good _ _ _) c.in-Good.is c.note_one-r.ensures.0
+returns-in-Good c = W.tells_as _ _ _ _ _ _ (G.Good _ _ _) c.in-Good.is c.note_one-r.ensures.tells
 
 pub returns-in-Malformed : goal.returns-in-Malformed
-returns-in-Malformed c = W.tells_as _ _ _ _ _ _ G.Malformed c.in-Malformed.is c.note_one-r.ensures.0
+returns-in-Malformed c = W.tells_as _ _ _ _ _ _ G.Malformed c.in-Malformed.is c.note_one-r.ensures.tells
 
 pub returns-in-OverBound : goal.returns-in-OverBound
-returns-in-OverBound c = W.tells_as _ _ _ _ _ _ G.OverBound c.in-OverBound.is c.note_one-r.ensures.0
+returns-in-OverBound c = W.tells_as _ _ _ _ _ _ G.OverBound c.in-OverBound.is c.note_one-r.ensures.tells

@@ -17,19 +17,4 @@ pub returns : goal.returns
 returns c = let e = c.check_lines.ensures in
     let at = ap (λ k. k.at) c.awaiting-cursor.ensures in
     let one = ap (λ k. k.awaited) c.awaiting-cursor.ensures in
-    let same = D.other-cursor c.args.p _ at in (
-      (λ wh. D.goes_one _ _ _ _ c.args.p _ _ _ _ (want (sort_at c.args.sort) c.args.level 0) _ _ same one (e.0 wh)),
-      (
-        (λ z. let u = e.1.0 z in let g = (u.2 (omega (arith, one))).0 in (omega (arith, g, at), u.1)),
-        (
-          (λ wh z low. W.walks_from _ _ c.args.p _ _ _ _ at (e.1.1.1.0 one wh z low)),
-          (
-            (λ z. ((e.1.0 z).2 (omega (arith, one))).1),
-            (
-              (λ w h. D.rest-moved _ _ _ _ c.args.p _ _ _ _ (want (sort_at c.args.sort) c.args.level 0 ∷ []) (want (sort_at 2) (below c.args.sort c.args.level) 0 ∷ []) _ same (e.1.1.1.1.0 one w h)),
-              λ w h z. W.head-from _ _ c.args.p _ _ _ at (e.1.1.1.1.1 one w h refl z),
-            ),
-          ),
-        ),
-      ),
-    )
+    let same = D.other-cursor c.args.p _ at in record { runs = (λ wh. D.goes_one _ _ _ _ c.args.p _ _ _ _ (want (sort_at c.args.sort) c.args.level 0) _ _ same one (e.runs wh)); ready = (λ z. let u = e.ready z in let g = (u.2 (omega (arith, one))).0 in (omega (arith, g, at), u.1)); walks = (λ wh z low. W.walks_from _ _ c.args.p _ _ _ _ at (e.one one wh z low)); deep = (λ z. ((e.ready z).2 (omega (arith, one))).1); head = (λ w h. D.rest-moved _ _ _ _ c.args.p _ _ _ _ (want (sort_at c.args.sort) c.args.level 0 ∷ []) (want (sort_at 2) (below c.args.sort c.args.level) 0 ∷ []) _ same (e.head one w h)); shown = λ w h z. W.head-from _ _ c.args.p _ _ _ at (e.shown one w h refl z) }

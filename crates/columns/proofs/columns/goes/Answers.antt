@@ -20,7 +20,7 @@ returns-then-e-eq0 c =
   L.goes-joined c.args.constant _ _ _ _ c.if-constant.false c.is_marked.ensures (N.new-stays c.args.text.now c.args.table.now c.args.news.now c.args.entry c.if-e-eq0.true _ _ _ c.wide.ensures c.wide-then-e-eq0.ensures c.piece.ensures)
 
 pub slice_bounds-room-end : goal.slice_bounds-room-end
-slice_bounds-room-end c = let z = c.put_name-size.ensures.1 in omega arith
+slice_bounds-room-end c = let z = c.put_name-size.ensures.short in omega arith
 
 pub slice_bounds-is_marked-end : goal.slice_bounds-is_marked-end
 slice_bounds-is_marked-end c = let n = c.put_name-size in N.room-long _ _ _ n.auto.0 refl n.ensures.1

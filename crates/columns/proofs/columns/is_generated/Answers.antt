@@ -6,11 +6,11 @@ use Rattle.columns.proofs.New as N
 use Rattle.columns.proofs.columns.is_generated.Goals as goal
 
 pub slice_bounds-room-end : goal.slice_bounds-room-end
-slice_bounds-room-end c = let z = c.put_name-size.ensures.1 in omega arith
+slice_bounds-room-end c = let z = c.put_name-size.ensures.short in omega arith
 
 pub slice_bounds-equal-end : goal.slice_bounds-equal-end
-slice_bounds-equal-end c = N.room-long _ _ _ c.put_name-size.auto.out refl c.put_name-size.ensures.1
+slice_bounds-equal-end c = N.room-long _ _ _ c.put_name-size.auto.out refl c.put_name-size.ensures.short
 
 pub returns : goal.returns
 returns c =
-  c.equal.ensures ∙ ap (same _) (N.room-is _ _ _ _ _ refl c.put_name-size.ensures.1 c.put_name-size.ensures.0)
+  c.equal.ensures ∙ ap (same _) (N.room-is _ _ _ _ _ refl c.put_name-size.ensures.short c.put_name-size.ensures.out_after)

@@ -11,4 +11,4 @@ returns-then-e-eq0 c =
 
 pub returns : goal.returns
 returns c =
-  c.put_name.ensures.0 ∙ ap (λ (f : Bytes). puts f (em c.args.at c.args.out.now)) (sym (N.new-named c.args.text.now c.args.table.now c.args.news.now c.args.entry c.if-e-eq0.false))
+  c.put_name.ensures.out_after ∙ ap (λ (f : Bytes). puts f (em c.args.at c.args.out.now)) (sym (N.new-named c.args.text.now c.args.table.now c.args.news.now c.args.entry c.if-e-eq0.false))

@@ -4,6 +4,8 @@ use native.Mathlib.Omega.{arith}
 use Rattle.lines.proofs.StepLaw as S
 use Rattle.cursor.proofs.Laws as C
 use Rattle.lines.specs.bridge.Steps.{rest_of}
+use Rattle.algebra.specs.bridge.Table.{text}
+use Rattle.text.specs.bridge.Code.{kind_at}
 use Rattle.lines.proofs.fields.text_field.Goals as goal
 
 pub slice_bounds-is_kind-count : goal.slice_bounds-is_kind-count
@@ -28,4 +30,4 @@ returns-in-At c =
 
 pub returns-in-None : goal.returns-in-None
 returns-in-None c =
-  S.failed-follows _ _ _ _ (ap rest_of (S.nothing_left _ c.args.s.now c.args.c (C.reads_none _ _ _ c.next_field-field.ensures c.in-None.is))) c.failed-in-None.ensures
+  S.failed-follows _ _ _ _ (ap rest_of (S.nothing_left (text (kind_at c.args.kind)) c.args.s.now c.args.c (C.reads_none _ _ _ c.next_field-field.ensures c.in-None.is))) c.failed-in-None.ensures

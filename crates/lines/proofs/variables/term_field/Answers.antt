@@ -31,7 +31,7 @@ note_field-m-requires c =
 
 pub returns-then-is_var_of : goal.returns-then-is_var_of
 returns-then-is_var_of c =
-  let x = C.reads_at _ _ _ _ _ c.next_field-field.ensures c.in-At.is in let s = c13 in let n = c.note_field-m.ensures in (S.step_follows _ _ _ _ s.requires x _ (S.term-taken _ _ _ _ s.requires x _ _ (sym (c.is_var_of.ensures c.if-is_var_of.true)) refl), (λ want h. rw (S.term-terms _ _ _ _ s.requires x _ _ (sym (c.is_var_of.ensures c.if-is_var_of.true)) refl) (n.0 want h), λ h ss. D.term-adds _ _ _ _ s.requires x _ _ _ _ ss n.1))
+  let x = C.reads_at _ _ _ _ _ c.next_field-field.ensures c.in-At.is in let n = c.note_field-m.ensures in record { follows = S.step_follows _ _ _ _ c.requires x _ (S.term-taken _ _ _ _ c.requires x _ _ (sym (c.is_var_of.ensures c.if-is_var_of.true)) refl); keeps = λ want h. rw (S.term-terms _ _ _ _ c.requires x _ _ (sym (c.is_var_of.ensures c.if-is_var_of.true)) refl) (n.keeps want h); adds = λ h ss. D.term-adds _ _ _ _ c.requires x _ _ _ _ ss n.adds }
 
 pub slice_bounds-is_kind-count : goal.slice_bounds-is_kind-count
 slice_bounds-is_kind-count c =
@@ -55,12 +55,12 @@ note_field-m-requires-then-is_kind c =
 
 pub returns-then-is_kind : goal.returns-then-is_kind
 returns-then-is_kind c =
-  let x = C.reads_at _ _ _ _ _ c.next_field-field.ensures c.in-At.is in let s = c16 in let n = c.note_field-m-then-is_kind.ensures in (S.step_follows _ _ _ _ s.requires x _ (S.term-taken _ _ _ _ s.requires x _ _ c.is_kind.ensures c.if-is_kind.true), (λ want h. rw (S.term-terms _ _ _ _ s.requires x _ _ c.is_kind.ensures c.if-is_kind.true) (n.0 want h), λ h ss. D.term-adds _ _ _ _ s.requires x _ _ _ _ ss n.1))
+  let x = C.reads_at _ _ _ _ _ c.next_field-field.ensures c.in-At.is in let n = c.note_field-m-then-is_kind.ensures in record { follows = S.step_follows _ _ _ _ c.requires x _ (S.term-taken _ _ _ _ c.requires x _ _ c.is_kind.ensures c.if-is_kind.true); keeps = λ want h. rw (S.term-terms _ _ _ _ c.requires x _ _ c.is_kind.ensures c.if-is_kind.true) (n.keeps want h); adds = λ h ss. D.term-adds _ _ _ _ c.requires x _ _ _ _ ss n.adds }
 
 pub returns-in-At : goal.returns-in-At
 returns-in-At c =
-  let x = C.reads_at _ _ _ _ _ c.next_field-field.ensures c.in-At.is in let z = S.term-refused _ _ _ _ c.requires x _ _ c.is_kind.ensures c.if-is_kind.false in (S.failed-follows _ _ _ _ (ap rest_of z) c.failed.ensures, (λ want h. S.keeps-none _ _ _ _ _ _ want z h, λ h ss. let q = c.failed.ensures.0 in absurd (omega arith)))
+  let x = C.reads_at _ _ _ _ _ c.next_field-field.ensures c.in-At.is in let z = S.term-refused _ _ _ _ c.requires x _ _ c.is_kind.ensures c.if-is_kind.false in record { follows = S.failed-follows _ _ _ _ (ap rest_of z) c.failed.ensures; keeps = λ want h. S.keeps-none _ _ _ _ _ _ want z h; adds = λ h ss. let q = c.failed.ensures.0 in absurd (omega arith) }
 
 pub returns-in-None : goal.returns-in-None
 returns-in-None c =
-  let z = S.nothing_left (term (kind_at c.args.kind)) c.args.s.now c.args.c (C.reads_none _ _ _ c.next_field-field.ensures c.in-None.is) in (S.failed-follows _ _ _ _ (ap rest_of z) c.failed-in-None.ensures, (λ want h. S.keeps-none _ _ _ _ _ _ want z h, λ h ss. let q = c.failed-in-None.ensures.0 in absurd (omega arith)))
+  let z = S.nothing_left (term (kind_at c.args.kind)) c.args.s.now c.args.c (C.reads_none _ _ _ c.next_field-field.ensures c.in-None.is) in record { follows = S.failed-follows _ _ _ _ (ap rest_of z) c.failed-in-None.ensures; keeps = λ want h. S.keeps-none _ _ _ _ _ _ want z h; adds = λ h ss. let q = c.failed-in-None.ensures.0 in absurd (omega arith) }

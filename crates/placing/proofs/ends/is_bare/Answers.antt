@@ -19,4 +19,4 @@ returns-in-495740085093 c = sym (ap (λ k. key_in k bare) c.in-495740085093.is)
 
 pub returns-in_default : goal.returns-in_default
 unfolding key_of key_in
-returns-in_default c = not_in _ bare _ c.in_default.rest
+returns-in_default c = not_in _ bare _ c.in_default.in_default-own.rest

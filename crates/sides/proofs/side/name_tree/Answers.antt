@@ -17,4 +17,4 @@ rename_tree-requires c = let p = c.requires in (p.5, le_refl _, p.6)
 
 pub returns : goal.returns
 returns c =
-  let p = c.requires in let j = c.join_entries in (λ x t i. S.new-names _ _ _ _ _ _ _ _ x t _ _ p.2 p.3 i j.new.1.1.1.0 j.ensures.1 _ _ _ c.name_side.ensures, c.rename_tree.ensures)
+  let p = c.requires in let j = c.join_entries in record { renames = λ x t i. S.new-names _ _ _ _ _ _ _ _ x t _ _ p.2 p.3 i j.new.1.1.1.0 j.ensures.1 _ _ _ c.name_side.ensures; renamed = c.rename_tree.ensures }
