@@ -46,12 +46,12 @@ returns-then-opens_level c =
 pub returns-else-opens_level : goal.returns-else-opens_level
 returns-else-opens_level c = let x = (C.next-at _ _ _ _ c.word_at-word.ensures.0 c.behind.ensures) in
     let e = c.if-d.false ∙ ap (λ e. e + 1) c.fields-f.ensures.says.along.0 in
-    let r = (c.word_by-number.ensures.row, c.word_by-number.ensures.tidy, c.word_by-number.ensures.flags) in record { line_is = λ m hl hw hh. K.is-asked _ _ _ _ _ _ _ c.requires.0 c.requires.1 x _ _ _ m _ (r.0 _ c.word_at-word.ensures.1) c.in-Is.row (sym c.row_at-found.ensures ∙ c.in-Is.is) _ _ _ _ c.fields-f.ensures.says e _ (c.fields-f.ensures.keeps e _ hh) c.word_by-number.result c.spots_behind-j.result hw (rw hl c.if-lines-ge2048.false) c.if-f-gt-COLUMNS.false c.if-f-gt1024.false (K.not-opening c.args.w.sort _ _ c.opens_level.ensures c.if-opens_level.false) r.1.0; small = N.line-sure _ _ _ _ c.requires.0 c.requires.1 x c.args.w.sort c.args.w.mark _ (r.0 _ c.word_at-word.ensures.1) (r.1.1 _ c.word_at-word.ensures.1) r.1.0 c.in-Is.row (sym c.row_at-found.ensures ∙ c.in-Is.is) _ _ _ _ _ c.fields-f.ensures.says e _ _ _ _ _ _ _ _ _ _ _ c.fields-f.ensures.adds c.spots_behind-j.ensures c.if-f-gt1024.false c.word_by-number.result _ _ _ c.word_by-number.ensures.upper_bound refl c.if-lines-ge2048.false (K.not-opening c.args.w.sort _ _ c.opens_level.ensures c.if-opens_level.false); notes = λ h. N.line-notes _ _ _ _ c.requires.0 c.requires.1 x c.args.w.sort c.args.w.mark _ (r.0 _ c.word_at-word.ensures.1) (r.1.1 _ c.word_at-word.ensures.1) r.1.0 c.in-Is.row (sym c.row_at-found.ensures ∙ c.in-Is.is) _ _ _ _ _ c.fields-f.ensures.says e _ _ _ _ _ _ _ _ _ _ _ c.fields-f.ensures.adds c.spots_behind-j.ensures c.if-f-gt1024.false c.word_by-number.result h }
+    let r = c.word_by-number.ensures in record { line_is = λ m hl hw hh. K.is-asked _ _ _ _ _ _ _ c.requires.0 c.requires.1 x _ _ _ m _ (r.row _ c.word_at-word.ensures.1) c.in-Is.row (sym c.row_at-found.ensures ∙ c.in-Is.is) _ _ _ _ c.fields-f.ensures.says e _ (c.fields-f.ensures.keeps e _ hh) c.word_by-number.result c.spots_behind-j.result hw (rw hl c.if-lines-ge2048.false) c.if-f-gt-COLUMNS.false c.if-f-gt1024.false (K.not-opening c.args.w.sort _ _ c.opens_level.ensures c.if-opens_level.false) r.tidy; small = N.line-sure _ _ _ _ c.requires.0 c.requires.1 x c.args.w.sort c.args.w.mark _ (r.row _ c.word_at-word.ensures.1) (r.flags _ c.word_at-word.ensures.1) r.tidy c.in-Is.row (sym c.row_at-found.ensures ∙ c.in-Is.is) _ _ _ _ _ c.fields-f.ensures.says e _ _ _ _ _ _ _ _ _ _ _ c.fields-f.ensures.adds c.spots_behind-j.ensures c.if-f-gt1024.false c.word_by-number.result _ _ _ c.word_by-number.ensures.upper_bound refl c.if-lines-ge2048.false (K.not-opening c.args.w.sort _ _ c.opens_level.ensures c.if-opens_level.false); notes = λ h. N.line-notes _ _ _ _ c.requires.0 c.requires.1 x c.args.w.sort c.args.w.mark _ (r.row _ c.word_at-word.ensures.1) (r.flags _ c.word_at-word.ensures.1) r.tidy c.in-Is.row (sym c.row_at-found.ensures ∙ c.in-Is.is) _ _ _ _ _ c.fields-f.ensures.says e _ _ _ _ _ _ _ _ _ _ _ c.fields-f.ensures.adds c.spots_behind-j.ensures c.if-f-gt1024.false c.word_by-number.result h }
 
 pub returns-else-w-eq0 : goal.returns-else-w-eq0
 returns-else-w-eq0 c = let x = (C.next-at _ _ _ _ c.word_at-word.ensures.0 c.behind.ensures) in
     let e = c.if-d.false ∙ ap (λ e. e + 1) c.fields-f.ensures.says.along.0 in
-    let r = (c.word_by-number.ensures.row, c.word_by-number.ensures.tidy, c.word_by-number.ensures.flags) in record { line_is = λ m hl hw hh. K.is-asked _ _ _ _ _ _ _ c.requires.0 c.requires.1 x _ _ _ m _ (r.0 _ c.word_at-word.ensures.1) c.in-Is.row (sym c.row_at-found.ensures ∙ c.in-Is.is) _ _ _ _ c.fields-f.ensures.says e _ (c.fields-f.ensures.keeps e _ hh) c.word_by-number.result c.spots_behind-j.result hw (rw hl c.if-lines-ge2048.false) c.if-f-gt-COLUMNS.false c.if-f-gt1024.false (λ p n. c.if-w-eq0.false n) r.1.0; small = N.line-sure _ _ _ _ c.requires.0 c.requires.1 x c.args.w.sort c.args.w.mark _ (r.0 _ c.word_at-word.ensures.1) (r.1.1 _ c.word_at-word.ensures.1) r.1.0 c.in-Is.row (sym c.row_at-found.ensures ∙ c.in-Is.is) _ _ _ _ _ c.fields-f.ensures.says e _ _ _ _ _ _ _ _ _ _ _ c.fields-f.ensures.adds c.spots_behind-j.ensures c.if-f-gt1024.false c.word_by-number.result _ _ _ c.word_by-number.ensures.upper_bound refl c.if-lines-ge2048.false (λ p n. c.if-w-eq0.false n); notes = λ h. N.line-notes _ _ _ _ c.requires.0 c.requires.1 x c.args.w.sort c.args.w.mark _ (r.0 _ c.word_at-word.ensures.1) (r.1.1 _ c.word_at-word.ensures.1) r.1.0 c.in-Is.row (sym c.row_at-found.ensures ∙ c.in-Is.is) _ _ _ _ _ c.fields-f.ensures.says e _ _ _ _ _ _ _ _ _ _ _ c.fields-f.ensures.adds c.spots_behind-j.ensures c.if-f-gt1024.false c.word_by-number.result h }
+    let r = c.word_by-number.ensures in record { line_is = λ m hl hw hh. K.is-asked _ _ _ _ _ _ _ c.requires.0 c.requires.1 x _ _ _ m _ (r.row _ c.word_at-word.ensures.1) c.in-Is.row (sym c.row_at-found.ensures ∙ c.in-Is.is) _ _ _ _ c.fields-f.ensures.says e _ (c.fields-f.ensures.keeps e _ hh) c.word_by-number.result c.spots_behind-j.result hw (rw hl c.if-lines-ge2048.false) c.if-f-gt-COLUMNS.false c.if-f-gt1024.false (λ p n. c.if-w-eq0.false n) r.tidy; small = N.line-sure _ _ _ _ c.requires.0 c.requires.1 x c.args.w.sort c.args.w.mark _ (r.row _ c.word_at-word.ensures.1) (r.flags _ c.word_at-word.ensures.1) r.tidy c.in-Is.row (sym c.row_at-found.ensures ∙ c.in-Is.is) _ _ _ _ _ c.fields-f.ensures.says e _ _ _ _ _ _ _ _ _ _ _ c.fields-f.ensures.adds c.spots_behind-j.ensures c.if-f-gt1024.false c.word_by-number.result _ _ _ c.word_by-number.ensures.upper_bound refl c.if-lines-ge2048.false (λ p n. c.if-w-eq0.false n); notes = λ h. N.line-notes _ _ _ _ c.requires.0 c.requires.1 x c.args.w.sort c.args.w.mark _ (r.row _ c.word_at-word.ensures.1) (r.flags _ c.word_at-word.ensures.1) r.tidy c.in-Is.row (sym c.row_at-found.ensures ∙ c.in-Is.is) _ _ _ _ _ c.fields-f.ensures.says e _ _ _ _ _ _ _ _ _ _ _ c.fields-f.ensures.adds c.spots_behind-j.ensures c.if-f-gt1024.false c.word_by-number.result h }
 
 pub returns-in-None : goal.returns-in-None
 returns-in-None c =

@@ -14,7 +14,7 @@ returns-then-find_label-m c =
 
 pub returns-then-r-m : goal.returns-then-r-m
 returns-then-r-m c =
-  let s = c13 in L.push-known _ _ _ _ _ _ _ s.requires.2 (starts_of s.args.table.now) (sizes_of s.args.table.now) s.args.k _ _ (R.column-is 0 s.args.table.now s.args.k _ c.wide-from.ensures.0, c.wide-from.ensures.1) c.base_at-size.ensures _ c.piece.ensures _ c.find_label.ensures s.args.next.prefix s.args.next.count _ _ _ _ (c.add_name-r.ensures _ s.requires.2.bases) c.if-r-m.true
+  L.push-known _ _ _ _ _ _ _ c.requires.2 (starts_of c.args.table.now) (sizes_of c.args.table.now) c.args.k _ _ (R.column-is 0 c.args.table.now c.args.k _ c.wide-from.ensures.0, c.wide-from.ensures.1) c.base_at-size.ensures _ c.piece.ensures _ c.find_label.ensures c.args.next.prefix c.args.next.count _ _ _ _ (c.add_name-r.ensures _ c.requires.2.bases) c.if-r-m.true
 
 pub bounds-marks-m : goal.bounds-marks-m
 bounds-marks-m c =

@@ -1,0 +1,5 @@
+-- What is left of the number falls. Assumes nothing.
+use Rattle.naming.proofs.numbers.+put_decimal.Given as goal
+
+abbrev pub decreases-put_decimal : goal.decreases-put_decimal
+decreases-put_decimal l = l.n
