@@ -66,7 +66,7 @@ stands-lower s p q to (y ∷ ys) h (a, b, c) = (omega arith, b, c)
 pub stands-high : (s : Bytes) (p to : ℕ) (ys : List Spot) → Stands s p to ys → (p ≤ to) × (to ≤ length s)
 unfolding Stands
 stands-high s p to [] h = h
-stands-high s p to (y ∷ ys) (a, b, c) = let i = stands-high s _ to ys c in (let x = i.0 in omega arith, i.1)
+stands-high s p to (y ∷ ys) (a, b, c) = let i = stands-high s (y.at + length y.name) to ys c in (let x = i.0 in omega arith, i.1)
 
 -- what is copied first may be copied apart
 pub copy_apart : (new : Bytes → Bytes) (s : Bytes) (p q to : ℕ) (ys : List Spot) (e : Em) → p ≤ q → Stands s q to ys → rewritten new s ys p to e ≡ rewritten new s ys q to (puts (part p q s) e)
