@@ -113,12 +113,12 @@ function-lines cs BIN n k = refl
 function-lines cs TERN n k = refl
 function-lines cs NARY n k = refl
 
-parts_below : (w : FilterWord) (n : Bytes) (k : ℕ) → Takes (filter_arity w) k → parts_below (function_line w n k) ≡ k
+parts_below_lem : (w : FilterWord) (n : Bytes) (k : ℕ) → Takes (filter_arity w) k → parts_below (function_line w n k) ≡ k
 unfolding parts_below Takes put_arity same
-parts_below UN n k t = sym t
-parts_below BIN n k t = sym t
-parts_below TERN n k t = sym t
-parts_below NARY n k t = ap or_zero (number-back (k - 0) t.1) ∙ sub-zero k
+parts_below_lem UN n k t = sym t
+parts_below_lem BIN n k t = sym t
+parts_below_lem TERN n k t = sym t
+parts_below_lem NARY n k t = ap or_zero (number-back (k - 0) t.1) ∙ sub-zero k
 
 -- whether a function is expressed doesn't depend on its parts
 function-given : (w : FilterWord) (n : Bytes) (es : Expressions) → given (try_expression_from_function w n es) ≡ given (function_lines w n)
@@ -246,7 +246,7 @@ function-step cs j w n fs t a m =
     subst (λ (o : Option (List Line)). Made (in_front o (several_parts (tree_to_expression cs j) (parts_below (function_line w n (fcount fs))) (put_parts fs t))) (if_some (try_expressions_from_parts cs fs) (try_expression_from_function w n)) t)
     (sym (function-lines cs w n (fcount fs)))
     (subst (λ (i : ℕ). Made (in_front (function_lines w n) (several_parts (tree_to_expression cs j) i (put_parts fs t))) (if_some (try_expressions_from_parts cs fs) (try_expression_from_function w n)) t)
-    (sym (parts_below w n (fcount fs) a))
+    (sym (parts_below_lem w n (fcount fs) a))
     (function-made w n (fcount fs) (several_parts (tree_to_expression cs j) (fcount fs) (put_parts fs t)) (try_expressions_from_parts cs fs) t a (λ es h. parts-count cs fs es h) m))
 
 module _ (cs : List Bytes) where

@@ -33,8 +33,8 @@ pub tree-lines-ended : (tree : Bytes) (p : Pattern) → read_tree tree ≡ reads
 tree-lines-ended tree p e = subst Ended (sym (lines_are tree p e)) (neat-ended (put p []) (neat p [] ((tree-exactly tree p).0 e).1 tt))
 
 -- a table that is in order
-pub in_order : (table : Bytes) (keys : List (List ℕ)) (n : ℕ) → StartsTold table keys n → (b : Bool) → b ≡ in_order (old_starts (starts_in table keys n)) → not b ≡ false → Ordered table keys n
-in_order table keys n t b e h = record { room = t.room; few = t.few; ordered = sym (neighbours-enough (old_starts (starts_in table keys n))) ∙ sym e ∙ not-false b h }
+pub in_order_lem : (table : Bytes) (keys : List (List ℕ)) (n : ℕ) → StartsTold table keys n → (b : Bool) → b ≡ in_order (old_starts (starts_in table keys n)) → not b ≡ false → Ordered table keys n
+in_order_lem table keys n t b e h = record { room = t.room; few = t.few; ordered = sym (neighbours-enough (old_starts (starts_in table keys n))) ∙ sym e ∙ not-false b h }
 
 -- ---- a text that is refused
 
