@@ -120,6 +120,16 @@ bare-not name bare_name = refl
 bare-not integer bare_integer = refl
 bare-not limit bare_limit = refl
 bare-not flag bare_flag = refl
+bare-not node h = elim h [ ]
+bare-not plain h = elim h [ ]
+bare-not constant h = elim h [ ]
+bare-not cell h = elim h [ ]
+bare-not opaque h = elim h [ ]
+bare-not lexical h = elim h [ ]
+bare-not absent h = elim h [ ]
+bare-not tag h = elim h [ ]
+bare-not datatype h = elim h [ ]
+bare-not form h = elim h [ ]
 
 -- ---- erased
 

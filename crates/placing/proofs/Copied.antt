@@ -9,7 +9,7 @@ use lib.ListN.{length, get_or}
 use Rattle.text.specs.Text.{Bytes, Line, ended, text_of, split, part, lines_from}
 use Rattle.text.proofs.Texts.{Ended, glue-split, ended-glue}
 use Rattle.text.proofs.Places.{lines_next, lines-open, lines_end}
-use Rattle.algebra.specs.bridge.Table.{Sort, Below, Row, table, row_in}
+use Rattle.algebra.specs.bridge.Table.{Sort, Below, Row, always, given, more, table, row_in}
 use Rattle.words.specs.declared.Row.{Row as Code}
 use Rattle.words.specs.declared.Found.{Found}
 use Rattle.words.specs.declared.Found.TheVariants.{Is, None}
@@ -45,11 +45,11 @@ amounts-cons b (c ∷ bs) ns = plus-is _ _
 group-amount : (n k : ℕ) (s : Sort) (a b : ℕ) (bs : List Below) → amounts (group_of n k s ++ bs) (a ∷ b ∷ []) ≡ amount_in n k a b + amounts bs (a ∷ b ∷ [])
 unfolding amounts
 group-amount zero zero s a b bs = omega arith
-group-amount (suc n) zero s a b bs = amounts-cons _ bs (a ∷ b ∷ [])
-group-amount n (suc zero) s a b bs = amounts-cons _ bs (a ∷ b ∷ [])
-group-amount n (suc (suc zero)) s a b bs = amounts-cons _ bs (a ∷ b ∷ [])
-group-amount n (suc (suc (suc zero))) s a b bs = amounts-cons _ bs (a ∷ b ∷ [])
-group-amount n (suc (suc (suc (suc zero)))) s a b bs = amounts-cons _ bs (a ∷ b ∷ [])
+group-amount (suc n) zero s a b bs = amounts-cons (record { amount = always (suc n); sort = s }) bs (a ∷ b ∷ [])
+group-amount n (suc zero) s a b bs = amounts-cons (record { amount = given 0; sort = s }) bs (a ∷ b ∷ [])
+group-amount n (suc (suc zero)) s a b bs = amounts-cons (record { amount = given 1; sort = s }) bs (a ∷ b ∷ [])
+group-amount n (suc (suc (suc zero))) s a b bs = amounts-cons (record { amount = more 0 n; sort = s }) bs (a ∷ b ∷ [])
+group-amount n (suc (suc (suc (suc zero)))) s a b bs = amounts-cons (record { amount = more 1 n; sort = s }) bs (a ∷ b ∷ [])
 group-amount n (suc (suc (suc (suc (suc k))))) s a b bs = omega arith
 
 groups-amount : (k n a b : ℕ) → amounts (groups_in (suc k) n) (a ∷ b ∷ []) ≡ amount_in (n % 4) (n / 4 % 8) a b + amounts (groups_in k (n / 512)) (a ∷ b ∷ [])

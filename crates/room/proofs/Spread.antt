@@ -65,14 +65,14 @@ mutual
       omega (arith, spread-append (marked m ks) (places p (under m) ++ places_as rs m), spread-append (places p (under m)) (places_as rs m), spread-marked m ks, spread-size p (under m) (put_as rs t), spread_as rs m t)
   spread-size (service n f p) m t = omega (arith, spread-append (marked silent (variables_of (n ∷ []))) (places p m), spread-fields silent (n ∷ []), spread-size p m t)
 
-  spread_e : (e : Expression) (t : List Line) → spread (places_e e) + size t ≤ size (put_e e t)
+  pub spread_e : (e : Expression) (t : List Line) → spread (places_e e) + size t ≤ size (put_e e t)
   spread_e (term x) t = omega (arith, spread-fields silent (x ∷ []))
   spread_e (bound v) t = omega (arith, spread-marked silent (v ∷ []))
   spread_e (exists p) t = omega (arith, spread-size p silent t)
   spread_e (apply o es) t = omega (arith, spread_es es t)
   spread_e (call n es) t = omega (arith, spread_es es t)
 
-  spread_c : (c : Condition) (t : List Line) → spread (places_c c) + size t ≤ size (put_c c t)
+  pub spread_c : (c : Condition) (t : List Line) → spread (places_c c) + size t ≤ size (put_c c t)
   spread_c always t = omega arith
   spread_c (provided e) t = spread_e e t
 

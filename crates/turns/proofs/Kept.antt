@@ -141,15 +141,15 @@ module _ (U : List Bytes) (f : Bytes → Bytes) (inj : Inj U f) (new : (v : Byte
 
   pub countable-kept : (p : Pattern) → Sub (names p) U → is_countable (rename_in_graph_pattern f p) ≡ is_countable p
   unfolding is_countable
-  countable-kept p s = everywhere-kept _ (record { triples = triples-kept; condition = condition-kept f; extended = λ v p e m u. term-kept f e; columns = λ cs u. refl }) p s
+  countable-kept p s = everywhere-kept (record { triples = λ ts. all no_blank ts; condition = λ e. is_condition e; extended = λ v p. is_term; columns = λ cs. true; others = false }) (record { triples = triples-kept; condition = condition-kept f; extended = λ v p e m u. term-kept f e; columns = λ cs u. refl }) p s
 
   pub fresh_kept : (p : Pattern) → Sub (names p) U → extends_fresh (rename_in_graph_pattern f p) ≡ extends_fresh p
   unfolding extends_fresh
-  fresh_kept p s = everywhere-kept _ (record { triples = λ ts u. refl; condition = λ e. refl; extended = λ v q e m u. ap not (ap (mem (f v)) (scope-renamed U f inj new q u) ∙ mem-inj U f inj v (scope_of q) m (scope-in U q u)); columns = λ cs u. refl }) p s
+  fresh_kept p s = everywhere-kept (record { triples = λ ts. true; condition = λ e. true; extended = λ v p e. not (mem v (scope_of p)); columns = λ cs. true; others = true }) (record { triples = λ ts u. refl; condition = λ e. refl; extended = λ v q e m u. ap not (ap (mem (f v)) (scope-renamed U f inj new q u) ∙ mem-inj U f inj v (scope_of q) m (scope-in U q u)); columns = λ cs u. refl }) p s
 
   pub once-kept : (p : Pattern) → Sub (names p) U → values_once (rename_in_graph_pattern f p) ≡ values_once p
   unfolding values_once
-  once-kept p s = everywhere-kept _ (record { triples = λ ts u. refl; condition = λ e. refl; extended = λ v q e m u. refl; columns = different-kept }) p s
+  once-kept p s = everywhere-kept (record { triples = λ ts. true; condition = λ e. true; extended = λ v p e. true; columns = λ cs. different cs; others = true }) (record { triples = λ ts u. refl; condition = λ e. refl; extended = λ v q e m u. refl; columns = different-kept }) p s
 
   -- ---- names
 

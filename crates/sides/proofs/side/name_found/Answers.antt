@@ -26,4 +26,4 @@ shape_of-spots c = search rules
 pub returns : goal.returns
 unfolding IsNaming
 returns c =
-  let n = c.name_tree in λ second constants x js ks d. S.named _ _ _ _ _ _ _ _ _ _ _ _ _ _ _ d _ _ _ _ (let e = c.count_ones.ensures.0 in omega (arith, c.if-count_ones-outline.false)) n.ensures.1 (n.ensures.0 x (S.outline-placed _ _ _ _ _ _ _ _ _ _ _ _ _ _ _ d) (S.outline-inside _ _ _ _ _ _ _ _ _ _ _ _ _ _ _ d))
+  let n = c.name_tree in λ second constants x js ks d. S.named _ _ _ _ _ _ _ _ _ _ _ _ _ _ _ d _ _ _ _ (let e = c.count_ones.ensures.0 in omega (arith, c.if-count_ones-outline.false)) n.ensures.renamed (n.ensures.renames x (S.outline-placed _ _ _ _ _ _ _ _ _ _ _ _ _ _ _ d) (S.outline-inside _ _ _ _ _ _ _ _ _ _ _ _ _ _ _ d))
