@@ -1,6 +1,6 @@
 pub mod Said
 pub mod Spelled
-pub mod Hidden
+pub mod HiddenLaw
 pub mod Sought
 pub mod Judged
 pub mod ByLines

@@ -21,7 +21,7 @@ use Rattle.filtering.proofs.Copying.{number, ccount, flag-come}
 use Rattle.spelling.specs.bridge.Seeking.{names_on, shows, Sought, or_in, sought_children, sought_child, sought_tree}
 use Rattle.algebra.specs.Depth.{depth, depth_e, depth_c, depth_os, depth_as}
 use Rattle.spelling.specs.bridge.Saying.{shallow}
-use Rattle.spelling.proofs.Hidden.{Finds, end, child, line-found, tree, flat, flat-leaf, below-p, below-e, finds-is, leaf, pattern-hidden, expression-hidden, orders-hidden}
+use Rattle.spelling.proofs.HiddenLaw.{Finds, end, child, line-found, tree, flat, flat-leaf, below-p, below-e, finds-is, leaf, pattern-hidden, expression-hidden, orders-hidden}
 
 -- ---- shown: it is found where it is in scope
 

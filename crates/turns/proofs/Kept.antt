@@ -145,7 +145,7 @@ module _ (U : List Bytes) (f : Bytes → Bytes) (inj : Inj U f) (new : (v : Byte
 
   pub fresh_kept : (p : Pattern) → Sub (names p) U → extends_fresh (rename_in_graph_pattern f p) ≡ extends_fresh p
   unfolding extends_fresh
-  fresh_kept p s = everywhere-kept (record { triples = λ ts. true; condition = λ e. true; extended = λ v p e. not (mem v (scope_of p)); columns = λ cs. true; others = true }) (record { triples = λ ts u. refl; condition = λ e. refl; extended = λ v q e m u. ap not (ap (mem (f v)) (scope-renamed U f inj new q u) ∙ mem-inj U f inj v (scope_of q) m (scope-in U q u)); columns = λ cs u. refl }) p s
+  fresh_kept p s = everywhere-kept (record { triples = λ ts. true; condition = λ e. true; extended = λ v vs e. not (mem v vs); columns = λ cs. true; others = true }) (record { triples = λ ts u. refl; condition = λ e. refl; extended = λ v q e m u. ap not (ap (mem (f v)) (scope-renamed U f inj new q u) ∙ mem-inj U f inj v (scope_of q) m (scope-in U q u)); columns = λ cs u. refl }) p s
 
   pub once-kept : (p : Pattern) → Sub (names p) U → values_once (rename_in_graph_pattern f p) ≡ values_once p
   unfolding values_once

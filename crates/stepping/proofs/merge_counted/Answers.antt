@@ -9,4 +9,4 @@ returns-then-has_many_lines c =
 
 pub returns : goal.returns
 returns c =
-  let h = c.has_many_lines in let m = c.merge_in_turn in let s = c.args in counted-few (texts s.input.now) s.steps h.result h.ensures s.out.now c.if-has_many_lines.false m.new.1.1.1.1.0 m.result m.ensures
+  let h = c.has_many_lines in let m = c.merge_in_turn in let s = c.args in counted-few (texts s.input.now) s.steps h.result h.ensures s.out.now c.if-has_many_lines.false m.new.out m.result m.ensures

@@ -9,7 +9,7 @@ merge_counted-requires c =
 
 pub returns-in-Good : goal.returns-in-Good
 returns-in-Good c =
-  let t = c.check_texts in let m = c.merge_counted in checked-good (texts c.args.input.now) c.args.steps _ t.result t.ensures c.in-Good.is _ c.args.out.now m.new.1.1.1.1.0 m.result c.requires.2 m.ensures
+  let t = c.check_texts in let m = c.merge_counted in checked-good (texts c.args.input.now) c.args.steps _ t.result t.ensures c.in-Good.is _ c.args.out.now m.new.out m.result c.requires.2 m.ensures
 
 pub returns-in-Malformed : goal.returns-in-Malformed
 returns-in-Malformed c = let t = c.check_texts in checked-malformed _ _ t.result t.ensures _ _ c.in-Malformed.is

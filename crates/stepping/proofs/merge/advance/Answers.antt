@@ -23,4 +23,4 @@ slice_bounds-put_all-end c =
 
 pub returns : goal.returns
 returns c =
-  let m = c.merge_between-a in let n = c.number.ensures in between-copied _ _ _ m.result m.ensures (sym n ∙ c.if-number-ne0.false) _ c.size_of.ensures _ _ _ c.requires.2 c.put_all.auto.out (m.auto.1.1.1.1.1.0 ∙ search rules) c.put_all.ensures
+  let m = c.merge_between-a in let n = c.number.ensures in between-copied _ _ _ m.result m.ensures (sym n ∙ c.if-number-ne0.false) _ c.size_of.ensures _ _ _ c.requires.2 c.put_all.auto.out (m.auto.next ∙ search rules) c.put_all.ensures

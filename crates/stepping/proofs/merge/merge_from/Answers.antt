@@ -29,7 +29,7 @@ loop-more-smaller c = omega (arith, c.loop-more-test.true)
 
 pub loop-more-preserved : goal.loop-more-preserved
 loop-more-preserved c =
-  let a = c.advance-a in let i = c.loop-more.invariant in let m = c.loop-more-test.true in let l = a.auto.0 ∙ i.0 in let t = turn-next _ _ _ _ _ i.4 m _ a.result a.ensures _ c.number.ensures _ c.size_of-size.ensures c.if-number-ne0.false in (l, omega (arith, t.0, l), omega (arith, i.2, m), omega (arith, m), t.1)
+  let a = c.advance-a in let i = c.loop-more.invariant in let m = c.loop-more-test.true in let l = a.auto.left ∙ i.0 in let t = turn-next _ _ _ _ _ i.4 m _ a.result a.ensures _ c.number.ensures _ c.size_of-size.ensures c.if-number-ne0.false in (l, omega (arith, t.0, l), omega (arith, i.2, m), omega (arith, m), t.1)
 
 pub slice_bounds-merge_step-end : goal.slice_bounds-merge_step-end
 slice_bounds-merge_step-end c = let i = c.loop-more.invariant in omega (arith, i.0, i.1)

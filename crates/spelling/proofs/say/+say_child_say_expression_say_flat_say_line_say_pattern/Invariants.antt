@@ -1,0 +1,37 @@
+-- What falls, and what the loops keep. Assumes nothing.
+use Prim.Native.Nat.{◌+◌, ◌*◌, ◌≤◌}
+use mathlib.Core.Path.{◌≡◌}
+use lib.ListN.{length}
+use Rattle.text.specs.Text.{lines_from, split, part}
+use Rattle.emit.specs.bridge.Emit.{em}
+use Rattle.filtering.specs.bridge.Copying.{to_come}
+use Rattle.spelling.specs.bridge.Saying.{said_children, said_child, said_tree}
+use Rattle.spelling.proofs.Going as G
+use Rattle.spelling.proofs.say.+say_child_say_expression_say_flat_say_line_say_pattern.Given as goal
+
+abbrev pub decreases-say_child : goal.decreases-say_child
+decreases-say_child l = 4 * l.depth + 2
+
+abbrev pub decreases-say_expression : goal.decreases-say_expression
+decreases-say_expression l = 4 * l.depth
+
+abbrev pub decreases-say_flat : goal.decreases-say_flat
+decreases-say_flat l = 4 * l.depth + 1
+
+abbrev pub decreases-say_line : goal.decreases-say_line
+decreases-say_line l = 4 * l.depth + 3
+
+abbrev pub decreases-say_pattern : goal.decreases-say_pattern
+decreases-say_pattern l = 4 * l.depth
+
+abbrev pub invariant-say_flat-loop-children : goal.invariant-say_flat-loop-children
+invariant-say_flat-loop-children l = (length l.out ≡ length l.initial.out) × (l.i + l.children ≤ 17179869183) × G.Going (said_tree l.depth) (split 9 (part l.from l.end l.query)) (lines_from l.query (l.end + 1)) l.i l.children (lines_from l.query l.next) (em l.to l.out) (said_children (said_tree l.depth) (split 9 (part l.from l.end l.query)) (lines_from l.query (l.end + 1)) 0 (to_come (split 9 (part l.from l.end l.query))) (lines_from l.query (l.end + 1))) (em l.initial.to l.initial.out)
+
+abbrev pub decreases-say_flat-loop-children : goal.decreases-say_flat-loop-children
+decreases-say_flat-loop-children l = l.children
+
+abbrev pub invariant-say_line-loop-children : goal.invariant-say_line-loop-children
+invariant-say_line-loop-children l = (length l.out ≡ length l.initial.out) × (l.i + l.children ≤ 17179869183) × G.Going (said_child (said_tree l.depth)) (split 9 (part l.from l.end l.query)) (lines_from l.query (l.end + 1)) l.i l.children (lines_from l.query l.next) (em l.to l.out) (said_children (said_child (said_tree l.depth)) (split 9 (part l.from l.end l.query)) (lines_from l.query (l.end + 1)) 0 (to_come (split 9 (part l.from l.end l.query))) (lines_from l.query (l.end + 1))) (em l.initial.to l.initial.out)
+
+abbrev pub decreases-say_line-loop-children : goal.decreases-say_line-loop-children
+decreases-say_line-loop-children l = l.children
