@@ -11,8 +11,8 @@ loop-i-init c = (refl, rw add-zero)
 
 pub loop-i-preserved : goal.loop-i-preserved
 loop-i-preserved c =
-  (simp length-set c.loop-i.invariant.0, sets-next c.args.piece.now c.args.at c.loop-i.i c.loop-i.out (omega arith) ∙ c.loop-i.invariant.1)
+    (simp length-set c.loop-i.invariant.0, sets-next c.args.piece.now c.args.at c.loop-i.i c.loop-i.out (omega arith) ∙ c.loop-i.invariant.1)
 
 pub returns : goal.returns
 returns c =
-  sym (sets-done c.args.piece.now c.args.at c.loop-i.i c.loop-i.out (omega arith)) ∙ c.loop-i.invariant.1
+    sym (sets-done c.args.piece.now c.args.at c.loop-i.i c.loop-i.out (omega arith)) ∙ c.loop-i.invariant.1

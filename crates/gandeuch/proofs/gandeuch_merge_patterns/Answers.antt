@@ -4,4 +4,4 @@ use Rattle.gandeuch.proofs.gandeuch_merge_patterns.Goals as goal
 
 pub returns : goal.returns
 returns c =
-  A.reported _ _ _ c.merge_patterns-a.result _ _ c.merge_patterns-a.ensures c.number.ensures c.size_of.ensures
+    A.reported _ _ _ c.merge_patterns-a.result _ _ c.merge_patterns-a.ensures c.number.ensures c.size_of.ensures

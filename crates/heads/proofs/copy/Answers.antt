@@ -8,4 +8,4 @@ returns-then-out-text c = let g = c.well_formed in C.copy-short _ _ (omega (arit
 
 pub returns : goal.returns
 returns c =
-  let g = c.well_formed in C.copy_written _ _ (omega (arith, g)) _ _ c.if-out-text.false (omega (arith, g)) c.put_all-size.ensures
+    let g = c.well_formed in C.copy_written _ _ (omega (arith, g)) _ _ c.if-out-text.false (omega (arith, g)) c.put_all-size.ensures

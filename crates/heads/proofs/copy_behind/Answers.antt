@@ -8,4 +8,4 @@ returns-then-out-size c = A.too_short _ _ _ _ _ c.put_behind-size.ensures c.if-o
 
 pub returns : goal.returns
 returns c =
-  let g = c.well_formed in A.all-written _ _ _ _ _ c.put_behind-size.ensures _ _ c.if-out-size.false (omega (arith, g)) c.put_behind-put.ensures
+    let g = c.well_formed in A.all-written _ _ _ _ _ c.put_behind-size.ensures _ _ c.if-out-size.false (omega (arith, g)) c.put_behind-put.ensures

@@ -6,4 +6,4 @@ use Rattle.heads.proofs.put_behind.Goals as goal
 
 pub returns : goal.returns
 returns c =
-  let a = c.args in c.put_all.ensures ∙ ap (puts a.tree.now) c.put_all-a.ensures ∙ sym (puts-append a.head.now a.tree.now _)
+    let a = c.args in c.put_all.ensures ∙ ap (puts a.tree.now) c.put_all-a.ensures ∙ sym (puts-append a.head.now a.tree.now _)

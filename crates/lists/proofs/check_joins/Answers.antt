@@ -5,4 +5,4 @@ use Rattle.lists.proofs.check_joins.Goals as goal
 
 pub returns : goal.returns
 returns c =
-  (c.check_alone.ensures.0, c.check_alone.ensures.1 joins (record { firsts = refl; seconds = refl; parted = refl }))
+    (c.check_alone.ensures.0, c.check_alone.ensures.1 joins (record { firsts = refl; seconds = refl; parted = refl }))

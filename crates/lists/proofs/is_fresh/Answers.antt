@@ -12,12 +12,12 @@ loop-i-init c = refl
 
 pub returns-then-is_same : goal.returns-then-is_same
 returns-then-is_same c =
-  let p = c.requires in K.found_here _ _ _ _ _ p.2 c.loop-i.invariant c.loop-i-test.true _ (c.is_same.ensures ∙ ap (same _) c.field_at.ensures) _ c.if-not-unique.false-raw c.if-is_same.true
+    let p = c.requires in K.found_here _ _ _ _ _ p.2 c.loop-i.invariant c.loop-i-test.true _ (c.is_same.ensures ∙ ap (same _) c.field_at.ensures) _ c.if-not-unique.false-raw c.if-is_same.true
 
 pub loop-i-preserved : goal.loop-i-preserved
 loop-i-preserved c =
-  let p = c.requires in K.not-here _ _ _ _ _ p.2 c.loop-i.invariant c.loop-i-test.true _ (c.is_same.ensures ∙ ap (same _) c.field_at.ensures) c.if-is_same.false
+    let p = c.requires in K.not-here _ _ _ _ _ p.2 c.loop-i.invariant c.loop-i-test.true _ (c.is_same.ensures ∙ ap (same _) c.field_at.ensures) c.if-is_same.false
 
 pub returns : goal.returns
 returns c =
-  let p = c.requires in K.found_nowhere _ _ _ _ _ p.2 c.loop-i.invariant _ c.if-not-unique.false-raw c.loop-i-test.false
+    let p = c.requires in K.found_nowhere _ _ _ _ _ p.2 c.loop-i.invariant _ c.if-not-unique.false-raw c.loop-i-test.false

@@ -5,4 +5,4 @@ use Rattle.mask.proofs.bit_at.Goals as goal
 
 pub returns : goal.returns
 returns c =
-  let g = c.well_formed in L.bit_is (L.four _ _ _ _ (omega (arith, g)) (omega (arith, g)) (omega (arith, g)) (omega (arith, g))) _ _ c.word_at.ensures
+    let g = c.well_formed in L.bit_is (L.four _ _ _ _ (omega (arith, g)) (omega (arith, g)) (omega (arith, g)) (omega (arith, g))) _ _ c.word_at.ensures

@@ -9,7 +9,7 @@ loop-i-init c = (search rules, search rules, refl)
 
 pub loop-i-preserved : goal.loop-i-preserved
 loop-i-preserved c =
-  (search rules, search rules, c.loop-i.invariant.2 ∙ L.hash-next _ _ _ _ c.loop-i-test.true c.byte.ensures.0)
+    (search rules, search rules, c.loop-i.invariant.2 ∙ L.hash-next _ _ _ _ c.loop-i-test.true c.byte.ensures.0)
 
 pub returns : goal.returns
 returns c = (sym (c.loop-i.invariant.2 ∙ L.hash-end _ _ _ c.loop-i-test.false), search rules)

@@ -5,4 +5,4 @@ use Rattle.names.proofs.no_names.Goals as goal
 
 pub returns : goal.returns
 returns c =
-  let e = c.all_entries.ensures in (column-length 0 _ ∙ e, column-length 1 _ ∙ e, c.all_places.ensures)
+    let e = c.all_entries.ensures in (column-length 0 _ ∙ e, column-length 1 _ ∙ e, c.all_places.ensures)

@@ -11,16 +11,16 @@ slice_bounds-negate_of-end c = sym (length-take-le _ _ c.tree_start-from.ensures
 
 pub negate_of-requires : goal.negate_of-requires
 negate_of-requires c =
-  let p = c.requires in (p.0, P.parts-behind _ p.0 p.1 _ (c.tree_start-from.ensures.given p.0 p.1) c.if-from-query.true _ _ refl refl)
+    let p = c.requires in (p.0, P.parts-behind _ p.0 p.1 _ (c.tree_start-from.ensures.given p.0 p.1) c.if-from-query.true _ _ refl refl)
 
 pub returns-then-from-query : goal.returns-then-from-query
 returns-then-from-query c =
-  let p = c.requires in A.answered _ _ _ _ c.negate_of.result (Neg.negate-read _ p.0 p.1) (c.negate_of.ensures p.0 (P.parts-behind _ p.0 p.1 _ (c.tree_start-from.ensures.given p.0 p.1) c.if-from-query.true _ _ refl refl))
+    let p = c.requires in A.answered _ _ _ _ c.negate_of.result (Neg.negate-read _ p.0 p.1) (c.negate_of.ensures p.0 (P.parts-behind _ p.0 p.1 _ (c.tree_start-from.ensures.given p.0 p.1) c.if-from-query.true _ _ refl refl))
 
 pub negate_of-requires-2 : goal.negate_of-requires-2
 negate_of-requires-2 c =
-  let p = c.requires in (p.0, P.parts-alone _ p.0 p.1 _ (c.tree_start-from.ensures.given p.0 p.1) c.tree_start-from.ensures.high c.if-from-query.false)
+    let p = c.requires in (p.0, P.parts-alone _ p.0 p.1 _ (c.tree_start-from.ensures.given p.0 p.1) c.tree_start-from.ensures.high c.if-from-query.false)
 
 pub returns : goal.returns
 returns c =
-  let p = c.requires in A.answered _ _ _ _ c.negate_of-2.result (Neg.negate-read _ p.0 p.1) (c.negate_of-2.ensures p.0 (P.parts-alone _ p.0 p.1 _ (c.tree_start-from.ensures.given p.0 p.1) c.tree_start-from.ensures.high c.if-from-query.false))
+    let p = c.requires in A.answered _ _ _ _ c.negate_of-2.result (Neg.negate-read _ p.0 p.1) (c.negate_of-2.ensures p.0 (P.parts-alone _ p.0 p.1 _ (c.tree_start-from.ensures.given p.0 p.1) c.tree_start-from.ensures.high c.if-from-query.false))

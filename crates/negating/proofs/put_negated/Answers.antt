@@ -9,4 +9,4 @@ slice_bounds-put_all-end c = sym (length-take-le _ _ c.requires)
 
 pub returns : goal.returns
 returns c =
-  Neg.negated-put _ _ _ _ _ _ _ _ _ _ _ _ c.put_all-a.ensures c.put_all-b.ensures c.put_all-c.ensures c.put_all.ensures
+    Neg.negated-put _ _ _ _ _ _ _ _ _ _ _ _ c.put_all-a.ensures c.put_all-b.ensures c.put_all-c.ensures c.put_all.ensures

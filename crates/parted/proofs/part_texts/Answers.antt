@@ -9,7 +9,7 @@ use Rattle.parted.proofs.part_texts.Goals as goal
 
 pub loop-end-init : goal.loop-end-init
 loop-end-init c =
-  let e = c.text_end-end.ensures in let l = c.requires in let a = c.args.ends.now in let q = length-set a 0 c.text_end-end.result in (refl, omega arith, e.high, e.room, count-start _ _ e ∙ omega arith, parted-start _ a _ _ (omega (arith, q, l)) (sym q) e, λ h. set-end a _ 0 c.text_end-end.result (sym q) h)
+    let e = c.text_end-end.ensures in let l = c.requires in let a = c.args.ends.now in let q = length-set a 0 c.text_end-end.result in (refl, omega arith, e.high, e.room, count-start _ _ e ∙ omega arith, parted-start _ a _ _ (omega (arith, q, l)) (sym q) e, λ h. set-end a _ 0 c.text_end-end.result (sym q) h)
 
 pub overflow_add-end : goal.overflow_add-end
 overflow_add-end c = omega (arith, c.loop-end.invariant.3 c.loop-end-test.true)
@@ -19,11 +19,11 @@ text_end-end-requires-in-loop-end c = omega (arith, c.loop-end.invariant.3 c.loo
 
 pub offset_bounds-ends-n : goal.offset_bounds-ends-n
 offset_bounds-ends-n c =
-  let q = length-set c.args.ends.now 0 c.text_end-end.result in omega (arith, q, c.loop-end.invariant.0, c.if-n-ends.true)
+    let q = length-set c.args.ends.now 0 c.text_end-end.result in omega (arith, q, c.loop-end.invariant.0, c.if-n-ends.true)
 
 pub loop-end-smaller-then-n-ends : goal.loop-end-smaller-then-n-ends
 loop-end-smaller-then-n-ends c =
-  let low = c.text_end-end-in-loop-end.ensures.low in let more = c.loop-end-test.true in omega (arith, low, more)
+    let low = c.text_end-end-in-loop-end.ensures.low in let more = c.loop-end-test.true in omega (arith, low, more)
 
 pub loop-end-preserved-then-n-ends : goal.loop-end-preserved-then-n-ends
 loop-end-preserved-then-n-ends c = let e = c.text_end-end-in-loop-end.ensures in
@@ -37,7 +37,7 @@ loop-end-preserved-then-n-ends c = let e = c.text_end-end-in-loop-end.ensures in
 
 pub loop-end-smaller : goal.loop-end-smaller
 loop-end-smaller c =
-  let low = c.text_end-end-in-loop-end.ensures.low in let more = c.loop-end-test.true in omega (arith, low, more)
+    let low = c.text_end-end-in-loop-end.ensures.low in let more = c.loop-end-test.true in omega (arith, low, more)
 
 pub loop-end-preserved : goal.loop-end-preserved
 loop-end-preserved c = let e = c.text_end-end-in-loop-end.ensures in

@@ -11,11 +11,11 @@ overflow_sub-s c = c.find-dash.ensures.high
 
 pub returns-then-s-dash-lt3 : goal.returns-then-s-dash-lt3
 returns-then-s-dash-lt3 c =
-  ends_last _ _ _ (clear-find _ _ _ _ c.loop-at.invariant.2 c.find-dash.ensures) (omega arith) (omega (arith, c.if-s-dash-lt3.true))
+    ends_last _ _ _ (clear-find _ _ _ _ c.loop-at.invariant.2 c.find-dash.ensures) (omega arith) (omega (arith, c.if-s-dash-lt3.true))
 
 pub is_bar-requires : goal.is_bar-requires
 is_bar-requires c =
-  let f = c.find-dash.ensures in (omega (arith, f.low), omega (arith, c.if-s-dash-lt3.false), f.here (omega (arith, c.if-s-dash-lt3.false)))
+    let f = c.find-dash.ensures in (omega (arith, f.low), omega (arith, c.if-s-dash-lt3.false), f.here (omega (arith, c.if-s-dash-lt3.false)))
 
 pub returns-then-is_bar : goal.returns-then-is_bar
 returns-then-is_bar c = let f = c.find-dash.ensures in

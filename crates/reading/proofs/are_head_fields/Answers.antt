@@ -9,12 +9,12 @@ text_field-dataset-requires c = R.follows-line _ _ _ _ c.requires c.text_field-k
 
 pub text_field-base-requires : goal.text_field-base-requires
 text_field-base-requires c =
-  R.follows-line _ _ _ _ (R.follows-line _ _ _ _ c.requires c.text_field-kind.ensures) c.text_field-dataset.ensures
+    R.follows-line _ _ _ _ (R.follows-line _ _ _ _ c.requires c.text_field-kind.ensures) c.text_field-dataset.ensures
 
 pub overflow_add-result : goal.overflow_add-result
 overflow_add-result c =
-  let i = R.follows-line _ _ _ _ (R.follows-line _ _ _ _ (R.follows-line _ _ _ _ c.requires c.text_field-kind.ensures) c.text_field-dataset.ensures) c.text_field-base.ensures in let a = i.ends in let b = i.short in omega (arith, a, b)
+    let i = R.follows-line _ _ _ _ (R.follows-line _ _ _ _ (R.follows-line _ _ _ _ c.requires c.text_field-kind.ensures) c.text_field-dataset.ensures) c.text_field-base.ensures in let a = i.ends in let b = i.short in omega (arith, a, b)
 
 pub returns : goal.returns
 returns c =
-  H.head-fields _ _ _ _ _ c.text_field-kind.ensures c.text_field-dataset.ensures c.text_field-base.ensures
+    H.head-fields _ _ _ _ _ c.text_field-kind.ensures c.text_field-dataset.ensures c.text_field-base.ensures

@@ -8,7 +8,7 @@ use Rattle.reading.proofs.check_sets.Goals as goal
 
 pub check_list-requires : goal.check_list-requires
 check_list-requires c =
-  (omega arith, holds-none _ _ _ _ c.no_names.ensures.0 c.no_names.ensures.1 c.no_names.ensures.2, c.requires.0)
+    (omega arith, holds-none _ _ _ _ c.no_names.ensures.0 c.no_names.ensures.1 c.no_names.ensures.2, c.requires.0)
 
 pub returns : goal.returns
 returns c = told tally_sets _ _ _ _ _ _ _ (check-sets c.args.text.now) c.check_list.ensures

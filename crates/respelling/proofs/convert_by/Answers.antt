@@ -8,8 +8,8 @@ convert-requires c = (c.requires, S.said-good _ _ _ c.check_starts.ensures _ c.i
 
 pub returns-in-Malformed : goal.returns-in-Malformed
 returns-in-Malformed c =
-  C.table-malformed _ _ _ c.requires.0 c.requires.1 (S.said-malformed _ _ _ c.check_starts.ensures c.in-Malformed.is)
+    C.table-malformed _ _ _ c.requires.0 c.requires.1 (S.said-malformed _ _ _ c.check_starts.ensures c.in-Malformed.is)
 
 pub returns-in-OverBound : goal.returns-in-OverBound
 returns-in-OverBound c =
-  C.table-over _ _ _ c.requires.0 c.requires.1 (S.said-over _ _ _ c.check_starts.ensures c.in-OverBound.is)
+    C.table-over _ _ _ c.requires.0 c.requires.1 (S.said-over _ _ _ c.check_starts.ensures c.in-OverBound.is)

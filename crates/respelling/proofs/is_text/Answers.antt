@@ -18,4 +18,4 @@ returns-in-1667329132 c = λ word keyed. M.call-text word _ keyed _ c.in-1667329
 pub returns-in_default : goal.returns-in_default
 unfolding key_of
 returns-in_default c =
-  λ word keyed. M.no_text word _ keyed _ c.in_default.in_default-own.rest.0.0.1 c.in_default.in_default-own.rest.0.1 c.in_default.in_default-own.rest.1
+    λ word keyed. M.no_text word _ keyed _ c.in_default.in_default-own.rest.0.0.1 c.in_default.in_default-own.rest.0.1 c.in_default.in_default-own.rest.1

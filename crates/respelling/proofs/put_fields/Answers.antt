@@ -11,19 +11,19 @@ field_end-to-requires c = let h = c.requires.2 in let t = c.loop-at-test.true in
 
 pub put_field-put-requires : goal.put_field-put-requires
 put_field-put-requires c =
-  let f = c.field_end-to.ensures in let l = f.low in let h = f.high in let low = c.loop-at.invariant.low in let p = c.requires.2 in (omega arith, f.low, omega arith, c.requires.4)
+    let f = c.field_end-to.ensures in let l = f.low in let h = f.high in let low = c.loop-at.invariant.low in let p = c.requires.2 in (omega arith, f.low, omega arith, c.requires.4)
 
 pub overflow_add-i : goal.overflow_add-i
 overflow_add-i c =
-  let few = c.loop-at.invariant.few in let h = c.loop-at.invariant.here in let p = c.requires.2 in omega (arith, c.loop-at-test.true)
+    let few = c.loop-at.invariant.few in let h = c.loop-at.invariant.here in let p = c.requires.2 in omega (arith, c.loop-at-test.true)
 
 pub loop-at-smaller : goal.loop-at-smaller
 loop-at-smaller c =
-  let f = c.field_end-to.ensures in let l = f.low in let h = f.high in omega (arith, c.loop-at-test.true)
+    let f = c.field_end-to.ensures in let l = f.low in let h = f.high in omega (arith, c.loop-at-test.true)
 
 pub loop-at-preserved : goal.loop-at-preserved
 loop-at-preserved c =
-  T.going_next _ _ _ _ _ _ _ _ _ _ _ c.loop-at.invariant c.requires.2 c.loop-at-test.true _ c.field_end-to.ensures _ _ c.put_field-put.auto.out c.put_field-put.ensures.0 c.put_field-put.ensures.1
+    T.going_next _ _ _ _ _ _ _ _ _ _ _ c.loop-at.invariant c.requires.2 c.loop-at-test.true _ c.field_end-to.ensures _ _ c.put_field-put.auto.out c.put_field-put.ensures.0 c.put_field-put.ensures.1
 
 pub shape_of-out : goal.shape_of-out
 shape_of-out c = c.loop-at.invariant.long

@@ -13,11 +13,11 @@ overflow_sub-a c = let v = c.loop-i.invariant.0 in omega arith
 
 pub returns-then-not-is_before : goal.returns-then-not-is_before
 returns-then-not-is_before c =
-  O.not-ordered _ _ _ c.requires.0 c.requires.1 _ c.loop-i.invariant c.loop-i-test.true _ (c.is_before.ensures ∙ ap₂ before c.field_at.ensures c.field_at-in-loop-i.ensures) c.if-not-is_before.true-raw
+    O.not-ordered _ _ _ c.requires.0 c.requires.1 _ c.loop-i.invariant c.loop-i-test.true _ (c.is_before.ensures ∙ ap₂ before c.field_at.ensures c.field_at-in-loop-i.ensures) c.if-not-is_before.true-raw
 
 pub loop-i-preserved : goal.loop-i-preserved
 loop-i-preserved c =
-  O.left-next _ _ _ c.requires.0 c.requires.1 _ c.loop-i.invariant c.loop-i-test.true _ (c.is_before.ensures ∙ ap₂ before c.field_at.ensures c.field_at-in-loop-i.ensures) c.if-not-is_before.false-raw
+    O.left-next _ _ _ c.requires.0 c.requires.1 _ c.loop-i.invariant c.loop-i-test.true _ (c.is_before.ensures ∙ ap₂ before c.field_at.ensures c.field_at-in-loop-i.ensures) c.if-not-is_before.false-raw
 
 pub returns : goal.returns
 returns c = O.all-ordered _ _ _ c.requires.0 c.requires.1 _ c.loop-i.invariant c.loop-i-test.false

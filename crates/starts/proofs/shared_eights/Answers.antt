@@ -12,7 +12,7 @@ overflow_sub-n c = c.loop-i.invariant.0
 
 pub same_eight-requires : goal.same_eight-requires
 same_eight-requires c =
-  let v = c.loop-i.invariant in let p = c.requires in let a = p.0 in let b = p.1 in let t = c.loop-i-test.true in (omega arith, omega arith)
+    let v = c.loop-i.invariant in let p = c.requires in let a = p.0 in let b = p.1 in let t = c.loop-i-test.true in (omega arith, omega arith)
 
 pub returns-then-not-same_eight : goal.returns-then-not-same_eight
 returns-then-not-same_eight c = c.loop-i.invariant
@@ -25,7 +25,7 @@ loop-i-smaller c = omega (arith, c.loop-i-test.true)
 
 pub loop-i-preserved : goal.loop-i-preserved
 loop-i-preserved c =
-  let v = c.loop-i.invariant in (omega (arith, c.loop-i-test.true), C.block_more c.args.a.now c.args.b.now _ 8 v.1 (c.same_eight.ensures (not-false _ c.if-not-same_eight.false-raw)))
+    let v = c.loop-i.invariant in (omega (arith, c.loop-i-test.true), C.block_more c.args.a.now c.args.b.now _ 8 v.1 (c.same_eight.ensures (not-false _ c.if-not-same_eight.false-raw)))
 
 pub returns : goal.returns
 returns c = c.loop-i.invariant

@@ -17,18 +17,18 @@ returns-then-not-equal_four c = sym (c.loop-i.invariant.1 ∙ c.equal_four.ensur
 
 pub loop-i-preserved : goal.loop-i-preserved
 loop-i-preserved c =
-  (search rules, c.loop-i.invariant.1 ∙ c.equal_four.ensures.0 (not-false _ c.if-not-equal_four.false-raw))
+    (search rules, c.loop-i.invariant.1 ∙ c.equal_four.ensures.0 (not-false _ c.if-not-equal_four.false-raw))
 
 pub loop-i-2-init : goal.loop-i-2-init
 loop-i-2-init c = c.loop-i.invariant
 
 pub returns-then-f-i : goal.returns-then-f-i
 returns-then-f-i c =
-  sym (c.loop-i-2.invariant.1 ∙ L.same_next _ _ _ c.loop-i-2-test.true (omega arith) ∙ rw (ne_eqb _ _ c.if-f-i.true))
+    sym (c.loop-i-2.invariant.1 ∙ L.same_next _ _ _ c.loop-i-2-test.true (omega arith) ∙ rw (ne_eqb _ _ c.if-f-i.true))
 
 pub loop-i-2-preserved : goal.loop-i-2-preserved
 loop-i-2-preserved c =
-  (search rules, c.loop-i-2.invariant.1 ∙ L.same_next _ _ _ c.loop-i-2-test.true (omega arith) ∙ rw (eq-eqb _ _ c.if-f-i.false))
+    (search rules, c.loop-i-2.invariant.1 ∙ L.same_next _ _ _ c.loop-i-2-test.true (omega arith) ∙ rw (eq-eqb _ _ c.if-f-i.false))
 
 pub returns : goal.returns
 returns c = sym (c.loop-i-2.invariant.1 ∙ L.same_end _ _ _ c.loop-i-2-test.false (omega arith))

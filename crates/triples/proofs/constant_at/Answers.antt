@@ -17,8 +17,8 @@ slice_bounds-is_kind-end c = let high = F.read-high _ _ c.requires _ c.next_fiel
 
 pub returns-then-not-is_kind : goal.returns-then-not-is_kind
 returns-then-not-is_kind c =
-  F.takes-other _ _ c.requires _ c.next_field.ensures _ _ c.in-At.is _ c.is_kind.ensures c.if-not-is_kind.true-raw
+    F.takes-other _ _ c.requires _ c.next_field.ensures _ _ c.in-At.is _ c.is_kind.ensures c.if-not-is_kind.true-raw
 
 pub returns : goal.returns
 returns c =
-  F.takes_at _ _ c.requires _ c.next_field.ensures _ _ c.in-At.is _ c.is_kind.ensures c.if-not-is_kind.false-raw
+    F.takes_at _ _ c.requires _ c.next_field.ensures _ _ c.in-At.is _ c.is_kind.ensures c.if-not-is_kind.false-raw

@@ -10,12 +10,12 @@ loop-i-init c = refl
 
 pub returns-then-equal : goal.returns-then-equal
 returns-then-equal c =
-  K.found_here _ _ _ _ _ (omega (arith, c.requires.2, c.requires.3)) c.loop-i.invariant c.loop-i-test.true _ (c.equal.ensures ∙ ap (same _) c.whole_at.ensures) c.if-equal.true
+    K.found_here _ _ _ _ _ (omega (arith, c.requires.2, c.requires.3)) c.loop-i.invariant c.loop-i-test.true _ (c.equal.ensures ∙ ap (same _) c.whole_at.ensures) c.if-equal.true
 
 pub loop-i-preserved : goal.loop-i-preserved
 loop-i-preserved c =
-  K.not-here _ _ _ _ _ (omega (arith, c.requires.2, c.requires.3)) c.loop-i.invariant c.loop-i-test.true _ (c.equal.ensures ∙ ap (same _) c.whole_at.ensures) c.if-equal.false
+    K.not-here _ _ _ _ _ (omega (arith, c.requires.2, c.requires.3)) c.loop-i.invariant c.loop-i-test.true _ (c.equal.ensures ∙ ap (same _) c.whole_at.ensures) c.if-equal.false
 
 pub returns : goal.returns
 returns c =
-  K.found_nowhere _ _ _ _ _ (omega (arith, c.requires.2, c.requires.3)) c.loop-i.invariant c.loop-i-test.false
+    K.found_nowhere _ _ _ _ _ (omega (arith, c.requires.2, c.requires.3)) c.loop-i.invariant c.loop-i-test.false

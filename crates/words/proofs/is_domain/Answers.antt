@@ -49,4 +49,4 @@ returns-in-14 c = D.at-domain _ _ 14 _ c.in-14.is c.equal-in-14.ensures
 
 pub returns-in_default : goal.returns-in_default
 returns-in_default c =
-  D.at-domain _ _ 15 _ (D.last-domain _ _ c.requires c.in_default.in_default-own.rest) c.equal-in_default.ensures
+    D.at-domain _ _ 15 _ (D.last-domain _ _ c.requires c.in_default.in_default-own.rest) c.equal-in_default.ensures

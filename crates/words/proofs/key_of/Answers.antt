@@ -14,4 +14,4 @@ returns-then-s-from-eq0 c = keyed-zero _ _ c.args.w c.requires.0 c.requires.1 c.
 
 pub returns : goal.returns
 returns c =
-  keyed-told _ _ c.args.w c.requires.0 c.requires.1 c.if-size-eq0.false (search rules) c.if-s-from-eq0.false c.requires.2
+    keyed-told _ _ c.args.w c.requires.0 c.requires.1 c.if-size-eq0.false (search rules) c.if-s-from-eq0.false c.requires.2

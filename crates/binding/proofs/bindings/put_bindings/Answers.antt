@@ -31,4 +31,4 @@ slice_bounds-put_all-end-3 c = let a = c.requires.0 in let b = c.requires.1 in o
 
 pub returns : goal.returns
 returns c =
-  Wh.bound-put _ _ _ _ _ _ _ _ _ _ _ _ c.put_all-a.ensures c.put_repeated-b.ensures c.put_all-c.ensures c.put_values-d.ensures c.put_all.ensures
+    Wh.bound-put _ _ _ _ _ _ _ _ _ _ _ _ c.put_all-a.ensures c.put_repeated-b.ensures c.put_all-c.ensures c.put_values-d.ensures c.put_all.ensures

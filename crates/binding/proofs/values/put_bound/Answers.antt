@@ -14,27 +14,27 @@ field_at-field-requires c = (c.requires.1, c.loop-next.invariant.1)
 
 pub slice_bounds-position_of-count : goal.slice_bounds-position_of-count
 slice_bounds-position_of-count c =
-  let h = c.field_at-field.ensures.high in let w = c.field_at-field.ensures.low in let v = c.field_at-field.ensures.last in let u = c.field_at-field.ensures.more c.loop-next-test.true in let z = c.field_at-field.ensures.after in omega arith
+    let h = c.field_at-field.ensures.high in let w = c.field_at-field.ensures.low in let v = c.field_at-field.ensures.last in let u = c.field_at-field.ensures.more c.loop-next-test.true in let z = c.field_at-field.ensures.after in omega arith
 
 pub slice_bounds-position_of-start : goal.slice_bounds-position_of-start
 slice_bounds-position_of-start c =
-  let h = c.field_at-field.ensures.high in let w = c.field_at-field.ensures.low in let v = c.field_at-field.ensures.last in let u = c.field_at-field.ensures.more c.loop-next-test.true in let z = c.field_at-field.ensures.after in omega arith
+    let h = c.field_at-field.ensures.high in let w = c.field_at-field.ensures.low in let v = c.field_at-field.ensures.last in let u = c.field_at-field.ensures.more c.loop-next-test.true in let z = c.field_at-field.ensures.after in omega arith
 
 pub slice_bounds-position_of-end : goal.slice_bounds-position_of-end
 slice_bounds-position_of-end c =
-  let h = c.field_at-field.ensures.high in let w = c.field_at-field.ensures.low in let v = c.field_at-field.ensures.last in let u = c.field_at-field.ensures.more c.loop-next-test.true in let z = c.field_at-field.ensures.after in omega arith
+    let h = c.field_at-field.ensures.high in let w = c.field_at-field.ensures.low in let v = c.field_at-field.ensures.last in let u = c.field_at-field.ensures.more c.loop-next-test.true in let z = c.field_at-field.ensures.after in omega arith
 
 pub loop-next-smaller : goal.loop-next-smaller
 loop-next-smaller c =
-  let h = c.field_at-field.ensures.high in let w = c.field_at-field.ensures.low in let v = c.field_at-field.ensures.last in let u = c.field_at-field.ensures.more c.loop-next-test.true in let z = c.field_at-field.ensures.after in omega arith
+    let h = c.field_at-field.ensures.high in let w = c.field_at-field.ensures.low in let v = c.field_at-field.ensures.last in let u = c.field_at-field.ensures.more c.loop-next-test.true in let z = c.field_at-field.ensures.after in omega arith
 
 pub loop-next-preserved : goal.loop-next-preserved
 loop-next-preserved c =
-  (search rules, c.field_at-field.ensures.last, Vd.bound-next (names_in c.args.tree.now c.args.columns.now c.args.n) _ _ _ c.loop-next-test.true _ c.field_at-field.ensures _ c.position_of.ensures.0 _ c.column_at.ensures _ _ _ c.put-to.ensures c.put_all-to.ensures ∙ c.loop-next.invariant.2)
+    (search rules, c.field_at-field.ensures.last, Vd.bound-next (names_in c.args.tree.now c.args.columns.now c.args.n) _ _ _ c.loop-next-test.true _ c.field_at-field.ensures _ c.position_of.ensures.0 _ c.column_at.ensures _ _ _ c.put-to.ensures c.put_all-to.ensures ∙ c.loop-next.invariant.2)
 
 pub shape_of-out : goal.shape_of-out
 shape_of-out c = c.loop-next.invariant.0
 
 pub returns : goal.returns
 returns c =
-  sym (Vd.bound-done (names_in c.args.tree.now c.args.columns.now c.args.n) _ _ _ c.loop-next-test.false _) ∙ c.loop-next.invariant.2
+    sym (Vd.bound-done (names_in c.args.tree.now c.args.columns.now c.args.n) _ _ _ c.loop-next-test.false _) ∙ c.loop-next.invariant.2

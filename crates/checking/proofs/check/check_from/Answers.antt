@@ -17,7 +17,7 @@ returns-then-lacks_head c = R.reads_none _ _ _ _ _ _ _ _ _ _ (sym c.lacks_head.e
 
 pub check_entry-requires : goal.check_entry-requires
 check_entry-requires c =
-  (R.part-known c.args.head c.args.sort _ c.part_sort.ensures c.requires.known, D.ready_moved _ _ _ (D.other-cursor c.args.p _ (ap (λ k. k.at) c.moved_to-cursor.ensures ∙ c.requires.at)) (record { short = c.requires.short; few = c.requires.few c.if-p-ne0.false; going = c.if-p-ne0.false }), c.requires.worded)
+    (R.part-known c.args.head c.args.sort _ c.part_sort.ensures c.requires.known, D.ready_moved _ _ _ (D.other-cursor c.args.p _ (ap (λ k. k.at) c.moved_to-cursor.ensures ∙ c.requires.at)) (record { short = c.requires.short; few = c.requires.few c.if-p-ne0.false; going = c.if-p-ne0.false }), c.requires.worded)
 
 pub returns : goal.returns
 returns c = let p = c.args.p in let at = ap (λ k. k.at) c.moved_to-cursor.ensures ∙ c.requires.at in let e = c.check_entry.ensures in

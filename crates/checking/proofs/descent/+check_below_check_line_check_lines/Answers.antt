@@ -24,7 +24,7 @@ use Rattle.checking.proofs.descent.+check_below_check_line_check_lines.Goals as 
 
 pub check_below-loop-code-init : goal.check_below-loop-code-init
 check_below-loop-code-init t c =
-  (c.requires.3, omega arith, refl, refl, G.left-begin _ c.args.level c.args.t.first c.args.t.second c.args.t.row.flag c.args.mark c.args.t.row.below _ _ _ _ _ _ _ c.requires.3.going c.requires.0)
+    (c.requires.3, omega arith, refl, refl, G.left-begin _ c.args.level c.args.t.first c.args.t.second c.args.t.row.flag c.args.mark c.args.t.row.below _ _ _ _ _ _ _ c.requires.3.going c.requires.0)
 
 pub check_below-amount-times-requires : goal.check_below-amount-times-requires
 check_below-amount-times-requires t c = (c.requires.1, c.requires.2)
@@ -34,7 +34,7 @@ check_below-overflow_cast-code t c = omega arith
 
 pub check_below-check_lines-q-requires : goal.check_below-check_lines-q-requires
 check_below-check_lines-q-requires t c =
-  let y = ap (λ k. k.at) c.awaiting-cursor.ensures in (let p = c.decreases in let x = c.loop-code.invariant.1 in omega (arith, p, x, y), (G.left-sort _ _ _ _ _ _ _ _ _ _ _ _ _ _ _ _ _ _ _ _ _ c.loop-code.invariant.4 c.loop-code-test.true, D.ready_moved _ _ _ (D.other-cursor c.loop-code.q _ y) c.loop-code.invariant.0, c.requires.4))
+    let y = ap (λ k. k.at) c.awaiting-cursor.ensures in (let p = c.decreases in let x = c.loop-code.invariant.1 in omega (arith, p, x, y), (G.left-sort _ _ _ _ _ _ _ _ _ _ _ _ _ _ _ _ _ _ _ _ _ c.loop-code.invariant.4 c.loop-code-test.true, D.ready_moved _ _ _ (D.other-cursor c.loop-code.q _ y) c.loop-code.invariant.0, c.requires.4))
 
 pub check_below-shape_of-spots-then-q-ne0 : goal.check_below-shape_of-spots-then-q-ne0
 check_below-shape_of-spots-then-q-ne0 t c = c.check_lines-q.auto.spots ∙ c.loop-code.invariant.2
@@ -44,7 +44,7 @@ check_below-shape_of-nodes-then-q-ne0 t c = c.check_lines-q.auto.nodes ∙ c.loo
 
 pub check_below-returns-then-q-ne0 : goal.check_below-returns-then-q-ne0
 check_below-returns-then-q-ne0 t c =
-  let y = c.awaiting-cursor.ensures in record { runs = G.left-stop _ _ _ _ _ _ _ _ _ _ _ _ _ _ _ _ _ _ _ _ _ c.loop-code.invariant.4 c.loop-code-test.true c.loop-code.invariant.0.going _ (ap (λ k. k.awaited) y ∙ c.amount-times.ensures) _ _ _ _ (D.goes_moved _ _ _ _ c.loop-code.q _ _ _ _ (replicate c.awaiting-cursor.result.awaited (want (sort_at (c.loop-code.code / 32 % 16)) c.args.level c.args.t.first)) _ (D.other-cursor c.loop-code.q _ (ap (λ k. k.at) y)) (c.check_lines-q.ensures.runs refl)) c.if-q-ne0.true; ready = λ z. absurd (c.if-q-ne0.true z); walks = λ z. absurd (c.if-q-ne0.true z) }
+    let y = c.awaiting-cursor.ensures in record { runs = G.left-stop _ _ _ _ _ _ _ _ _ _ _ _ _ _ _ _ _ _ _ _ _ c.loop-code.invariant.4 c.loop-code-test.true c.loop-code.invariant.0.going _ (ap (λ k. k.awaited) y ∙ c.amount-times.ensures) _ _ _ _ (D.goes_moved _ _ _ _ c.loop-code.q _ _ _ _ (replicate c.awaiting-cursor.result.awaited (want (sort_at (c.loop-code.code / 32 % 16)) c.args.level c.args.t.first)) _ (D.other-cursor c.loop-code.q _ (ap (λ k. k.at) y)) (c.check_lines-q.ensures.runs refl)) c.if-q-ne0.true; ready = λ z. absurd (c.if-q-ne0.true z); walks = λ z. absurd (c.if-q-ne0.true z) }
 
 pub check_below-loop-code-smaller : goal.check_below-loop-code-smaller
 check_below-loop-code-smaller t c = let z = c.loop-code-test.true in omega (arith, z)
@@ -69,29 +69,29 @@ check_below-shape_of-nodes t c = c.loop-code.invariant.3
 
 pub check_below-returns : goal.check_below-returns
 check_below-returns t c =
-  let v = c.loop-code.invariant in record { runs = G.left-went _ _ _ _ _ _ _ _ _ _ _ _ _ _ _ _ _ _ _ _ _ v.4 c.loop-code-test.false; ready = λ z. (v.1, v.0); walks = λ z low. G.left-walked _ _ _ _ _ _ _ _ _ _ _ _ _ _ _ _ _ _ _ _ _ v.4 c.loop-code-test.false low }
+    let v = c.loop-code.invariant in record { runs = G.left-went _ _ _ _ _ _ _ _ _ _ _ _ _ _ _ _ _ _ _ _ _ v.4 c.loop-code-test.false; ready = λ z. (v.1, v.0); walks = λ z low. G.left-walked _ _ _ _ _ _ _ _ _ _ _ _ _ _ _ _ _ _ _ _ _ v.4 c.loop-code-test.false low }
 
 pub check_line-take_line-t-requires : goal.check_line-take_line-t-requires
 check_line-take_line-t-requires t c = c.requires
 
 pub check_line-returns-then-q-ne0 : goal.check_line-returns-then-q-ne0
 check_line-returns-then-q-ne0 t c =
-  let n = c.if-q-ne0.true in let e = c.take_line-t.ensures in record { runs = λ w ρ ws m st. D.went-stop _ ρ _ _ _ _ ws _ _ (e.runs ρ ws m st) n; ready = λ z. absurd (n z); walks = λ w z. absurd (n z); deep = λ z. absurd (n z); head = λ w h ρ ws m st. D.went-stop _ ρ _ _ _ _ _ _ _ (e.runs ρ ws m st) n; shown = λ w h v z. absurd (n z) }
+    let n = c.if-q-ne0.true in let e = c.take_line-t.ensures in record { runs = λ w ρ ws m st. D.went-stop _ ρ _ _ _ _ ws _ _ (e.runs ρ ws m st) n; ready = λ z. absurd (n z); walks = λ w z. absurd (n z); deep = λ z. absurd (n z); head = λ w h ρ ws m st. D.went-stop _ ρ _ _ _ _ _ _ _ (e.runs ρ ws m st) n; shown = λ w h v z. absurd (n z) }
 
 pub check_line-returns-then-not-whole : goal.check_line-returns-then-not-whole
 check_line-returns-then-not-whole t c =
-  let n = not-true c.args.whole c.if-not-whole.true-raw in let t = c.take_line-t.result in let e = c.take_line-t.ensures in record { runs = λ w. absurd (true≢false (sym w ∙ n)); ready = λ z. let k = e.sound z in let b = k.behind in (omega (arith, b), k.ready); walks = λ w. absurd (true≢false (sym w ∙ n)); deep = λ z. (e.sound z).deep; head = λ w h. D.head-goes _ _ _ _ c.args.p _ _ _ (want (sort_at c.args.w.sort) c.args.w.level c.args.w.width ∷ []) (below c.args.w.sort c.args.w.level) t.row t.first t.second _ (λ z. (e.sound z).head h) e.runs; shown = λ w h v z. W.head-alone _ _ _ _ t c.args.w.sort c.args.w.mark h v ((e.sound z).head h) (e.walks z (omega (arith, h))) }
+    let n = not-true c.args.whole c.if-not-whole.true-raw in let t = c.take_line-t.result in let e = c.take_line-t.ensures in record { runs = λ w. absurd (true≢false (sym w ∙ n)); ready = λ z. let k = e.sound z in let b = k.behind in (omega (arith, b), k.ready); walks = λ w. absurd (true≢false (sym w ∙ n)); deep = λ z. (e.sound z).deep; head = λ w h. D.head-goes _ _ _ _ c.args.p _ _ _ (want (sort_at c.args.w.sort) c.args.w.level c.args.w.width ∷ []) (below c.args.w.sort c.args.w.level) t.row t.first t.second _ (λ z. (e.sound z).head h) e.runs; shown = λ w h v z. W.head-alone _ _ _ _ t c.args.w.sort c.args.w.mark h v ((e.sound z).head h) (e.walks z (omega (arith, h))) }
 
 pub check_line-returns-then-t-eq0 : goal.check_line-returns-then-t-eq0
 check_line-returns-then-t-eq0 t c =
-  let t = c.take_line-t.result in let e = c.take_line-t.ensures in let a = not-false c.args.whole c.if-not-whole.false-raw in record { runs = λ w ρ ws m st. D.alone-went _ ρ ws _ t.row.below (below c.args.w.sort c.args.w.level) t.first t.second _ _ _ _ c.if-t-eq0.true (e.runs ρ ws m st); ready = λ z. let k = e.sound z in let b = k.behind in (omega (arith, b), k.ready); walks = λ w z low. W.entry-alone _ _ _ _ c.args.w.level c.args.w.sort c.args.w.mark t (e.walks z low) c.if-t-eq0.true; deep = λ z. (e.sound z).deep; head = λ w. absurd (true≢false (sym a ∙ w)); shown = λ w. absurd (true≢false (sym a ∙ w)) }
+    let t = c.take_line-t.result in let e = c.take_line-t.ensures in let a = not-false c.args.whole c.if-not-whole.false-raw in record { runs = λ w ρ ws m st. D.alone-went _ ρ ws _ t.row.below (below c.args.w.sort c.args.w.level) t.first t.second _ _ _ _ c.if-t-eq0.true (e.runs ρ ws m st); ready = λ z. let k = e.sound z in let b = k.behind in (omega (arith, b), k.ready); walks = λ w z low. W.entry-alone _ _ _ _ c.args.w.level c.args.w.sort c.args.w.mark t (e.walks z low) c.if-t-eq0.true; deep = λ z. (e.sound z).deep; head = λ w. absurd (true≢false (sym a ∙ w)); shown = λ w. absurd (true≢false (sym a ∙ w)) }
 
 pub check_line-below_level-d-requires : goal.check_line-below_level-d-requires
 check_line-below_level-d-requires t c = c.requires.0
 
 pub check_line-check_below-requires : goal.check_line-check_below-requires
 check_line-check_below-requires t c =
-  let k = c.take_line-t.ensures.sound c.if-q-ne0.false in (let p = c.decreases in let i = k.inside in let b = k.behind in omega (arith, p, i, b), (k.sorts, k.small.0, k.small.1, k.ready, c.requires.2))
+    let k = c.take_line-t.ensures.sound c.if-q-ne0.false in (let p = c.decreases in let i = k.inside in let b = k.behind in omega (arith, p, i, b), (k.sorts, k.small.0, k.small.1, k.ready, c.requires.2))
 
 pub check_line-returns : goal.check_line-returns
 check_line-returns t c = let t = c.take_line-t.result in
@@ -101,20 +101,20 @@ check_line-returns t c = let t = c.take_line-t.result in
 
 pub check_lines-loop-q-init : goal.check_lines-loop-q-init
 check_lines-loop-q-init t c = (
-      c.requires.1,
-      omega arith,
-      (λ wh. D.rest-begin _ _ _ _ _ (replicate c.args.p.cursor.awaited (want (sort_at c.args.w.sort) c.args.w.level c.args.w.width)) c.requires.1.going),
-      refl,
-      refl,
-      (λ wh low. W.left-begin _ _ _ (child spot_line (tree spot_line c.args.w.level) (eqb c.args.flag 1) (mark_at c.args.w.mark) (sort_at c.args.w.sort)) c.args.p.cursor.awaited),
-      omega arith,
-      (λ lt. absurd (omega (arith, lt))),
-      λ e. O.sole-begin _ _ _ _ _ c.args.p c.args.w.sort c.args.w.level c.args.w.width (eqb c.args.flag 1) (mark_at c.args.w.mark) c.args.whole c.args.p.cursor.awaited c.requires.1.going e,
-    )
+  c.requires.1,
+  omega arith,
+  (λ wh. D.rest-begin _ _ _ _ _ (replicate c.args.p.cursor.awaited (want (sort_at c.args.w.sort) c.args.w.level c.args.w.width)) c.requires.1.going),
+  refl,
+  refl,
+  (λ wh low. W.left-begin _ _ _ (child spot_line (tree spot_line c.args.w.level) (eqb c.args.flag 1) (mark_at c.args.w.mark) (sort_at c.args.w.sort)) c.args.p.cursor.awaited),
+  omega arith,
+  (λ lt. absurd (omega (arith, lt))),
+  λ e. O.sole-begin _ _ _ _ _ c.args.p c.args.w.sort c.args.w.level c.args.w.width (eqb c.args.flag 1) (mark_at c.args.w.mark) c.args.whole c.args.p.cursor.awaited c.requires.1.going e,
+)
 
 pub check_lines-check_line-q-requires : goal.check_lines-check_line-q-requires
 check_lines-check_line-q-requires t c =
-  (let p = c.decreases in let x = c.loop-q.invariant.1 in omega (arith, p, x), (c.requires.0, c.loop-q.invariant.0, c.requires.2))
+    (let p = c.decreases in let x = c.loop-q.invariant.1 in omega (arith, p, x), (c.requires.0, c.loop-q.invariant.0, c.requires.2))
 
 pub check_lines-shape_of-spots-then-q-ne0 : goal.check_lines-shape_of-spots-then-q-ne0
 check_lines-shape_of-spots-then-q-ne0 t c = c.check_line-q.auto.spots ∙ c.loop-q.invariant.3
@@ -124,14 +124,14 @@ check_lines-shape_of-nodes-then-q-ne0 t c = c.check_line-q.auto.nodes ∙ c.loop
 
 pub check_lines-returns-then-q-ne0 : goal.check_lines-returns-then-q-ne0
 check_lines-returns-then-q-ne0 t c =
-  let n = c.if-q-ne0.true in let v = c.loop-q.invariant in let e = c.check_line-q.ensures in record { runs = (λ wh. D.lines-stop _ _ _ _ _ _ _ _ (want (sort_at c.args.w.sort) c.args.w.level c.args.w.width) c.args.p.cursor.awaited _ _ (v.2 wh) v.0.going c.loop-q-test.true _ _ _ _ (e.runs wh) n); ready = (λ z. absurd (n z)); walks = (λ wh z. absurd (n z)); one = (λ o wh z. absurd (n z)); head = (λ o w h. O.sole-head _ _ _ _ _ c.args.p c.args.w.sort c.args.w.level c.args.w.width (eqb c.args.flag 1) (mark_at c.args.w.mark) c.args.whole _ _ _ _ _ _ c.args.p.cursor.awaited v.8 v.0.going c.loop-q-test.true v.6 _ _ _ (book_at [] [] [] [] [] c.args.p) _ o w h e.head); shown = λ o w h g z. absurd (n z) }
+    let n = c.if-q-ne0.true in let v = c.loop-q.invariant in let e = c.check_line-q.ensures in record { runs = (λ wh. D.lines-stop _ _ _ _ _ _ _ _ (want (sort_at c.args.w.sort) c.args.w.level c.args.w.width) c.args.p.cursor.awaited _ _ (v.2 wh) v.0.going c.loop-q-test.true _ _ _ _ (e.runs wh) n); ready = (λ z. absurd (n z)); walks = (λ wh z. absurd (n z)); one = (λ o wh z. absurd (n z)); head = (λ o w h. O.sole-head _ _ _ _ _ c.args.p c.args.w.sort c.args.w.level c.args.w.width (eqb c.args.flag 1) (mark_at c.args.w.mark) c.args.whole _ _ _ _ _ _ c.args.p.cursor.awaited v.8 v.0.going c.loop-q-test.true v.6 _ _ _ (book_at [] [] [] [] [] c.args.p) _ o w h e.head); shown = λ o w h g z. absurd (n z) }
 
 pub check_lines-child_done-cursor-requires : goal.check_lines-child_done-cursor-requires
 check_lines-child_done-cursor-requires t c = c.loop-q-test.true
 
 pub check_lines-loop-q-smaller : goal.check_lines-loop-q-smaller
 check_lines-loop-q-smaller t c =
-  let a = c.loop-q-test.true in let d = ap (λ k. k.awaited) c.child_done-cursor.ensures in omega (arith, a, d)
+    let a = c.loop-q-test.true in let d = ap (λ k. k.awaited) c.child_done-cursor.ensures in omega (arith, a, d)
 
 pub check_lines-loop-q-preserved : goal.check_lines-loop-q-preserved
 check_lines-loop-q-preserved t c = let e = c.check_line-q.ensures in
@@ -161,4 +161,4 @@ check_lines-shape_of-nodes t c = c.loop-q.invariant.4
 
 pub check_lines-returns : goal.check_lines-returns
 check_lines-returns t c =
-  let v = c.loop-q.invariant in let l = c.loop-q-test.false in record { runs = (λ wh. D.lines-all _ _ _ _ _ _ _ _ (want (sort_at c.args.w.sort) c.args.w.level c.args.w.width) c.args.p.cursor.awaited _ _ (v.2 wh) l); ready = (λ z. (v.1, v.0, λ some. v.7 (omega (arith, some, l)))); walks = (λ wh z low. W.left-done _ _ _ _ _ (child spot_line (tree spot_line c.args.w.level) (eqb c.args.flag 1) (mark_at c.args.w.mark) (sort_at c.args.w.sort)) c.args.p.cursor.awaited c.loop-q.q.cursor.awaited (v.5 wh low) l); one = (λ o wh z low. (v.8 o).entry (omega (arith, l)) wh low); head = (λ o w h. (v.8 o).head (omega (arith, l)) w h); shown = λ o w h g z. (v.8 o).shown (omega (arith, l)) w h g }
+    let v = c.loop-q.invariant in let l = c.loop-q-test.false in record { runs = (λ wh. D.lines-all _ _ _ _ _ _ _ _ (want (sort_at c.args.w.sort) c.args.w.level c.args.w.width) c.args.p.cursor.awaited _ _ (v.2 wh) l); ready = (λ z. (v.1, v.0, λ some. v.7 (omega (arith, some, l)))); walks = (λ wh z low. W.left-done _ _ _ _ _ (child spot_line (tree spot_line c.args.w.level) (eqb c.args.flag 1) (mark_at c.args.w.mark) (sort_at c.args.w.sort)) c.args.p.cursor.awaited c.loop-q.q.cursor.awaited (v.5 wh low) l); one = (λ o wh z low. (v.8 o).entry (omega (arith, l)) wh low); head = (λ o w h. (v.8 o).head (omega (arith, l)) w h); shown = λ o w h g z. (v.8 o).shown (omega (arith, l)) w h g }

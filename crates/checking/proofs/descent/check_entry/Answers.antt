@@ -11,7 +11,7 @@ use Rattle.checking.proofs.descent.check_entry.Goals as goal
 
 pub check_lines-requires : goal.check_lines-requires
 check_lines-requires c =
-  (c.requires.0, D.ready_moved _ _ _ (D.other-cursor c.args.p _ (ap (λ k. k.at) c.awaiting-cursor.ensures)) c.requires.1, c.requires.2)
+    (c.requires.0, D.ready_moved _ _ _ (D.other-cursor c.args.p _ (ap (λ k. k.at) c.awaiting-cursor.ensures)) c.requires.1, c.requires.2)
 
 pub returns : goal.returns
 returns c = let e = c.check_lines.ensures in

@@ -14,12 +14,12 @@ returns-then-flag-ne1 c = W.mark-shown c.args.sort c.args.flag c.args.mark c.arg
 
 pub returns-then-not-last : goal.returns-then-not-last
 returns-then-not-last c =
-  W.mark-first c.args.sort c.args.flag c.args.mark c.args.last c.if-sort-ne2.false c.if-flag-ne1.false (not-true c.args.last c.if-not-last.true-raw)
+    W.mark-first c.args.sort c.args.flag c.args.mark c.args.last c.if-sort-ne2.false c.if-flag-ne1.false (not-true c.args.last c.if-not-last.true-raw)
 
 pub returns-then-mark-eq0 : goal.returns-then-mark-eq0
 returns-then-mark-eq0 c =
-  W.mark-last c.args.sort c.args.flag c.args.mark c.args.last c.if-sort-ne2.false c.if-flag-ne1.false (not-false c.args.last c.if-not-last.false-raw) c.if-mark-eq0.true
+    W.mark-last c.args.sort c.args.flag c.args.mark c.args.last c.if-sort-ne2.false c.if-flag-ne1.false (not-false c.args.last c.if-not-last.false-raw) c.if-mark-eq0.true
 
 pub returns : goal.returns
 returns c =
-  W.mark-under c.args.sort c.args.flag c.args.mark c.args.last c.if-sort-ne2.false c.if-flag-ne1.false (not-false c.args.last c.if-not-last.false-raw) c.if-mark-eq0.false
+    W.mark-under c.args.sort c.args.flag c.args.mark c.args.last c.if-sort-ne2.false c.if-flag-ne1.false (not-false c.args.last c.if-not-last.false-raw) c.if-mark-eq0.false

@@ -10,14 +10,14 @@ use Rattle.columns.proofs.columns.goes.Goals as goal
 
 pub returns-then-constant : goal.returns-then-constant
 returns-then-constant c =
-  L.goes-constant c.args.constant (mem (new_in c.args.text.now c.args.table.now c.args.news.now c.args.entry) (picked 1 (mask_value c.args.marks) (columns_of c.args.other.now c.args.other_table.now c.args.other_news.now c.args.other_spots.now c.args.other_columns))) c.if-constant.true
+    L.goes-constant c.args.constant (mem (new_in c.args.text.now c.args.table.now c.args.news.now c.args.entry) (picked 1 (mask_value c.args.marks) (columns_of c.args.other.now c.args.other_table.now c.args.other_news.now c.args.other_spots.now c.args.other_columns))) c.if-constant.true
 
 pub is_marked-requires : goal.is_marked-requires
 is_marked-requires c = c.requires.1
 
 pub returns-then-e-eq0 : goal.returns-then-e-eq0
 returns-then-e-eq0 c =
-  L.goes-joined c.args.constant _ _ _ _ c.if-constant.false c.is_marked.ensures (N.new-stays c.args.text.now c.args.table.now c.args.news.now c.args.entry c.if-e-eq0.true _ _ _ c.wide.ensures c.wide-then-e-eq0.ensures c.piece.ensures)
+    L.goes-joined c.args.constant _ _ _ _ c.if-constant.false c.is_marked.ensures (N.new-stays c.args.text.now c.args.table.now c.args.news.now c.args.entry c.if-e-eq0.true _ _ _ c.wide.ensures c.wide-then-e-eq0.ensures c.piece.ensures)
 
 pub slice_bounds-room-end : goal.slice_bounds-room-end
 slice_bounds-room-end c = let z = c.put_name-size.ensures.short in omega arith
@@ -30,4 +30,4 @@ is_marked-requires-2 c = c.requires.1
 
 pub returns : goal.returns
 returns c =
-  let n = c.put_name-size in L.goes-joined c.args.constant _ _ _ _ c.if-constant.false c.is_marked-2.ensures (N.new-named c.args.text.now c.args.table.now c.args.news.now c.args.entry c.if-e-eq0.false ∙ sym (N.room-is _ _ _ _ _ refl n.ensures.short n.ensures.out_after))
+    let n = c.put_name-size in L.goes-joined c.args.constant _ _ _ _ c.if-constant.false c.is_marked-2.ensures (N.new-named c.args.text.now c.args.table.now c.args.news.now c.args.entry c.if-e-eq0.false ∙ sym (N.room-is _ _ _ _ _ refl n.ensures.short n.ensures.out_after))

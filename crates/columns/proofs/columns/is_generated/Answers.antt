@@ -13,4 +13,4 @@ slice_bounds-equal-end c = N.room-long _ _ _ c.put_name-size.auto.out refl c.put
 
 pub returns : goal.returns
 returns c =
-  c.equal.ensures ∙ ap (same _) (N.room-is _ _ _ _ _ refl c.put_name-size.ensures.short c.put_name-size.ensures.out_after)
+    c.equal.ensures ∙ ap (same _) (N.room-is _ _ _ _ _ refl c.put_name-size.ensures.short c.put_name-size.ensures.out_after)

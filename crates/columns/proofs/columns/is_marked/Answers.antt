@@ -38,7 +38,7 @@ is_column-requires c = let e = c.requires.each _ c.loop-i-test.true in let w = c
 pub returns-then-is_column : goal.returns-then-is_column
 unfolding mem
 returns-then-is_column c =
-  L.marked-here _ _ _ _ _ (N.columns-left _ c.args.spots.now _ c.requires.many _ c.loop-i-test.true) _ c.bit_at-marked.ensures _ _ (rw (← c.wide.ensures) c.is_column.ensures) c.if-is_column.true ∙ c.loop-i.invariant.1
+    L.marked-here _ _ _ _ _ (N.columns-left _ c.args.spots.now _ c.requires.many _ c.loop-i-test.true) _ c.bit_at-marked.ensures _ _ (rw (← c.wide.ensures) c.is_column.ensures) c.if-is_column.true ∙ c.loop-i.invariant.1
 
 pub overflow_add-i : goal.overflow_add-i
 unfolding mem
@@ -51,9 +51,9 @@ loop-i-smaller c = search rules
 pub loop-i-preserved : goal.loop-i-preserved
 unfolding mem
 loop-i-preserved c =
-  (omega arith, L.marked_next _ _ _ _ _ (N.columns-left _ c.args.spots.now _ c.requires.many _ c.loop-i-test.true) _ c.bit_at-marked.ensures _ _ (rw (← c.wide.ensures) c.is_column.ensures) c.if-is_column.false ∙ c.loop-i.invariant.1)
+    (omega arith, L.marked_next _ _ _ _ _ (N.columns-left _ c.args.spots.now _ c.requires.many _ c.loop-i-test.true) _ c.bit_at-marked.ensures _ _ (rw (← c.wide.ensures) c.is_column.ensures) c.if-is_column.false ∙ c.loop-i.invariant.1)
 
 pub returns : goal.returns
 unfolding mem
 returns c =
-  ap (mem _) (sym (L.picked_none _ _ _ (N.columns-over _ c.args.spots.now _ c.requires.many _ c.loop-i-test.false))) ∙ c.loop-i.invariant.1
+    ap (mem _) (sym (L.picked_none _ _ _ (N.columns-over _ c.args.spots.now _ c.requires.many _ c.loop-i-test.false))) ∙ c.loop-i.invariant.1

@@ -8,4 +8,4 @@ returns-then-not-second c = Q.first-position _ _ _ _ c.args.second c.if-not-seco
 
 pub returns : goal.returns
 returns c =
-  Q.second-position _ _ _ _ c.args.second c.if-not-second.false-raw (W.second-number _ _ _ _ _ c.count_at-a.ensures.1 c.count_at-b.ensures.0)
+    Q.second-position _ _ _ _ c.args.second c.if-not-second.false-raw (W.second-number _ _ _ _ _ c.count_at-a.ensures.1 c.count_at-b.ensures.0)

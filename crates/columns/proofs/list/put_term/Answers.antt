@@ -7,4 +7,4 @@ returns-then-m-k c = λ xs second at₀ k. Q.term-none _ _ _ _ _ _ _ k _ c.if-m-
 
 pub returns : goal.returns
 returns c =
-  λ xs second at₀ k. Q.term-put _ _ _ _ _ _ _ k _ _ _ _ _ c.if-m-k.false c.wide.ensures c.second_field.ensures c.put-a.ensures c.put_all.ensures
+    λ xs second at₀ k. Q.term-put _ _ _ _ _ _ _ k _ _ _ _ _ c.if-m-k.false c.wide.ensures c.second_field.ensures c.put-a.ensures c.put_all.ensures

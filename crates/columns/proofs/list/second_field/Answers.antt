@@ -11,11 +11,11 @@ field_end-tab-requires c = (Q.field-low _ _ _ c.line_end-end.ensures c.if-end-li
 
 pub returns-then-tab-end : goal.returns-then-tab-end
 returns-then-tab-end c =
-  λ f g ls h. Q.second_none _ _ _ c.line_end-end.ensures c.if-end-list.false f g ls h _ c.field_end-tab.ensures _ c.if-tab-end.true
+    λ f g ls h. Q.second_none _ _ _ c.line_end-end.ensures c.if-end-list.false f g ls h _ c.field_end-tab.ensures _ c.if-tab-end.true
 
 pub overflow_add-next : goal.overflow_add-next
 overflow_add-next c = let h = c.field_end-tab.ensures.high in let l = c.line_end-end.ensures.high in omega arith
 
 pub returns : goal.returns
 returns c =
-  λ f g ls h. Q.second_is _ _ _ c.line_end-end.ensures c.if-end-list.false f g ls h _ c.field_end-tab.ensures c.if-tab-end.false
+    λ f g ls h. Q.second_is _ _ _ c.line_end-end.ensures c.if-end-list.false f g ls h _ c.field_end-tab.ensures c.if-tab-end.false

@@ -21,7 +21,7 @@ rename_below-loop-groups-smaller t c = let z = c.loop-groups-test.true in omega 
 
 pub rename_below-loop-groups-preserved : goal.rename_below-loop-groups-preserved
 rename_below-loop-groups-preserved t c =
-  L.groups-next _ _ c.loop-groups.invariant _ _ c.loop-groups-test.true refl c.amount-times.ensures c.rename_group-r.ensures
+    L.groups-next _ _ c.loop-groups.invariant _ _ c.loop-groups-test.true refl c.amount-times.ensures c.rename_group-r.ensures
 
 pub rename_below-shape_of-spots : goal.rename_below-shape_of-spots
 rename_below-shape_of-spots t c = c.loop-groups.invariant.went.all.all.long
@@ -55,25 +55,25 @@ rename_child-shape_of-spots t c = c.rename_part.ensures.went.all.all.long
 
 pub rename_child-returns : goal.rename_child-returns
 rename_child-returns t c =
-  L.turned (N.child-part _ _ c.args.sort c.requires.2 c.if-sort-eq2.false c.if-sort-eq3.false) c.rename_part.ensures
+    L.turned (N.child-part _ _ c.args.sort c.requires.2 c.if-sort-eq2.false c.if-sort-eq3.false) c.rename_part.ensures
 
 pub rename_group-returns-then-not-is_noted : goal.rename_group-returns-then-not-is_noted
 rename_group-returns-then-not-is_noted t c =
-  L.nothing _ (N.group-none _ c.args.sort c.args.times _ _ c.is_noted.ensures c.if-not-is_noted.true-raw) c.requires.0
+    L.nothing _ (N.group-none _ c.args.sort c.args.times _ _ c.is_noted.ensures c.if-not-is_noted.true-raw) c.requires.0
 
 pub rename_group-loop-rest-init : goal.rename_group-loop-rest-init
 rename_group-loop-rest-init t c = L.times-begin _ _ c.requires.0
 
 pub rename_group-rename_child-r-requires : goal.rename_group-rename_child-r-requires
 rename_group-rename_child-r-requires t c =
-  (let p = c.decreases in omega (arith, p), (L.went-in c.loop-rest.invariant.went, c.requires.1, N.group-noted c.args.sort _ c.is_noted.ensures c.if-not-is_noted.false-raw))
+    (let p = c.decreases in omega (arith, p), (L.went-in c.loop-rest.invariant.went, c.requires.1, N.group-noted c.args.sort _ c.is_noted.ensures c.if-not-is_noted.false-raw))
 
 pub rename_group-loop-rest-smaller : goal.rename_group-loop-rest-smaller
 rename_group-loop-rest-smaller t c = let z = c.loop-rest-test.true in omega (arith, z)
 
 pub rename_group-loop-rest-preserved : goal.rename_group-loop-rest-preserved
 rename_group-loop-rest-preserved t c =
-  L.times-next _ _ c.loop-rest.invariant (let z = c.loop-rest-test.true in omega (arith, z)) c.rename_child-r.ensures
+    L.times-next _ _ c.loop-rest.invariant (let z = c.loop-rest-test.true in omega (arith, z)) c.rename_child-r.ensures
 
 pub rename_group-shape_of-spots : goal.rename_group-shape_of-spots
 rename_group-shape_of-spots t c = c.loop-rest.invariant.went.all.all.long
@@ -95,14 +95,14 @@ rename_in_expression-overflow_sub-depth t c = let z = c.if-depth-eq0.false in om
 
 pub rename_in_expression-rename_in_graph_pattern-requires : goal.rename_in_expression-rename_in_graph_pattern-requires
 rename_in_expression-rename_in_graph_pattern-requires t c =
-  (let z = c.if-depth-eq0.false in let p = c.decreases in omega (arith, p), (L.went-in c.rename_line-h.ensures.went, c.requires.1))
+    (let z = c.if-depth-eq0.false in let p = c.decreases in omega (arith, p), (L.went-in c.rename_line-h.ensures.went, c.requires.1))
 
 pub rename_in_expression-shape_of-spots-then-h-eq2 : goal.rename_in_expression-shape_of-spots-then-h-eq2
 rename_in_expression-shape_of-spots-then-h-eq2 t c = c.rename_in_graph_pattern.ensures.went.all.all.long ∙ c.rename_line-h.ensures.went.all.all.long
 
 pub rename_in_expression-returns-then-h-eq2 : goal.rename_in_expression-returns-then-h-eq2
 rename_in_expression-returns-then-h-eq2 t c =
-  L.exists-line c.if-nodes-i.false c.rename_line-h.ensures.went c.rename_line-h.ensures.head _ c.if-depth-eq0.false c.if-h-eq2.true c.rename_in_graph_pattern.ensures
+    L.exists-line c.if-nodes-i.false c.rename_line-h.ensures.went c.rename_line-h.ensures.head _ c.if-depth-eq0.false c.if-h-eq2.true c.rename_in_graph_pattern.ensures
 
 pub rename_in_expression-amount-left-requires : goal.rename_in_expression-amount-left-requires
 rename_in_expression-amount-left-requires t c = let head = c.rename_line-h.ensures.head in (head.first_small, head.second_small)
@@ -115,21 +115,21 @@ rename_in_expression-overflow_sub-depth-in-loop-left t c = let z = c.if-depth-eq
 
 pub rename_in_expression-rename_in_expression-r-requires : goal.rename_in_expression-rename_in_expression-r-requires
 rename_in_expression-rename_in_expression-r-requires t c =
-  (let z = c.if-depth-eq0.false in let p = c.decreases in omega (arith, p), (L.went-in c.loop-left.invariant.went, c.requires.1))
+    (let z = c.if-depth-eq0.false in let p = c.decreases in omega (arith, p), (L.went-in c.loop-left.invariant.went, c.requires.1))
 
 pub rename_in_expression-loop-left-smaller : goal.rename_in_expression-loop-left-smaller
 rename_in_expression-loop-left-smaller t c = let z = c.loop-left-test.true in omega (arith, z)
 
 pub rename_in_expression-loop-left-preserved : goal.rename_in_expression-loop-left-preserved
 rename_in_expression-loop-left-preserved t c =
-  L.times-next _ _ c.loop-left.invariant (let z = c.loop-left-test.true in omega (arith, z)) c.rename_in_expression-r.ensures
+    L.times-next _ _ c.loop-left.invariant (let z = c.loop-left-test.true in omega (arith, z)) c.rename_in_expression-r.ensures
 
 pub rename_in_expression-shape_of-spots : goal.rename_in_expression-shape_of-spots
 rename_in_expression-shape_of-spots t c = c.loop-left.invariant.went.all.all.long ∙ c.rename_line-h.ensures.went.all.all.long
 
 pub rename_in_expression-returns : goal.rename_in_expression-returns
 rename_in_expression-returns t c =
-  L.expression-line c.if-nodes-i.false c.rename_line-h.ensures.went c.rename_line-h.ensures.head _ _ c.if-depth-eq0.false c.if-h-eq2.false c.amount-left.ensures (L.times-done _ _ c.loop-left.invariant c.loop-left-test.false)
+    L.expression-line c.if-nodes-i.false c.rename_line-h.ensures.went c.rename_line-h.ensures.head _ _ c.if-depth-eq0.false c.if-h-eq2.false c.amount-left.ensures (L.times-done _ _ c.loop-left.invariant c.loop-left-test.false)
 
 pub rename_in_graph_pattern-returns-then-depth-eq0 : goal.rename_in_graph_pattern-returns-then-depth-eq0
 rename_in_graph_pattern-returns-then-depth-eq0 t c = L.stopped _ _ c.if-depth-eq0.true c.requires.0
@@ -145,14 +145,14 @@ rename_in_graph_pattern-overflow_sub-depth t c = let z = c.if-depth-eq0.false in
 
 pub rename_in_graph_pattern-rename_below-requires : goal.rename_in_graph_pattern-rename_below-requires
 rename_in_graph_pattern-rename_below-requires t c =
-  let line = c.rename_line-h.ensures in (let z = c.if-depth-eq0.false in let p = c.decreases in omega (arith, p), (L.went-in line.went, c.requires.1, line.head.small, line.head.first_small, line.head.second_small))
+    let line = c.rename_line-h.ensures in (let z = c.if-depth-eq0.false in let p = c.decreases in omega (arith, p), (L.went-in line.went, c.requires.1, line.head.small, line.head.first_small, line.head.second_small))
 
 pub rename_in_graph_pattern-shape_of-spots : goal.rename_in_graph_pattern-shape_of-spots
 rename_in_graph_pattern-shape_of-spots t c = c.rename_below.ensures.went.all.all.long ∙ c.rename_line-h.ensures.went.all.all.long
 
 pub rename_in_graph_pattern-returns : goal.rename_in_graph_pattern-returns
 rename_in_graph_pattern-returns t c =
-  L.pattern-line c.if-nodes-i.false c.rename_line-h.ensures.went c.rename_line-h.ensures.head _ c.if-depth-eq0.false c.rename_below.ensures
+    L.pattern-line c.if-nodes-i.false c.rename_line-h.ensures.went c.rename_line-h.ensures.head _ c.if-depth-eq0.false c.rename_below.ensures
 
 pub rename_part-returns-then-nodes-i : goal.rename_part-returns-then-nodes-i
 rename_part-returns-then-nodes-i t c = L.part-over _ c.if-nodes-i.true c.requires.0
@@ -168,7 +168,7 @@ rename_part-shape_of-spots-then-amount-eq0 t c = c.rename_line-h.ensures.went.al
 
 pub rename_part-returns-then-amount-eq0 : goal.rename_part-returns-then-amount-eq0
 rename_part-returns-then-amount-eq0 t c =
-  L.part-alone c.if-nodes-i.false c.rename_line-h.ensures.went c.rename_line-h.ensures.head _ _ c.amount.ensures c.if-amount-eq0.true
+    L.part-alone c.if-nodes-i.false c.rename_line-h.ensures.went c.rename_line-h.ensures.head _ _ c.amount.ensures c.if-amount-eq0.true
 
 pub rename_part-rename_in_expression-requires : goal.rename_part-rename_in_expression-requires
 rename_part-rename_in_expression-requires t c = (let p = c.decreases in omega (arith, p), (L.went-in c.rename_line-h.ensures.went, c.requires.1))
@@ -178,4 +178,4 @@ rename_part-shape_of-spots t c = c.rename_in_expression.ensures.went.all.all.lon
 
 pub rename_part-returns : goal.rename_part-returns
 rename_part-returns t c =
-  L.part-line c.if-nodes-i.false c.rename_line-h.ensures.went c.rename_line-h.ensures.head _ _ c.amount.ensures c.if-amount-eq0.false c.rename_in_expression.ensures
+    L.part-line c.if-nodes-i.false c.rename_line-h.ensures.went c.rename_line-h.ensures.head _ _ c.amount.ensures c.if-amount-eq0.false c.rename_in_expression.ensures

@@ -11,4 +11,4 @@ slice_bounds-rename_in_graph_pattern-end-3 c = L.take_long _ _ c.requires.1
 
 pub returns : goal.returns
 returns c =
-  let a = c.args in L.tree-renamed a.words.now a.nodes.now a.m (sizes_of a.news.now) a.spots.now a.k _ _ _ c.requires.2.few c.requires.1 c.requires.2.whole c.requires.2.none c.rename_in_graph_pattern.ensures
+    let a = c.args in L.tree-renamed a.words.now a.nodes.now a.m (sizes_of a.news.now) a.spots.now a.k _ _ _ c.requires.2.few c.requires.1 c.requires.2.whole c.requires.2.none c.rename_in_graph_pattern.ensures

@@ -17,11 +17,11 @@ next_line-requires c = let e = ap at c.moved_to.ensures in omega (arith, e)
 
 pub returns-then-filters-from : goal.returns-then-filters-from
 returns-then-filters-from c =
-  let e = ap at c.moved_to.ensures in let n = c.next_line.ensures.1 in let low = n.low in let high = n.high in X.no_start _ _ _ c.if-filters-from.true (omega (arith, e, low, high))
+    let e = ap at c.moved_to.ensures in let n = c.next_line.ensures.1 in let low = n.low in let high = n.high in X.no_start _ _ _ c.if-filters-from.true (omega (arith, e, low, high))
 
 pub next_line-requires-2 : goal.next_line-requires-2
 next_line-requires-2 c = let e = ap at c.moved_to-2.ensures in let n = c.if-filters-from.false in omega (arith, e, n)
 
 pub returns : goal.returns
 returns c =
-  subst (λ (k : ℕ). LineEnd c.args.filters.now k c.next_line-2.result.end) (ap at c.moved_to-2.ensures) (line-there _ _ _ c.next_line-2.ensures.1)
+    subst (λ (k : ℕ). LineEnd c.args.filters.now k c.next_line-2.result.end) (ap at c.moved_to-2.ensures) (line-there _ _ _ c.next_line-2.ensures.1)

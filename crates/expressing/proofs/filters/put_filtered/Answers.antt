@@ -10,4 +10,4 @@ slice_bounds-put_all-end c = let p = c.requires in let a = p.0 in let b = p.1 in
 
 pub returns : goal.returns
 returns c =
-  Wh.filtered-put _ _ _ _ _ _ _ _ _ _ _ _ c.put_all-a.ensures c.put_all-b.ensures c.put_all-c.ensures c.put_repeated-d.ensures c.put_expressions-e.ensures c.put_all.ensures
+    Wh.filtered-put _ _ _ _ _ _ _ _ _ _ _ _ c.put_all-a.ensures c.put_all-b.ensures c.put_all-c.ensures c.put_repeated-d.ensures c.put_expressions-e.ensures c.put_all.ensures

@@ -5,12 +5,12 @@ use Rattle.expressing.proofs.filters.put_listed.Goals as goal
 
 pub returns-then-out-filtered_size : goal.returns-then-out-filtered_size
 returns-then-out-filtered_size c =
-  let p = c.requires in Wh.listed-short _ _ _ _ _ _ p.0 p.1 p.7 _ c.filtered_size.ensures _ _ _ c.if-out-filtered_size.true
+    let p = c.requires in Wh.listed-short _ _ _ _ _ _ p.0 p.1 p.7 _ c.filtered_size.ensures _ _ _ c.if-out-filtered_size.true
 
 pub returns-then-list-numbers : goal.returns-then-list-numbers
 returns-then-list-numbers c =
-  let p = c.requires in let g = c.well_formed in let n = c.if-out-filtered_size.false in Wh.list-short _ _ _ _ _ _ p.0 p.1 p.7 _ c.filtered_size.ensures _ _ _ (omega (arith, n)) (omega (arith, g)) c.if-list-numbers.true
+    let p = c.requires in let g = c.well_formed in let n = c.if-out-filtered_size.false in Wh.list-short _ _ _ _ _ _ p.0 p.1 p.7 _ c.filtered_size.ensures _ _ _ (omega (arith, n)) (omega (arith, g)) c.if-list-numbers.true
 
 pub returns : goal.returns
 returns c =
-  let p = c.requires in let g = c.well_formed in let n = c.if-out-filtered_size.false in let m = c.if-list-numbers.false in Wh.listed-all _ _ _ _ _ _ p.0 p.1 p.7 _ c.filtered_size.ensures _ _ _ (omega (arith, n)) (omega (arith, g)) (omega (arith, m)) _ _ _ c.put_filtered-put.ensures c.put_numbers.ensures
+    let p = c.requires in let g = c.well_formed in let n = c.if-out-filtered_size.false in let m = c.if-list-numbers.false in Wh.listed-all _ _ _ _ _ _ p.0 p.1 p.7 _ c.filtered_size.ensures _ _ _ (omega (arith, n)) (omega (arith, g)) (omega (arith, m)) _ _ _ c.put_filtered-put.ensures c.put_numbers.ensures

@@ -8,7 +8,7 @@ returns-then-end-filters c = C.not-true-first _ _ _ c.requires c.if-end-filters.
 
 pub is_constant_true-requires : goal.is_constant_true-requires
 is_constant_true-requires c =
-  let l = c.requires in let h = l.high in let n = c.if-end-filters.false in (C.first-low _ _ _ l n, omega (arith, h, n))
+    let l = c.requires in let h = l.high in let n = c.if-end-filters.false in (C.first-low _ _ _ l n, omega (arith, h, n))
 
 pub returns : goal.returns
 returns c = C.true-first _ _ _ c.requires c.if-end-filters.false _ c.is_constant_true.ensures

@@ -12,14 +12,14 @@ overflow_sub-result c = let l = c.loop-i.invariant.low in omega (arith, l)
 
 pub returns-then-filters-from : goal.returns-then-filters-from
 returns-then-filters-from c =
-  let a = c.args in C.going_end _ (names_in a.tree.now a.columns.now a.n) _ _ _ _ _ _ _ c.loop-i.invariant c.if-filters-from.true
+    let a = c.args in C.going_end _ (names_in a.tree.now a.columns.now a.n) _ _ _ _ _ _ _ c.loop-i.invariant c.if-filters-from.true
 
 pub is_true_first-requires : goal.is_true_first-requires
 is_true_first-requires c = c.line_from-line.ensures
 
 pub bounds-starts-many : goal.bounds-starts-many
 bounds-starts-many c =
-  let g = c.loop-i.invariant in let l = g.low in let s = g.starts-long in let t = c.loop-i-test.true in omega (arith, l, s, t)
+    let g = c.loop-i.invariant in let l = g.low in let s = g.starts-long in let t = c.loop-i-test.true in omega (arith, l, s, t)
 
 pub overflow_cast-numbers : goal.overflow_cast-numbers
 overflow_cast-numbers c = let l = c.loop-i.invariant.low in let t = c.loop-i-test.true in omega (arith, l, t)
@@ -29,7 +29,7 @@ overflow_sub-numbers c = let l = c.loop-i.invariant.low in omega (arith, l)
 
 pub bounds-numbers-i : goal.bounds-numbers-i
 bounds-numbers-i c =
-  let g = c.loop-i.invariant in let l = g.low in let s = g.numbers_long in let t = c.loop-i-test.true in omega (arith, l, s, t)
+    let g = c.loop-i.invariant in let l = g.low in let s = g.numbers_long in let t = c.loop-i-test.true in omega (arith, l, s, t)
 
 pub one_more-many-requires : goal.one_more-many-requires
 one_more-many-requires c = let l = c.loop-i.invariant.low in let t = c.loop-i-test.true in omega (arith, l, t)
@@ -49,4 +49,4 @@ overflow_sub-result-2 c = let l = c.loop-i.invariant.low in omega (arith, l)
 
 pub returns : goal.returns
 returns c =
-  let a = c.args in C.going_done _ (names_in a.tree.now a.columns.now a.n) _ _ _ _ _ _ _ c.loop-i.invariant c.loop-i-test.false
+    let a = c.args in C.going_done _ (names_in a.tree.now a.columns.now a.n) _ _ _ _ _ _ _ c.loop-i.invariant c.loop-i-test.false

@@ -17,4 +17,4 @@ shape_of-out c = c.loop-j.invariant.0
 
 pub returns : goal.returns
 returns c =
-  let a = c.args in C.places-done (names_in a.tree.now a.columns.now a.n) _ _ _ _ _ c.loop-j.invariant.1 c.loop-j-test.false
+    let a = c.args in C.places-done (names_in a.tree.now a.columns.now a.n) _ _ _ _ _ c.loop-j.invariant.1 c.loop-j-test.false

@@ -12,4 +12,4 @@ loop-j-preserved c = let i = c.loop-j.invariant in (simp length-set i.0, C.numbe
 
 pub returns : goal.returns
 returns c =
-  let i = c.loop-j.invariant in sym (C.numbers-done _ _ _ c.loop-j-test.false) ∙ i.1 ∙ C.numbers-put c.args.numbers.now c.args.list.now c.requires
+    let i = c.loop-j.invariant in sym (C.numbers-done _ _ _ c.loop-j-test.false) ∙ i.1 ∙ C.numbers-put c.args.numbers.now c.args.list.now c.requires

@@ -6,7 +6,7 @@ use Rattle.joining.proofs.merge.check_lists.Goals as goal
 
 pub returns-in-Good : goal.returns-in-Good
 returns-in-Good c =
-  O.lists-rest _ _ _ _ (K.good-joins _ _ _ _ c.check_joins.ensures.1 c.in-Good.is) c.check_terms.ensures
+    O.lists-rest _ _ _ _ (K.good-joins _ _ _ _ c.check_joins.ensures.1 c.in-Good.is) c.check_terms.ensures
 
 pub returns-in-Malformed : goal.returns-in-Malformed
 returns-in-Malformed c = O.lists-malformed _ _ _ (Said.said-malformed _ _ _ _ c.check_joins.ensures.1 c.in-Malformed.is)

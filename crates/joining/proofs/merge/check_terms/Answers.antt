@@ -6,7 +6,7 @@ use Rattle.joining.proofs.merge.check_terms.Goals as goal
 
 pub returns-in-Good : goal.returns-in-Good
 returns-in-Good c =
-  O.terms-second _ _ _ _ (K.good-terms _ _ _ _ c.check_constants.ensures.1 c.in-Good.is) c.check_constants-in-Good.ensures.1
+    O.terms-second _ _ _ _ (K.good-terms _ _ _ _ c.check_constants.ensures.1 c.in-Good.is) c.check_constants-in-Good.ensures.1
 
 pub returns-in-Malformed : goal.returns-in-Malformed
 returns-in-Malformed c = O.terms-malformed _ _ (Said.said-malformed _ _ _ _ c.check_constants.ensures.1 c.in-Malformed.is)

@@ -4,7 +4,7 @@ use Rattle.joining.proofs.merge.merge_listed.Goals as goal
 
 pub merge_checked-requires : goal.merge_checked-requires
 merge_checked-requires c =
-  let p = c.requires in (p.0, p.1, Calls.lists-good _ _ _ _ _ c.check_lists.ensures c.in-Good.is, p.2, p.3)
+    let p = c.requires in (p.0, p.1, Calls.lists-good _ _ _ _ _ c.check_lists.ensures c.in-Good.is, p.2, p.3)
 
 pub returns-in-Good : goal.returns-in-Good
 returns-in-Good c = c.merge_checked.ensures

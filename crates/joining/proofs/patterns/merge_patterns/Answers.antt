@@ -9,4 +9,4 @@ use Rattle.joining.proofs.patterns.merge_patterns.Goals as goal
 
 pub returns : goal.returns
 returns c =
-  A.answered (merge_outcome false false c.args.left.now c.args.right.now c.args.pairs.now c.args.left_constants.now c.args.right_constants.now) (merge_patterns_outcome c.args.left.now c.args.right.now c.args.pairs.now c.args.left_constants.now c.args.right_constants.now) c.args.out.now c.merge_texts.new.out c.merge_texts.result (sym (Calls.of-trees _ _ _ _ _)) c.merge_texts.ensures
+    A.answered (merge_outcome false false c.args.left.now c.args.right.now c.args.pairs.now c.args.left_constants.now c.args.right_constants.now) (merge_patterns_outcome c.args.left.now c.args.right.now c.args.pairs.now c.args.left_constants.now c.args.right_constants.now) c.args.out.now c.merge_texts.new.out c.merge_texts.result (sym (Calls.of-trees _ _ _ _ _)) c.merge_texts.ensures

@@ -12,8 +12,8 @@ returns-in-Good c = c.push_of.ensures
 
 pub returns-in-Malformed : goal.returns-in-Malformed
 returns-in-Malformed c =
-  λ q s h. Calls.terms-malformed q _ _ (Said.said-malformed _ _ _ _ c.check_constants.ensures.1 c.in-Malformed.is)
+    λ q s h. Calls.terms-malformed q _ _ (Said.said-malformed _ _ _ _ c.check_constants.ensures.1 c.in-Malformed.is)
 
 pub returns-in-OverBound : goal.returns-in-OverBound
 returns-in-OverBound c =
-  λ q s h. Calls.terms-over q _ _ (Said.said-over _ _ _ _ c.check_constants.ensures.1 c.in-OverBound.is)
+    λ q s h. Calls.terms-over q _ _ (Said.said-over _ _ _ _ c.check_constants.ensures.1 c.in-OverBound.is)

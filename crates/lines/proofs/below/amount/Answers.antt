@@ -20,4 +20,4 @@ returns-then-by-eq4 c = let a = c.args in P.amount-by (a.code % 4) (a.code / 4 %
 
 pub returns : goal.returns
 returns c =
-  let a = c.args in P.amount-none (a.code % 4) (a.code / 4 % 8) a.first a.second c.if-by-eq0.false c.if-by-eq1.false c.if-by-eq2.false c.if-by-eq3.false c.if-by-eq4.false
+    let a = c.args in P.amount-none (a.code % 4) (a.code / 4 % 8) a.first a.second c.if-by-eq0.false c.if-by-eq1.false c.if-by-eq2.false c.if-by-eq3.false c.if-by-eq4.false

@@ -18,12 +18,12 @@ overflow_add-k c = let x = c.loop-next.invariant.1 in let y = c.loop-next.invari
 
 pub loop-next-smaller : goal.loop-next-smaller
 loop-next-smaller c =
-  let x = ap length (S.left_is _ _ _ _ c.loop-next.invariant.0 (C.reads_at _ _ _ _ _ c.next_field-field.ensures c.in-At.is)) in omega arith
+    let x = ap length (S.left_is _ _ _ _ c.loop-next.invariant.0 (C.reads_at _ _ _ _ _ c.next_field-field.ensures c.in-At.is)) in omega arith
 
 pub loop-next-preserved : goal.loop-next-preserved
 loop-next-preserved c =
-  let x = ap length (S.left_is _ _ _ _ c.loop-next.invariant.0 (C.reads_at _ _ _ _ _ c.next_field-field.ensures c.in-At.is)) in let y = c.loop-next.invariant.1 in (S.in-line _ _ _ _ c.loop-next.invariant.0 (C.reads_at _ _ _ _ _ c.next_field-field.ensures c.in-At.is), omega arith, c.loop-next.invariant.2)
+    let x = ap length (S.left_is _ _ _ _ c.loop-next.invariant.0 (C.reads_at _ _ _ _ _ c.next_field-field.ensures c.in-At.is)) in let y = c.loop-next.invariant.1 in (S.in-line _ _ _ _ c.loop-next.invariant.0 (C.reads_at _ _ _ _ _ c.next_field-field.ensures c.in-At.is), omega arith, c.loop-next.invariant.2)
 
 pub returns-in-None : goal.returns-in-None
 returns-in-None c =
-  let x = ap length (C.left-none c.args.s.now c.loop-next.d.at c.loop-next.d.end (C.reads_none _ _ _ c.next_field-field.ensures c.in-None.is)) in let y = c.loop-next.invariant.1 in let z = c.loop-next.invariant.2 in (omega arith, omega arith)
+    let x = ap length (C.left-none c.args.s.now c.loop-next.d.at c.loop-next.d.end (C.reads_none _ _ _ c.next_field-field.ensures c.in-None.is)) in let y = c.loop-next.invariant.1 in let z = c.loop-next.invariant.2 in (omega arith, omega arith)

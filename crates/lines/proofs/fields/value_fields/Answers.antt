@@ -15,16 +15,16 @@ value_field-d-requires c = c.loop-k.invariant.0
 
 pub overflow_add-d : goal.overflow_add-d
 overflow_add-d c =
-  let x = (R.follows-along _ _ _ _ c.value_field-d.ensures).0 in let y = c.loop-k.invariant.0.ends in let z = c.loop-k.invariant.0.short in omega arith
+    let x = (R.follows-along _ _ _ _ c.value_field-d.ensures).0 in let y = c.loop-k.invariant.0.ends in let z = c.loop-k.invariant.0.short in omega arith
 
 pub returns-then-d : goal.returns-then-d
 returns-then-d c =
-  R.repeat-fault _ _ _ _ (take_value) (λ k l. rest_in (take_values k l)) _ _ (R.values-more) c.loop-k.invariant.4 c.loop-k.invariant.1 c.loop-k.invariant.2 c.value_field-d.ensures c.loop-k-test.true c.if-d.true
+    R.repeat-fault _ _ _ _ (take_value) (λ k l. rest_in (take_values k l)) _ _ (R.values-more) c.loop-k.invariant.4 c.loop-k.invariant.1 c.loop-k.invariant.2 c.value_field-d.ensures c.loop-k-test.true c.if-d.true
 
 pub loop-k-preserved : goal.loop-k-preserved
 loop-k-preserved c =
-  let x = R.repeat-next _ _ _ _ (take_value) (λ k l. rest_in (take_values k l)) _ _ (R.values-more) c.loop-k.invariant.4 c.loop-k.invariant.1 c.loop-k.invariant.2 c.value_field-d.ensures c.loop-k-test.true c.if-d.false in (R.follows-line _ _ _ _ c.loop-k.invariant.0 c.value_field-d.ensures, x.1, x.2, x.3, x.0)
+    let x = R.repeat-next _ _ _ _ (take_value) (λ k l. rest_in (take_values k l)) _ _ (R.values-more) c.loop-k.invariant.4 c.loop-k.invariant.1 c.loop-k.invariant.2 c.value_field-d.ensures c.loop-k-test.true c.if-d.false in (R.follows-line _ _ _ _ c.loop-k.invariant.0 c.value_field-d.ensures, x.1, x.2, x.3, x.0)
 
 pub returns : goal.returns
 returns c =
-  R.repeat-end _ _ _ (λ k l. rest_in (take_values k l)) _ _ (R.values-end) c.loop-k.invariant.4 c.loop-k-test.false c.loop-k.invariant.1 c.loop-k.invariant.2 c.loop-k.invariant.3
+    R.repeat-end _ _ _ (λ k l. rest_in (take_values k l)) _ _ (R.values-end) c.loop-k.invariant.4 c.loop-k-test.false c.loop-k.invariant.1 c.loop-k.invariant.2 c.loop-k.invariant.3

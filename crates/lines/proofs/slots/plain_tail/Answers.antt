@@ -13,7 +13,7 @@ text_fields-requires-then-kind-eq4 c = (c.requires.0, c.requires.1)
 
 pub returns-then-kind-eq4 : goal.returns-then-kind-eq4
 returns-then-kind-eq4 c =
-  T.integers-follow _ _ _ _ _ (T.tail_at c.args.kind 4 c.if-kind-eq4.true) c.text_fields-then-kind-eq4.ensures
+    T.integers-follow _ _ _ _ _ (T.tail_at c.args.kind 4 c.if-kind-eq4.true) c.text_fields-then-kind-eq4.ensures
 
 pub value_fields-requires : goal.value_fields-requires
 value_fields-requires c = (c.requires.0, c.requires.1)
@@ -26,8 +26,8 @@ value_fields-requires-then-kind-eq6 c = (c.requires.0, c.requires.1)
 
 pub returns-then-kind-eq6 : goal.returns-then-kind-eq6
 returns-then-kind-eq6 c =
-  T.value-follows _ _ _ _ _ (T.tail_at c.args.kind 6 c.if-kind-eq6.true) c.value_fields-then-kind-eq6.ensures
+    T.value-follows _ _ _ _ _ (T.tail_at c.args.kind 6 c.if-kind-eq6.true) c.value_fields-then-kind-eq6.ensures
 
 pub returns : goal.returns
 returns c =
-  T.nothing-follows _ _ _ _ (T.tail-nothing c.args.kind c.requires.2 c.requires.3 c.if-kind-eq3.false c.if-kind-eq4.false c.if-kind-eq5.false c.if-kind-eq6.false) c.requires.1
+    T.nothing-follows _ _ _ _ (T.tail-nothing c.args.kind c.requires.2 c.requires.3 c.if-kind-eq3.false c.if-kind-eq4.false c.if-kind-eq5.false c.if-kind-eq6.false) c.requires.1

@@ -24,21 +24,21 @@ term_field-t-requires c = c.requires
 
 pub returns-then-role-eq1 : goal.returns-then-role-eq1
 returns-then-role-eq1 c =
-  rw (L.slot-term (c.args.code % 16) (kind_at (c.args.code / 16 % 16)) c.if-role-eq1.true) (record { follows = (c.term_field-t.ensures.follows, L.term-zero (kind_at (c.args.code / 16 % 16)) (left_at c.args.s.now c.args.c), search rules); keeps = c.term_field-t.ensures.keeps; adds = c.term_field-t.ensures.adds })
+    rw (L.slot-term (c.args.code % 16) (kind_at (c.args.code / 16 % 16)) c.if-role-eq1.true) (record { follows = (c.term_field-t.ensures.follows, L.term-zero (kind_at (c.args.code / 16 % 16)) (left_at c.args.s.now c.args.c), search rules); keeps = c.term_field-t.ensures.keeps; adds = c.term_field-t.ensures.adds })
 
 pub text_field-d-requires : goal.text_field-d-requires
 text_field-d-requires c = c.requires
 
 pub returns-then-role-eq2 : goal.returns-then-role-eq2
 returns-then-role-eq2 c =
-  rw (L.slot-text (c.args.code % 16) (kind_at (c.args.code / 16 % 16)) c.if-role-eq2.true) (record { follows = (c.text_field-d.ensures, L.text-zero (kind_at (c.args.code / 16 % 16)) (left_at c.args.s.now c.args.c), search rules); keeps = λ want h. L.keeps_same _ _ _ _ _ _ want (L.text-bare (kind_at (c.args.code / 16 % 16)) (left_at c.args.s.now c.args.c)) h; adds = λ h ss. D.text-adds _ _ _ _ _ ss c.requires _ c.text_field-d.ensures h })
+    rw (L.slot-text (c.args.code % 16) (kind_at (c.args.code / 16 % 16)) c.if-role-eq2.true) (record { follows = (c.text_field-d.ensures, L.text-zero (kind_at (c.args.code / 16 % 16)) (left_at c.args.s.now c.args.c), search rules); keeps = λ want h. L.keeps_same _ _ _ _ _ _ want (L.text-bare (kind_at (c.args.code / 16 % 16)) (left_at c.args.s.now c.args.c)) h; adds = λ h ss. D.text-adds _ _ _ _ _ ss c.requires _ c.text_field-d.ensures h })
 
 pub count_field-t-requires : goal.count_field-t-requires
 count_field-t-requires c = c.requires
 
 pub returns-then-role-eq3 : goal.returns-then-role-eq3
 returns-then-role-eq3 c =
-  let e = c.count_field-t.ensures in rw (L.slot-count (c.args.code % 16) (kind_at (c.args.code / 16 % 16)) c.if-role-eq3.true) (record { follows = e; keeps = λ want h. L.keeps_same _ _ _ _ _ _ want (L.count-bare (left_at c.args.s.now c.args.c)) h; adds = λ h ss. D.count-adds _ _ _ _ _ ss c.requires e.0 h })
+    let e = c.count_field-t.ensures in rw (L.slot-count (c.args.code % 16) (kind_at (c.args.code / 16 % 16)) c.if-role-eq3.true) (record { follows = e; keeps = λ want h. L.keeps_same _ _ _ _ _ _ want (L.count-bare (left_at c.args.s.now c.args.c)) h; adds = λ h ss. D.count-adds _ _ _ _ _ ss c.requires e.0 h })
 
 pub returns-then-t-gt1 : goal.returns-then-t-gt1
 returns-then-t-gt1 c = let z = F.choice-large (left_at c.args.s.now c.args.c) (rw c.count_field-t.ensures.1 c.if-t-gt1.true) in

@@ -21,11 +21,11 @@ loop-code-smaller c = let z = c.loop-code-test.true in omega (arith, z)
 
 pub loop-code-preserved : goal.loop-code-preserved
 loop-code-preserved c =
-  let e = c.slot-t.ensures in (T.turn-next _ _ _ _ _ _ _ _ _ _ _ _ _ _ _ _ _ _ _ _ _ c.loop-code.invariant.0 c.loop-code-test.true _ _ _ _ _ _ _ _ e.follows.0 e.follows.1 e.follows.2 e.keeps e.adds _ _ c.number_at-first.ensures c.number_at-second.ensures, c.slot-t.auto.spots ∙ c.loop-code.invariant.1)
+    let e = c.slot-t.ensures in (T.turn-next _ _ _ _ _ _ _ _ _ _ _ _ _ _ _ _ _ _ _ _ _ c.loop-code.invariant.0 c.loop-code-test.true _ _ _ _ _ _ _ _ e.follows.0 e.follows.1 e.follows.2 e.keeps e.adds _ _ c.number_at-first.ensures c.number_at-second.ensures, c.slot-t.auto.spots ∙ c.loop-code.invariant.1)
 
 pub shape_of-spots : goal.shape_of-spots
 shape_of-spots c = c.loop-code.invariant.1
 
 pub returns : goal.returns
 returns c =
-  let v = c.loop-code.invariant.0 in let z = c.loop-code-test.false in let e = c.slots_of-code.ensures.0 in record { took_slots = T.turn-took _ _ _ _ _ _ _ _ _ _ _ _ _ _ _ _ _ _ _ _ _ v z _ e c.requires.1; keeps = T.turn-keeps _ _ _ _ _ _ _ _ _ _ _ _ _ _ _ _ _ _ _ _ _ v z _ e; adds = T.turn-adds _ _ _ _ _ _ _ _ _ _ _ _ _ _ _ _ _ _ _ _ _ v z _ e }
+    let v = c.loop-code.invariant.0 in let z = c.loop-code-test.false in let e = c.slots_of-code.ensures.0 in record { took_slots = T.turn-took _ _ _ _ _ _ _ _ _ _ _ _ _ _ _ _ _ _ _ _ _ v z _ e c.requires.1; keeps = T.turn-keeps _ _ _ _ _ _ _ _ _ _ _ _ _ _ _ _ _ _ _ _ _ v z _ e; adds = T.turn-adds _ _ _ _ _ _ _ _ _ _ _ _ _ _ _ _ _ _ _ _ _ v z _ e }

@@ -17,7 +17,7 @@ use Rattle.lines.proofs.variables.variable_fields.Goals as goal
 pub loop-left-init : goal.loop-left-init
 unfolding notes
 loop-left-init c =
-  (c.requires.0, (refl, refl), search rules, c.requires.1, refl, ([], F.terms-start _ _ _, λ want h. h), refl, D.stay-adds _ _ _ _ _ c.requires.0 c.requires.1)
+    (c.requires.0, (refl, refl), search rules, c.requires.1, refl, ([], F.terms-start _ _ _, λ want h. h), refl, D.stay-adds _ _ _ _ _ c.requires.0 c.requires.1)
 
 pub variable_field-t-requires : goal.variable_field-t-requires
 unfolding notes
@@ -26,7 +26,7 @@ variable_field-t-requires c = c.loop-left.invariant.0
 pub overflow_add-d : goal.overflow_add-d
 unfolding notes
 overflow_add-d c =
-  let x = (R.follows-along _ _ _ _ c.variable_field-t.ensures.follows).0 in let y = c.loop-left.invariant.0.ends in let z = c.loop-left.invariant.0.short in omega arith
+    let x = (R.follows-along _ _ _ _ c.variable_field-t.ensures.follows).0 in let y = c.loop-left.invariant.0.ends in let z = c.loop-left.invariant.0.short in omega arith
 
 pub shape_of-spots-then-d : goal.shape_of-spots-then-d
 unfolding notes
@@ -35,7 +35,7 @@ shape_of-spots-then-d c = search rules
 pub returns-then-d : goal.returns-then-d
 unfolding notes
 returns-then-d c =
-  record { follows = R.repeat-fault _ _ _ _ (λ l. rest_of (take_field (term variable) l)) (λ k l. rest_in (take_times k (term variable) l)) _ _ (R.times_more (term variable)) c.loop-left.invariant.4 c.loop-left.invariant.1 c.loop-left.invariant.2 c.variable_field-t.ensures.follows c.loop-left-test.true c.if-d.true; keeps = λ h. let x = (R.follows-along _ _ _ _ c.variable_field-t.ensures.follows).0 in let y = c.loop-left.invariant.1.0 in let z = c.if-d.true in absurd (omega arith); adds = λ h. let x = (R.follows-along _ _ _ _ c.variable_field-t.ensures.follows).0 in let y = c.loop-left.invariant.1.0 in let z = c.if-d.true in absurd (omega arith) }
+    record { follows = R.repeat-fault _ _ _ _ (λ l. rest_of (take_field (term variable) l)) (λ k l. rest_in (take_times k (term variable) l)) _ _ (R.times_more (term variable)) c.loop-left.invariant.4 c.loop-left.invariant.1 c.loop-left.invariant.2 c.variable_field-t.ensures.follows c.loop-left-test.true c.if-d.true; keeps = λ h. let x = (R.follows-along _ _ _ _ c.variable_field-t.ensures.follows).0 in let y = c.loop-left.invariant.1.0 in let z = c.if-d.true in absurd (omega arith); adds = λ h. let x = (R.follows-along _ _ _ _ c.variable_field-t.ensures.follows).0 in let y = c.loop-left.invariant.1.0 in let z = c.if-d.true in absurd (omega arith) }
 
 pub overflow_sub-left : goal.overflow_sub-left
 unfolding notes
@@ -59,4 +59,4 @@ shape_of-spots c = c.loop-left.invariant.6
 pub returns : goal.returns
 unfolding notes
 returns c =
-  record { follows = R.repeat-end _ _ _ (λ k l. rest_in (take_times k (term variable) l)) _ _ (R.times-end (term variable)) c.loop-left.invariant.4 c.loop-left-test.false c.loop-left.invariant.1 c.loop-left.invariant.2 c.loop-left.invariant.3; keeps = λ h want q. let z = F.terms-end c.loop-left.left (term variable) (left_at c.args.s.now c.loop-left.d) c.loop-left.invariant.5.0 _ c.loop-left.invariant.5.1 c.loop-left-test.false in rw z (c.loop-left.invariant.5.2 want q); adds = λ h. c.loop-left.invariant.7 }
+    record { follows = R.repeat-end _ _ _ (λ k l. rest_in (take_times k (term variable) l)) _ _ (R.times-end (term variable)) c.loop-left.invariant.4 c.loop-left-test.false c.loop-left.invariant.1 c.loop-left.invariant.2 c.loop-left.invariant.3; keeps = λ h want q. let z = F.terms-end c.loop-left.left (term variable) (left_at c.args.s.now c.loop-left.d) c.loop-left.invariant.5.0 _ c.loop-left.invariant.5.1 c.loop-left-test.false in rw z (c.loop-left.invariant.5.2 want q); adds = λ h. c.loop-left.invariant.7 }

@@ -17,7 +17,7 @@ bounds-news-k c = let p = c.requires.0 in let t = c.loop-k-test.true in let l = 
 
 pub loop-k-preserved : goal.loop-k-preserved
 loop-k-preserved c =
-  let p = c.requires.0 in let t = c.loop-k-test.true in let i = c.loop-k.invariant in let l = i.0 in (simp length-set l, omega arith, W.settled-next _ _ _ _ _ _ _ i.2 (omega arith) _ _ _ _ (R.column-is 0 c.args.table.now _ _ c.wide.ensures.0) (R.column-is 1 c.args.table.now _ _ c.wide-in-loop-k.ensures.0) c.piece-f.ensures c.find_push.ensures)
+    let p = c.requires.0 in let t = c.loop-k-test.true in let i = c.loop-k.invariant in let l = i.0 in (simp length-set l, omega arith, W.settled-next _ _ _ _ _ _ _ i.2 (omega arith) _ _ _ _ (R.column-is 0 c.args.table.now _ _ c.wide.ensures.0) (R.column-is 1 c.args.table.now _ _ c.wide-in-loop-k.ensures.0) c.piece-f.ensures c.find_push.ensures)
 
 pub shape_of-news : goal.shape_of-news
 shape_of-news c = c.loop-k.invariant.0 ∙ sym c.requires.3

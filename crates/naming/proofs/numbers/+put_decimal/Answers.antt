@@ -10,5 +10,5 @@ use Rattle.naming.proofs.numbers.+put_decimal.Goals as goal
 
 pub returns : goal.returns
 returns t c =
-  let n = c.args.n in
-  cc (decimal-hundreds n (omega arith), puts-append (decimal (n / 100)) ((n % 100 / 10 + 48) ∷ (n % 100 % 10 + 48) ∷ []) (em c.args.at c.args.out.now))
+    let n = c.args.n in
+    cc (decimal-hundreds n (omega arith), puts-append (decimal (n / 100)) ((n % 100 / 10 + 48) ∷ (n % 100 % 10 + 48) ∷ []) (em c.args.at c.args.out.now))

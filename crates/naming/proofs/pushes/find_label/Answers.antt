@@ -17,7 +17,7 @@ slice_bounds-find_name-end c = let f = c.args.f.now in omega (arith, length-take
 
 pub returns-then-ends_in_label : goal.returns-then-ends_in_label
 returns-then-ends_in_label c =
-  let f = c.args.f.now in let h : is_label f ≡ true = cc in label-found f _ _ _ _ _ _ _ h refl c.requires.1 c.find_name.ensures
+    let f = c.args.f.now in let h : is_label f ≡ true = cc in label-found f _ _ _ _ _ _ _ h refl c.requires.1 c.find_name.ensures
 
 pub returns : goal.returns
 returns c = let f = c.args.f.now in let h : is_label f ≡ false = cc in label-none f _ _ _ _ h

@@ -8,8 +8,8 @@ push_flagged-a-requires c = let pre = c.requires in (pre.0, omega arith, omega a
 
 pub push_flagged-b-requires : goal.push_flagged-b-requires
 push_flagged-b-requires c =
-  let n = c.requires.0 in let a = c.push_flagged-a.ensures in let b = a.3 in (n, omega arith, omega arith, a.5, a.4)
+    let n = c.requires.0 in let a = c.push_flagged-a.ensures in let b = a.3 in (n, omega arith, omega arith, a.5, a.4)
 
 pub returns : goal.returns
 returns c =
-  let a = c.push_flagged-a.ensures in (N.both-flags _ _ _ _ _ _ _ _ a.0 a.1 a.2 c.push_flagged-b.ensures.0, c.push_flagged-b.ensures.5)
+    let a = c.push_flagged-a.ensures in (N.both-flags _ _ _ _ _ _ _ _ a.0 a.1 a.2 c.push_flagged-b.ensures.0, c.push_flagged-b.ensures.5)

@@ -21,17 +21,17 @@ field_at-name-requires c = let p = c.requires in (p.1, p.2)
 pub slice_bounds-put_unary-count : goal.slice_bounds-put_unary-count
 unfolding key_of
 slice_bounds-put_unary-count c =
-  let i = c.field_at-name.ensures in let low = i.low in let high = i.high in let p = c.requires.1 in omega arith
+    let i = c.field_at-name.ensures in let low = i.low in let high = i.high in let p = c.requires.1 in omega arith
 
 pub slice_bounds-put_unary-start : goal.slice_bounds-put_unary-start
 unfolding key_of
 slice_bounds-put_unary-start c =
-  let i = c.field_at-name.ensures in let low = i.low in let high = i.high in let p = c.requires.1 in omega arith
+    let i = c.field_at-name.ensures in let low = i.low in let high = i.high in let p = c.requires.1 in omega arith
 
 pub slice_bounds-put_unary-end : goal.slice_bounds-put_unary-end
 unfolding key_of
 slice_bounds-put_unary-end c =
-  let i = c.field_at-name.ensures in let low = i.low in let high = i.high in let p = c.requires.1 in omega arith
+    let i = c.field_at-name.ensures in let low = i.low in let high = i.high in let p = c.requires.1 in omega arith
 
 pub put_unary-requires : goal.put_unary-requires
 unfolding key_of
@@ -44,17 +44,17 @@ field_at-name-requires-in-6449518 c = let p = c.requires in (p.1, p.2)
 pub slice_bounds-put_binary-count : goal.slice_bounds-put_binary-count
 unfolding key_of
 slice_bounds-put_binary-count c =
-  let i = c.field_at-name-in-6449518.ensures in let low = i.low in let high = i.high in let p = c.requires.1 in omega arith
+    let i = c.field_at-name-in-6449518.ensures in let low = i.low in let high = i.high in let p = c.requires.1 in omega arith
 
 pub slice_bounds-put_binary-start : goal.slice_bounds-put_binary-start
 unfolding key_of
 slice_bounds-put_binary-start c =
-  let i = c.field_at-name-in-6449518.ensures in let low = i.low in let high = i.high in let p = c.requires.1 in omega arith
+    let i = c.field_at-name-in-6449518.ensures in let low = i.low in let high = i.high in let p = c.requires.1 in omega arith
 
 pub slice_bounds-put_binary-end : goal.slice_bounds-put_binary-end
 unfolding key_of
 slice_bounds-put_binary-end c =
-  let i = c.field_at-name-in-6449518.ensures in let low = i.low in let high = i.high in let p = c.requires.1 in omega arith
+    let i = c.field_at-name-in-6449518.ensures in let low = i.low in let high = i.high in let p = c.requires.1 in omega arith
 
 pub put_binary-requires : goal.put_binary-requires
 unfolding key_of
@@ -67,7 +67,7 @@ shape_of-out-in-1818583398 c = search rules
 pub returns-in-1818583398 : goal.returns-in-1818583398
 unfolding key_of
 returns-in-1818583398 c =
-  λ f k. let a = c.args in H.head-leaf f _ k _ _ _ (names_in a.tree.now a.columns.now a.n) _ _ _ c.in-1818583398.is c.put_leaf.ensures
+    λ f k. let a = c.args in H.head-leaf f _ k _ _ _ (names_in a.tree.now a.columns.now a.n) _ _ _ c.in-1818583398.is c.put_leaf.ensures
 
 pub shape_of-out-in-7497062 : goal.shape_of-out-in-7497062
 unfolding key_of
@@ -76,7 +76,7 @@ shape_of-out-in-7497062 c = search rules
 pub returns-in-7497062 : goal.returns-in-7497062
 unfolding key_of
 returns-in-7497062 c =
-  λ f k. let a = c.args in H.head-ref f _ k _ _ _ (names_in a.tree.now a.columns.now a.n) _ _ _ c.in-7497062.is c.put_ref.ensures
+    λ f k. let a = c.args in H.head-ref f _ k _ _ _ (names_in a.tree.now a.columns.now a.n) _ _ _ c.in-7497062.is c.put_ref.ensures
 
 pub shape_of-out-in-30062 : goal.shape_of-out-in-30062
 unfolding key_of
@@ -85,7 +85,7 @@ shape_of-out-in-30062 c = search rules
 pub returns-in-30062 : goal.returns-in-30062
 unfolding key_of
 returns-in-30062 c =
-  λ f k. let a = c.args in H.head-un f _ k _ _ _ (names_in a.tree.now a.columns.now a.n) _ _ _ _ c.field_at-name.ensures c.in-30062.is c.put_unary.ensures
+    λ f k. let a = c.args in H.head-un f _ k _ _ _ (names_in a.tree.now a.columns.now a.n) _ _ _ _ c.field_at-name.ensures c.in-30062.is c.put_unary.ensures
 
 pub shape_of-out-in-6449518 : goal.shape_of-out-in-6449518
 unfolding key_of
@@ -94,9 +94,9 @@ shape_of-out-in-6449518 c = search rules
 pub returns-in-6449518 : goal.returns-in-6449518
 unfolding key_of
 returns-in-6449518 c =
-  λ f k. let a = c.args in H.head-bin f _ k _ _ _ (names_in a.tree.now a.columns.now a.n) _ _ _ _ c.field_at-name-in-6449518.ensures c.in-6449518.is c.put_binary.ensures
+    λ f k. let a = c.args in H.head-bin f _ k _ _ _ (names_in a.tree.now a.columns.now a.n) _ _ _ _ c.field_at-name-in-6449518.ensures c.in-6449518.is c.put_binary.ensures
 
 pub returns-in_default : goal.returns-in_default
 unfolding key_of
 returns-in_default c =
-  λ f k. let a = c.args in let n = c.in_default.in_default-own.rest in H.head-none f _ k _ _ _ (names_in a.tree.now a.columns.now a.n) _ n.0.0.0.1 n.0.0.1 n.0.1 n.1
+    λ f k. let a = c.args in let n = c.in_default.in_default-own.rest in H.head-none f _ k _ _ _ (names_in a.tree.now a.columns.now a.n) _ n.0.0.0.1 n.0.0.1 n.0.1 n.1

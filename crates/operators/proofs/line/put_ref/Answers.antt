@@ -9,16 +9,16 @@ field_at-field-requires c = (c.requires.1, c.requires.2)
 
 pub slice_bounds-position_of-count : goal.slice_bounds-position_of-count
 slice_bounds-position_of-count c =
-  let p = c.requires.1 in let g = c.field_at-field.ensures.low in let i = c.field_at-field.ensures.high in omega arith
+    let p = c.requires.1 in let g = c.field_at-field.ensures.low in let i = c.field_at-field.ensures.high in omega arith
 
 pub slice_bounds-position_of-start : goal.slice_bounds-position_of-start
 slice_bounds-position_of-start c =
-  let p = c.requires.1 in let g = c.field_at-field.ensures.low in let i = c.field_at-field.ensures.high in omega arith
+    let p = c.requires.1 in let g = c.field_at-field.ensures.low in let i = c.field_at-field.ensures.high in omega arith
 
 pub slice_bounds-position_of-end : goal.slice_bounds-position_of-end
 slice_bounds-position_of-end c =
-  let p = c.requires.1 in let g = c.field_at-field.ensures.low in let i = c.field_at-field.ensures.high in omega arith
+    let p = c.requires.1 in let g = c.field_at-field.ensures.low in let i = c.field_at-field.ensures.high in omega arith
 
 pub returns : goal.returns
 returns c =
-  H.ref-put _ _ _ _ c.field_at-field.ensures (names_in c.args.tree.now c.args.columns.now c.args.n) _ c.position_of.ensures.0 _ c.column_at.ensures _ _ _ _ c.put_all-a.ensures c.put_all-b.ensures c.put-c.ensures
+    H.ref-put _ _ _ _ c.field_at-field.ensures (names_in c.args.tree.now c.args.columns.now c.args.n) _ c.position_of.ensures.0 _ c.column_at.ensures _ _ _ _ c.put_all-a.ensures c.put_all-b.ensures c.put-c.ensures

@@ -12,27 +12,27 @@ field_at-field-requires c = (c.requires.0, c.loop-next.invariant.0)
 
 pub slice_bounds-is_var1-count : goal.slice_bounds-is_var1-count
 slice_bounds-is_var1-count c =
-  let i = c.field_at-field.ensures in let low = i.low in let high = i.high in let p = c.requires.0 in omega arith
+    let i = c.field_at-field.ensures in let low = i.low in let high = i.high in let p = c.requires.0 in omega arith
 
 pub slice_bounds-is_var1-start : goal.slice_bounds-is_var1-start
 slice_bounds-is_var1-start c =
-  let i = c.field_at-field.ensures in let low = i.low in let high = i.high in let p = c.requires.0 in omega arith
+    let i = c.field_at-field.ensures in let low = i.low in let high = i.high in let p = c.requires.0 in omega arith
 
 pub slice_bounds-is_var1-end : goal.slice_bounds-is_var1-end
 slice_bounds-is_var1-end c =
-  let i = c.field_at-field.ensures in let low = i.low in let high = i.high in let p = c.requires.0 in omega arith
+    let i = c.field_at-field.ensures in let low = i.low in let high = i.high in let p = c.requires.0 in omega arith
 
 pub returns-then-not-is_var1 : goal.returns-then-not-is_var1
 returns-then-not-is_var1 c =
-  F.named-stop _ _ _ _ c.field_at-field.ensures _ c.loop-next-test.true c.is_var1.ensures c.if-not-is_var1.true-raw ∙ sym c.loop-next.invariant.1
+    F.named-stop _ _ _ _ c.field_at-field.ensures _ c.loop-next-test.true c.is_var1.ensures c.if-not-is_var1.true-raw ∙ sym c.loop-next.invariant.1
 
 pub loop-next-smaller : goal.loop-next-smaller
 loop-next-smaller c =
-  let i = c.field_at-field.ensures in let m = i.more c.loop-next-test.true in let l = i.last in omega arith
+    let i = c.field_at-field.ensures in let m = i.more c.loop-next-test.true in let l = i.last in omega arith
 
 pub loop-next-preserved : goal.loop-next-preserved
 loop-next-preserved c =
-  (c.field_at-field.ensures.last, c.loop-next.invariant.1 ∙ F.named-next _ _ _ _ c.field_at-field.ensures _ c.loop-next-test.true c.is_var1.ensures c.if-not-is_var1.false-raw)
+    (c.field_at-field.ensures.last, c.loop-next.invariant.1 ∙ F.named-next _ _ _ _ c.field_at-field.ensures _ c.loop-next-test.true c.is_var1.ensures c.if-not-is_var1.false-raw)
 
 pub returns : goal.returns
 returns c = F.named-done _ _ _ c.loop-next-test.false ∙ sym c.loop-next.invariant.1

@@ -9,15 +9,15 @@ field_at-field-requires c = c.requires
 
 pub slice_bounds-is_blank-count : goal.slice_bounds-is_blank-count
 slice_bounds-is_blank-count c =
-  let i = c.field_at-field.ensures in let low = i.low in let high = i.high in let p = c.requires.0 in omega arith
+    let i = c.field_at-field.ensures in let low = i.low in let high = i.high in let p = c.requires.0 in omega arith
 
 pub slice_bounds-is_blank-start : goal.slice_bounds-is_blank-start
 slice_bounds-is_blank-start c =
-  let i = c.field_at-field.ensures in let low = i.low in let high = i.high in let p = c.requires.0 in omega arith
+    let i = c.field_at-field.ensures in let low = i.low in let high = i.high in let p = c.requires.0 in omega arith
 
 pub slice_bounds-is_blank-end : goal.slice_bounds-is_blank-end
 slice_bounds-is_blank-end c =
-  let i = c.field_at-field.ensures in let low = i.low in let high = i.high in let p = c.requires.0 in omega arith
+    let i = c.field_at-field.ensures in let low = i.low in let high = i.high in let p = c.requires.0 in omega arith
 
 pub returns : goal.returns
 returns c = F.tested _ _ _ _ c.field_at-field.ensures _ is_blank c.is_blank.ensures

@@ -16,4 +16,4 @@ returns-in-3 c = rw (P.at-distinct _ c.in-3.is)
 
 pub returns-in_default : goal.returns-in_default
 returns-in_default c =
-  let n = c.in_default.in_default-own.rest in rw (P.at-project _ n.0.0.0.1 n.0.0.1 n.0.1 n.1) (P.eleven _)
+    let n = c.in_default.in_default-own.rest in rw (P.at-project _ n.0.0.0.1 n.0.0.1 n.0.1 n.1) (P.eleven _)

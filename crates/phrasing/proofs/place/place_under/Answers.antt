@@ -26,4 +26,4 @@ returns-in-31651020243559284 c = λ f k. P.under-project f _ k c.in-316510202435
 pub returns-in_default : goal.returns-in_default
 unfolding key_of
 returns-in_default c =
-  λ f k. let n = c.in_default.in_default-own.rest in P.under-other f _ k n.0.0.0.0.1 n.0.0.0.1 n.0.0.1 n.0.1 n.1
+    λ f k. let n = c.in_default.in_default-own.rest in P.under-other f _ k n.0.0.0.0.1 n.0.0.0.1 n.0.0.1 n.0.1 n.1

@@ -23,4 +23,4 @@ is_field-requires-3 c = c.requires
 
 pub returns : goal.returns
 returns c =
-  J.head-told _ c.is_field-3.result c.is_field.result c.is_field-2.result _ _ _ c.told.ensures c.is_field-3.ensures (c.is_field.ensures ∙ ap (same (bytes "-")) (S.second _ _ _ _ c.field_at-kind.ensures)) (c.is_field-2.ensures ∙ ap (same (bytes "-")) (S.third _ _ _ _ c.field_at-kind.ensures _ c.field_at-dataset.ensures))
+    J.head-told _ c.is_field-3.result c.is_field.result c.is_field-2.result _ _ _ c.told.ensures c.is_field-3.ensures (c.is_field.ensures ∙ ap (same (bytes "-")) (S.second _ _ _ _ c.field_at-kind.ensures)) (c.is_field-2.ensures ∙ ap (same (bytes "-")) (S.third _ _ _ _ c.field_at-kind.ensures _ c.field_at-dataset.ensures))

@@ -25,4 +25,4 @@ allowed_at-requires-3 c = c.requires
 
 pub returns : goal.returns
 returns c =
-  let s = S.second _ _ _ _ c.field_at-subject.ensures in let t = S.third _ _ _ _ c.field_at-subject.ensures _ c.field_at-predicate.ensures in cc
+    let s = S.second _ _ _ _ c.field_at-subject.ensures in let t = S.third _ _ _ _ c.field_at-subject.ensures _ c.field_at-predicate.ensures in cc

@@ -7,4 +7,4 @@ returns-then-n-k c = L.column-none _ _ _ _ _ c.if-n-k.true
 
 pub returns : goal.returns
 returns c =
-  L.column-at-is _ c.args.columns.now _ _ _ _ c.if-n-k.false c.wide.ensures c.wide-2.ensures _ c.piece.ensures
+    L.column-at-is _ c.args.columns.now _ _ _ _ c.if-n-k.false c.wide.ensures c.wide-2.ensures _ c.piece.ensures

@@ -6,8 +6,8 @@ use Rattle.placing.proofs.ends.row_of.Goals as goal
 
 pub returns-in_default : goal.returns-in_default
 returns-in_default c =
-  λ f k. let r = c.row_at in C.row-none _ r.result (ap row_found r.ensures ∙ c.any_word.ensures.row f k) c.in_default.is
+    λ f k. let r = c.row_at in C.row-none _ r.result (ap row_found r.ensures ∙ c.any_word.ensures.row f k) c.in_default.is
 
 pub returns : goal.returns
 returns c =
-  λ f k. let r = c.row_at in C.row_is _ r.result (ap row_found r.ensures ∙ c.any_word.ensures.row f k) _ c.in-Is.is
+    λ f k. let r = c.row_at in C.row_is _ r.result (ap row_found r.ensures ∙ c.any_word.ensures.row f k) _ c.in-Is.is

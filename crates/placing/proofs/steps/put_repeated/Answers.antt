@@ -9,7 +9,7 @@ loop-left-init c = (refl, refl)
 
 pub loop-left-preserved : goal.loop-left-preserved
 loop-left-preserved c =
-  (search rules, R.repeated-next _ _ _ _ _ c.loop-left-test.true c.put_all-to.ensures c.put-to.ensures ∙ c.loop-left.invariant.1)
+    (search rules, R.repeated-next _ _ _ _ _ c.loop-left-test.true c.put_all-to.ensures c.put-to.ensures ∙ c.loop-left.invariant.1)
 
 pub shape_of-out : goal.shape_of-out
 shape_of-out c = c.loop-left.invariant.0

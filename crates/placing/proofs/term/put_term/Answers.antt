@@ -13,12 +13,12 @@ returns-then-form-eq4 c = W.none-put _ _ _ _ c.if-form-eq2.false c.if-form-eq3.f
 
 pub returns-then-form-eq0 : goal.returns-then-form-eq0
 returns-then-form-eq0 c =
-  W.simple-put _ _ _ _ c.if-form-eq2.false c.if-form-eq3.false c.if-form-eq4.false _ c.put_between-a.ensures c.if-form-eq0.true
+    W.simple-put _ _ _ _ c.if-form-eq2.false c.if-form-eq3.false c.if-form-eq4.false _ c.put_between-a.ensures c.if-form-eq0.true
 
 pub returns-then-form-eq1 : goal.returns-then-form-eq1
 returns-then-form-eq1 c =
-  W.tagged-put _ _ _ _ c.if-form-eq2.false c.if-form-eq3.false c.if-form-eq4.false _ c.put_between-a.ensures c.if-form-eq0.false _ _ c.if-form-eq1.true c.put-b.ensures c.put_all.ensures
+    W.tagged-put _ _ _ _ c.if-form-eq2.false c.if-form-eq3.false c.if-form-eq4.false _ c.put_between-a.ensures c.if-form-eq0.false _ _ c.if-form-eq1.true c.put-b.ensures c.put_all.ensures
 
 pub returns : goal.returns
 returns c =
-  W.typed-put _ _ _ _ c.if-form-eq2.false c.if-form-eq3.false c.if-form-eq4.false _ c.put_between-a.ensures c.if-form-eq0.false _ _ c.if-form-eq1.false c.put_all-c.ensures c.put_all-2.ensures
+    W.typed-put _ _ _ _ c.if-form-eq2.false c.if-form-eq3.false c.if-form-eq4.false _ c.put_between-a.ensures c.if-form-eq0.false _ _ c.if-form-eq1.false c.put_all-c.ensures c.put_all-2.ensures

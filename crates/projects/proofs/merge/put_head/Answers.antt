@@ -19,7 +19,7 @@ shape_of-out-then-pair c = c.put_all.auto.out ∙ c.put_columns-c.auto.out ∙ c
 
 pub returns-then-pair : goal.returns-then-pair
 returns-then-pair c =
-  W.left-head _ _ _ _ _ _ _ _ _ c.if-pair.true c.put_all-a.ensures c.put_all-b.ensures c.put_columns-c.ensures c.put_all.ensures
+    W.left-head _ _ _ _ _ _ _ _ _ c.if-pair.true c.put_all-a.ensures c.put_all-b.ensures c.put_columns-c.ensures c.put_all.ensures
 
 pub offset_bounds-spots-k : goal.offset_bounds-spots-k
 offset_bounds-spots-k c = let g = c.well_formed in let p = c.requires.2 in omega (arith, g, p)
@@ -38,8 +38,8 @@ put_columns-d-requires c = let p = c.requires in (p.1, c.width-2.ensures ∙ p.3
 
 pub shape_of-out : goal.shape_of-out
 shape_of-out c =
-  c.put_all-2.auto.out ∙ c.put_columns-d.auto.out ∙ c.put_columns-c.auto.out ∙ c.put_all-b.auto.out ∙ c.put_all-a.auto.out
+    c.put_all-2.auto.out ∙ c.put_columns-d.auto.out ∙ c.put_columns-c.auto.out ∙ c.put_all-b.auto.out ∙ c.put_all-a.auto.out
 
 pub returns : goal.returns
 returns c =
-  W.two-heads _ _ _ _ _ _ _ _ _ _ c.if-pair.false c.put_all-a.ensures c.put_all-b.ensures c.put_columns-c.ensures c.put_columns-d.ensures c.put_all-2.ensures
+    W.two-heads _ _ _ _ _ _ _ _ _ _ c.if-pair.false c.put_all-a.ensures c.put_all-b.ensures c.put_columns-c.ensures c.put_columns-d.ensures c.put_all-2.ensures

@@ -10,7 +10,7 @@ use Rattle.projects.proofs.merge.put_merged.Goals as goal
 
 pub put_head-a-requires : goal.put_head-a-requires
 put_head-a-requires c =
-  let h = P.heads-need c.args.left.now c.args.right.now c.args.pair c.args.tables.now c.args.spots.now c.args.news.now c.args.left_constants.now c.args.right_constants.now _ _ _ _ _ c.requires.0.5 c.requires.0.6 in (h.0, h.1, c.requires.2, P.header-fits c.args.left.now c.args.right.now c.args.pair c.args.tables.now c.args.spots.now c.args.news.now c.args.left_constants.now c.args.right_constants.now _ _ _ _ _ c.requires.0.5 c.requires.0.6 _ c.requires.1)
+    let h = P.heads-need c.args.left.now c.args.right.now c.args.pair c.args.tables.now c.args.spots.now c.args.news.now c.args.left_constants.now c.args.right_constants.now _ _ _ _ _ c.requires.0.5 c.requires.0.6 in (h.0, h.1, c.requires.2, P.header-fits c.args.left.now c.args.right.now c.args.pair c.args.tables.now c.args.spots.now c.args.news.now c.args.left_constants.now c.args.right_constants.now _ _ _ _ _ c.requires.0.5 c.requires.0.6 _ c.requires.1)
 
 pub slice_bounds-put_side-end : goal.slice_bounds-put_side-end
 slice_bounds-put_side-end c = sym (KN.taken-long _ _ c.requires.2)
@@ -32,4 +32,4 @@ put_side-requires c = let t = c.requires.0 in (prefix_r, true, t.1, t.2, t.4, t.
 
 pub returns : goal.returns
 returns c =
-  λ x y js ks ls ld rd. P.merge-pass c.args.left.now c.args.right.now c.args.pair c.args.tables.now c.args.spots.now c.args.news.now c.args.left_constants.now c.args.right_constants.now x y js ks ls ld rd _ c.requires.1 c.args.head.now (em 0 c.args.out.now) (em c.put_head-a.result c.put_head-a.new.out) (em c.put_side-b.result c.put_side-b.new.out) (em c.put_side.result c.put_side.new.out) c.put_head-a.ensures c.put_side-b.ensures c.put_side.ensures
+    λ x y js ks ls ld rd. P.merge-pass c.args.left.now c.args.right.now c.args.pair c.args.tables.now c.args.spots.now c.args.news.now c.args.left_constants.now c.args.right_constants.now x y js ks ls ld rd _ c.requires.1 c.args.head.now (em 0 c.args.out.now) (em c.put_head-a.result c.put_head-a.new.out) (em c.put_side-b.result c.put_side-b.new.out) (em c.put_side.result c.put_side.new.out) c.put_head-a.ensures c.put_side-b.ensures c.put_side.ensures

@@ -16,11 +16,11 @@ bounds-keys-i c = let room = c.requires.0.room in omega arith
 
 pub set_target-requires : goal.set_target-requires
 set_target-requires c =
-  let p = c.requires in let u = c.loop-i.invariant in (sym (column-length 0 _) ∙ u.entries.0, p.3, T.next-some _ _ _ _ _ p.0 _ _ _ u c.loop-i-test.true)
+    let p = c.requires in let u = c.loop-i.invariant in (sym (column-length 0 _) ∙ u.entries.0, p.3, T.next-some _ _ _ _ _ p.0 _ _ _ u c.loop-i-test.true)
 
 pub loop-i-preserved : goal.loop-i-preserved
 loop-i-preserved c =
-  T.next-pair _ _ _ _ _ c.requires.0 _ _ _ c.loop-i.invariant c.loop-i-test.true _ _ c.set_target.ensures
+    T.next-pair _ _ _ _ _ c.requires.0 _ _ _ c.loop-i.invariant c.loop-i-test.true _ _ c.set_target.ensures
 
 pub returns : goal.returns
 returns c = T.ended _ _ _ _ _ c.requires.0 _ _ _ c.loop-i.invariant c.loop-i-test.false

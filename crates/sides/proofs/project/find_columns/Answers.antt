@@ -17,4 +17,4 @@ count_fields-requires c = c.line_end-end.ensures.high
 
 pub returns : goal.returns
 returns c =
-  (let l = S.project-less _ _ _ c.requires.1 _ c.line_end-end.ensures in omega arith, λ x h. S.columns-found _ _ x h _ c.line_end-end.ensures _ c.word_at-w.ensures.0 _ c.count_fields.ensures)
+    (let l = S.project-less _ _ _ c.requires.1 _ c.line_end-end.ensures in omega arith, λ x h. S.columns-found _ _ x h _ c.line_end-end.ensures _ c.word_at-w.ensures.0 _ c.count_fields.ensures)

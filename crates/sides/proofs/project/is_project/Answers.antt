@@ -10,4 +10,4 @@ word_at-w-requires c = (R.root-low _ _ _ c.line_end-end.ensures c.if-end-text.fa
 
 pub returns : goal.returns
 returns c =
-  R.root_is _ _ _ c.line_end-end.ensures c.if-end-text.false _ _ c.word_at-w.ensures.0 c.word_at-w.ensures.1
+    R.root_is _ _ _ c.line_end-end.ensures c.if-end-text.false _ _ c.word_at-w.ensures.0 c.word_at-w.ensures.1

@@ -10,4 +10,4 @@ standardize_variables-requires c = let p = c.requires in (p.0, p.2, p.3, p.4)
 
 pub returns : goal.returns
 returns c =
-  λ at p t. T.names-found _ at _ _ _ _ p t _ _ _ _ _ _ c.requires.5 c.note_places.ensures c.standardize_variables.ensures
+    λ at p t. T.names-found _ at _ _ _ _ p t _ _ _ _ _ _ c.requires.5 c.note_places.ensures c.standardize_variables.ensures

@@ -19,4 +19,4 @@ word_at-w-requires c = (G.line_low _ _ _ c.line_end-end.ensures c.if-end-query.f
 pub returns : goal.returns
 unfolding key_of
 returns c =
-  G.order-key _ _ _ c.line_end-end.ensures c.if-end-query.false _ c.word_at-w.ensures.0 _ c.word_at-w.ensures.1
+    G.order-key _ _ _ c.line_end-end.ensures c.if-end-query.false _ c.word_at-w.ensures.0 _ c.word_at-w.ensures.1

@@ -42,7 +42,7 @@ shape_of-out-in-31651020243559284 c = search rules
 pub returns-in-31651020243559284 : goal.returns-in-31651020243559284
 unfolding key_of
 returns-in-31651020243559284 c =
-  λ f k. A.arm _ _ _ _ c.put_project_end.ensures (A.after-project f _ k _ _ _ _ c.in-31651020243559284.is)
+    λ f k. A.arm _ _ _ _ c.put_project_end.ensures (A.after-project f _ k _ _ _ _ c.in-31651020243559284.is)
 
 pub shape_of-out-in-495740085093 : goal.shape_of-out-in-495740085093
 unfolding key_of
@@ -59,4 +59,4 @@ shape_of-out-in_default c = search rules
 pub returns-in_default : goal.returns-in_default
 unfolding key_of
 returns-in_default c =
-  λ f k. let n = c.in_default.in_default-own.rest in A.arm _ _ _ _ (c.put_closing.ensures f k) (ap text (A.after-other f _ k _ _ _ _ n.0.0.1 n.0.1 n.1))
+    λ f k. let n = c.in_default.in_default-own.rest in A.arm _ _ _ _ (c.put_closing.ensures f k) (ap text (A.after-other f _ k _ _ _ _ n.0.0.1 n.0.1 n.1))

@@ -61,7 +61,7 @@ shape_of-out-in-422776761956 c = search rules
 pub returns-in-422776761956 : goal.returns-in-422776761956
 unfolding key_of
 returns-in-422776761956 c =
-  λ f k. A.arm _ _ _ _ c.put_between-in-422776761956.ensures (A.before-bound f _ k _ _ c.in-422776761956.is)
+    λ f k. A.arm _ _ _ _ c.put_between-in-422776761956.ensures (A.before-bound f _ k _ _ c.in-422776761956.is)
 
 pub shape_of-out-in-444300619880 : goal.shape_of-out-in-444300619880
 unfolding key_of
@@ -70,7 +70,7 @@ shape_of-out-in-444300619880 c = search rules
 pub returns-in-444300619880 : goal.returns-in-444300619880
 unfolding key_of
 returns-in-444300619880 c =
-  λ f k. A.arm _ _ _ _ c.put_between-in-444300619880.ensures (A.before-graph f _ k _ _ c.in-444300619880.is)
+    λ f k. A.arm _ _ _ _ c.put_between-in-444300619880.ensures (A.before-graph f _ k _ _ c.in-444300619880.is)
 
 pub shape_of-out-in-31651020243559284 : goal.shape_of-out-in-31651020243559284
 unfolding key_of
@@ -103,4 +103,4 @@ shape_of-out-in_default c = search rules
 pub returns-in_default : goal.returns-in_default
 unfolding key_of
 returns-in_default c =
-  λ f k. let n = c.in_default.in_default-own.rest in A.arm _ _ _ _ (c.put_opening.ensures f k) (ap text (A.before-other f _ k _ _ n.0.0.0.0.0.0.1 n.0.0.0.0.0.1 n.0.0.0.0.1 n.0.0.0.1 n.0.0.1 n.0.1 n.1))
+    λ f k. let n = c.in_default.in_default-own.rest in A.arm _ _ _ _ (c.put_opening.ensures f k) (ap text (A.before-other f _ k _ _ n.0.0.0.0.0.0.1 n.0.0.0.0.0.1 n.0.0.0.0.1 n.0.0.0.1 n.0.0.1 n.0.1 n.1))

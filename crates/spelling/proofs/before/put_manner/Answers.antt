@@ -10,4 +10,4 @@ returns-in-1 c = A.manner-one _ _ _ c.in-1.is c.put_all.ensures
 
 pub returns-in_default : goal.returns-in_default
 returns-in_default c =
-  let n = c.in_default.in_default-own.rest in A.manner-two _ _ _ n.0.1 n.1 c.put_all-in_default.ensures
+    let n = c.in_default.in_default-own.rest in A.manner-two _ _ _ n.0.1 n.1 c.put_all-in_default.ensures

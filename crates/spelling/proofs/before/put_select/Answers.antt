@@ -7,4 +7,4 @@ put_variables-c-requires c = c.requires
 
 pub returns : goal.returns
 returns c =
-  F.four _ _ _ _ _ _ _ _ _ c.put_all-a.ensures c.put_manner-b.ensures c.put_variables-c.ensures c.put_all.ensures
+    F.four _ _ _ _ _ _ _ _ _ c.put_all-a.ensures c.put_manner-b.ensures c.put_variables-c.ensures c.put_all.ensures

@@ -19,4 +19,4 @@ put_between-requires c = (c.requires.0, c.field_at-predicate.ensures.last)
 
 pub returns : goal.returns
 returns c =
-  F.triple _ _ _ _ c.field_at-subject.ensures _ c.field_at-predicate.ensures _ _ _ _ c.put_between-a.ensures c.put_between-b.ensures c.put_between.ensures
+    F.triple _ _ _ _ c.field_at-subject.ensures _ c.field_at-predicate.ensures _ _ _ _ c.put_between-a.ensures c.put_between-b.ensures c.put_between.ensures

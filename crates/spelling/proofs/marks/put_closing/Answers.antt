@@ -83,7 +83,7 @@ shape_of-out-in-504363577198 c = search rules
 pub returns-in-504363577198 : goal.returns-in-504363577198
 unfolding key_of
 returns-in-504363577198 c =
-  λ f k. A.arm _ _ _ _ c.put_first-in-504363577198.ensures (A.closing-union f _ k _ _ c.in-504363577198.is)
+    λ f k. A.arm _ _ _ _ c.put_first-in-504363577198.ensures (A.closing-union f _ k _ _ c.in-504363577198.is)
 
 pub shape_of-out-in-469920281971 : goal.shape_of-out-in-469920281971
 unfolding key_of
@@ -92,7 +92,7 @@ shape_of-out-in-469920281971 c = search rules
 pub returns-in-469920281971 : goal.returns-in-469920281971
 unfolding key_of
 returns-in-469920281971 c =
-  λ f k. A.arm _ _ _ _ c.put_first-in-469920281971.ensures (A.closing-minus f _ k _ _ c.in-469920281971.is)
+    λ f k. A.arm _ _ _ _ c.put_first-in-469920281971.ensures (A.closing-minus f _ k _ _ c.in-469920281971.is)
 
 pub shape_of-out-in-7810761778931919214 : goal.shape_of-out-in-7810761778931919214
 unfolding key_of
@@ -101,7 +101,7 @@ shape_of-out-in-7810761778931919214 c = search rules
 pub returns-in-7810761778931919214 : goal.returns-in-7810761778931919214
 unfolding key_of
 returns-in-7810761778931919214 c =
-  λ f k. A.arm _ _ _ _ c.put_optional.ensures (A.closing-leftjoin f _ k _ _ c.in-7810761778931919214.is)
+    λ f k. A.arm _ _ _ _ c.put_optional.ensures (A.closing-leftjoin f _ k _ _ c.in-7810761778931919214.is)
 
 pub shape_of-out-in-112602977166706 : goal.shape_of-out-in-112602977166706
 unfolding key_of
@@ -110,7 +110,7 @@ shape_of-out-in-112602977166706 c = search rules
 pub returns-in-112602977166706 : goal.returns-in-112602977166706
 unfolding key_of
 returns-in-112602977166706 c =
-  λ f k. A.arm _ _ _ _ c.put_first-in-112602977166706.ensures (A.closing-filter f _ k _ _ c.in-112602977166706.is)
+    λ f k. A.arm _ _ _ _ c.put_first-in-112602977166706.ensures (A.closing-filter f _ k _ _ c.in-112602977166706.is)
 
 pub shape_of-out-in-444300619880 : goal.shape_of-out-in-444300619880
 unfolding key_of
@@ -127,7 +127,7 @@ shape_of-out-in-111567839655027 c = search rules
 pub returns-in-111567839655027 : goal.returns-in-111567839655027
 unfolding key_of
 returns-in-111567839655027 c =
-  λ f k. A.arm _ _ _ _ c.put_all-in-111567839655027.ensures (A.closing-exists f _ k _ _ c.in-111567839655027.is)
+    λ f k. A.arm _ _ _ _ c.put_all-in-111567839655027.ensures (A.closing-exists f _ k _ _ c.in-111567839655027.is)
 
 pub shape_of-out-in-28530 : goal.shape_of-out-in-28530
 unfolding key_of
@@ -192,7 +192,7 @@ shape_of-out-in-130160803538291 c = search rules
 pub returns-in-130160803538291 : goal.returns-in-130160803538291
 unfolding key_of
 returns-in-130160803538291 c =
-  λ f k. A.arm _ _ _ _ c.put_first-in-130160803538291.ensures (A.closing-values f _ k _ _ c.in-130160803538291.is)
+    λ f k. A.arm _ _ _ _ c.put_first-in-130160803538291.ensures (A.closing-values f _ k _ _ c.in-130160803538291.is)
 
 pub shape_of-out-in-31369497939174009 : goal.shape_of-out-in-31369497939174009
 unfolding key_of
@@ -201,9 +201,9 @@ shape_of-out-in-31369497939174009 c = search rules
 pub returns-in-31369497939174009 : goal.returns-in-31369497939174009
 unfolding key_of
 returns-in-31369497939174009 c =
-  λ f k. A.arm _ _ _ _ c.put_first-in-31369497939174009.ensures (A.closing-orderby f _ k _ _ c.in-31369497939174009.is)
+    λ f k. A.arm _ _ _ _ c.put_first-in-31369497939174009.ensures (A.closing-orderby f _ k _ _ c.in-31369497939174009.is)
 
 pub returns-in_default : goal.returns-in_default
 unfolding key_of
 returns-in_default c =
-  λ f k. let n = c.in_default.in_default-own.rest in A.nothing _ _ (A.closing-none f _ k _ _ n.0.0.0.0.0.0.0.0.0.0.0.0.0.0.0.1 n.0.0.0.0.0.0.0.0.0.0.0.0.0.0.1 n.0.0.0.0.0.0.0.0.0.0.0.0.0.1 n.0.0.0.0.0.0.0.0.0.0.0.0.1 n.0.0.0.0.0.0.0.0.0.0.0.1 n.0.0.0.0.0.0.0.0.0.0.1 n.0.0.0.0.0.0.0.0.0.1 n.0.0.0.0.0.0.0.0.1 n.0.0.0.0.0.0.0.1 n.0.0.0.0.0.0.1 n.0.0.0.0.0.1 n.0.0.0.0.1 n.0.0.0.1 n.0.0.1 n.0.1 n.1)
+    λ f k. let n = c.in_default.in_default-own.rest in A.nothing _ _ (A.closing-none f _ k _ _ n.0.0.0.0.0.0.0.0.0.0.0.0.0.0.0.1 n.0.0.0.0.0.0.0.0.0.0.0.0.0.0.1 n.0.0.0.0.0.0.0.0.0.0.0.0.0.1 n.0.0.0.0.0.0.0.0.0.0.0.0.1 n.0.0.0.0.0.0.0.0.0.0.0.1 n.0.0.0.0.0.0.0.0.0.0.1 n.0.0.0.0.0.0.0.0.0.1 n.0.0.0.0.0.0.0.0.1 n.0.0.0.0.0.0.0.1 n.0.0.0.0.0.0.1 n.0.0.0.0.0.1 n.0.0.0.0.1 n.0.0.0.1 n.0.0.1 n.0.1 n.1)

@@ -95,7 +95,7 @@ shape_of-out-in-7810761778931919214 c = search rules
 pub returns-in-7810761778931919214 : goal.returns-in-7810761778931919214
 unfolding key_of
 returns-in-7810761778931919214 c =
-  λ f k. A.arm _ _ _ _ c.put_all-in-7810761778931919214.ensures (A.opening-leftjoin f _ k c.in-7810761778931919214.is)
+    λ f k. A.arm _ _ _ _ c.put_all-in-7810761778931919214.ensures (A.opening-leftjoin f _ k c.in-7810761778931919214.is)
 
 pub shape_of-out-in-112602977166706 : goal.shape_of-out-in-112602977166706
 unfolding key_of
@@ -104,7 +104,7 @@ shape_of-out-in-112602977166706 c = search rules
 pub returns-in-112602977166706 : goal.returns-in-112602977166706
 unfolding key_of
 returns-in-112602977166706 c =
-  λ f k. A.arm _ _ _ _ c.put_all-in-112602977166706.ensures (A.opening-filter f _ k c.in-112602977166706.is)
+    λ f k. A.arm _ _ _ _ c.put_all-in-112602977166706.ensures (A.opening-filter f _ k c.in-112602977166706.is)
 
 pub shape_of-out-in-111568023285348 : goal.shape_of-out-in-111568023285348
 unfolding key_of
@@ -113,7 +113,7 @@ shape_of-out-in-111568023285348 c = search rules
 pub returns-in-111568023285348 : goal.returns-in-111568023285348
 unfolding key_of
 returns-in-111568023285348 c =
-  λ f k. A.arm _ _ _ _ c.put_all-in-111568023285348.ensures (A.opening-extend f _ k c.in-111568023285348.is)
+    λ f k. A.arm _ _ _ _ c.put_all-in-111568023285348.ensures (A.opening-extend f _ k c.in-111568023285348.is)
 
 pub shape_of-out-in-28530 : goal.shape_of-out-in-28530
 unfolding key_of
@@ -162,7 +162,7 @@ shape_of-out-in-111567839655027 c = search rules
 pub returns-in-111567839655027 : goal.returns-in-111567839655027
 unfolding key_of
 returns-in-111567839655027 c =
-  λ f k. A.arm _ _ _ _ c.put_all-in-111567839655027.ensures (A.opening-exists f _ k c.in-111567839655027.is)
+    λ f k. A.arm _ _ _ _ c.put_all-in-111567839655027.ensures (A.opening-exists f _ k c.in-111567839655027.is)
 
 pub shape_of-out-in-6386531 : goal.shape_of-out-in-6386531
 unfolding key_of
@@ -187,9 +187,9 @@ shape_of-out-in-130160803538291 c = search rules
 pub returns-in-130160803538291 : goal.returns-in-130160803538291
 unfolding key_of
 returns-in-130160803538291 c =
-  λ f k. A.arm _ _ _ _ c.put_all-in-130160803538291.ensures (A.opening-values f _ k c.in-130160803538291.is)
+    λ f k. A.arm _ _ _ _ c.put_all-in-130160803538291.ensures (A.opening-values f _ k c.in-130160803538291.is)
 
 pub returns-in_default : goal.returns-in_default
 unfolding key_of
 returns-in_default c =
-  λ f k. let n = c.in_default.in_default-own.rest in A.nothing _ _ (A.opening-none f _ k n.0.0.0.0.0.0.0.0.0.0.0.0.0.0.1 n.0.0.0.0.0.0.0.0.0.0.0.0.0.1 n.0.0.0.0.0.0.0.0.0.0.0.0.1 n.0.0.0.0.0.0.0.0.0.0.0.1 n.0.0.0.0.0.0.0.0.0.0.1 n.0.0.0.0.0.0.0.0.0.1 n.0.0.0.0.0.0.0.0.1 n.0.0.0.0.0.0.0.1 n.0.0.0.0.0.0.1 n.0.0.0.0.0.1 n.0.0.0.0.1 n.0.0.0.1 n.0.0.1 n.0.1 n.1)
+    λ f k. let n = c.in_default.in_default-own.rest in A.nothing _ _ (A.opening-none f _ k n.0.0.0.0.0.0.0.0.0.0.0.0.0.0.1 n.0.0.0.0.0.0.0.0.0.0.0.0.0.1 n.0.0.0.0.0.0.0.0.0.0.0.0.1 n.0.0.0.0.0.0.0.0.0.0.0.1 n.0.0.0.0.0.0.0.0.0.0.1 n.0.0.0.0.0.0.0.0.0.1 n.0.0.0.0.0.0.0.0.1 n.0.0.0.0.0.0.0.1 n.0.0.0.0.0.0.1 n.0.0.0.0.0.1 n.0.0.0.0.1 n.0.0.0.1 n.0.0.1 n.0.1 n.1)

@@ -9,7 +9,7 @@ use Rattle.spelling.proofs.say.+say_child_say_expression_say_flat_say_line_say_p
 
 pub say_child-say_flat-requires : goal.say_child-say_flat-requires
 say_child-say_flat-requires t c =
-  let p = c.requires in let m = p.0 in (omega arith, (p.1, c.sort_at-sort.ensures.flat c.if-sort-eq0.true))
+    let p = c.requires in let m = p.0 in (omega arith, (p.1, c.sort_at-sort.ensures.flat c.if-sort-eq0.true))
 
 pub say_child-returns-then-sort-eq0 : goal.say_child-returns-then-sort-eq0
 say_child-returns-then-sort-eq0 t c = G.child-flat _ _ _ _ _ c.sort_at-sort.ensures _ _ _ c.if-sort-eq0.true c.say_flat.ensures
@@ -46,21 +46,21 @@ say_flat-word_at-w-requires t c = (G.line_low _ _ _ c.line_end-end.ensures c.if-
 
 pub say_flat-overflow_add-first : goal.say_flat-overflow_add-first
 say_flat-overflow_add-first t c =
-  let h = c.line_end-end.ensures.high in let n = c.if-end-query.false in let w = c.word_at-w.ensures.0.high in omega arith
+    let h = c.line_end-end.ensures.high in let n = c.if-end-query.false in let w = c.word_at-w.ensures.0.high in omega arith
 
 pub say_flat-lines_under-children-requires : goal.say_flat-lines_under-children-requires
 say_flat-lines_under-children-requires t c = let h = c.line_end-end.ensures.high in let n = c.if-end-query.false in (omega arith, c.requires.0)
 
 pub say_flat-put_before-to-requires : goal.say_flat-put_before-to-requires
 say_flat-put_before-to-requires t c =
-  let h = c.line_end-end.ensures.high in let n = c.if-end-query.false in let w = c.word_at-w.ensures.0.high in (omega arith, omega arith)
+    let h = c.line_end-end.ensures.high in let n = c.if-end-query.false in let w = c.word_at-w.ensures.0.high in (omega arith, omega arith)
 
 pub say_flat-overflow_add-next : goal.say_flat-overflow_add-next
 say_flat-overflow_add-next t c = let h = c.line_end-end.ensures.high in let n = c.if-end-query.false in omega arith
 
 pub say_flat-loop-children-init : goal.say_flat-loop-children-init
 say_flat-loop-children-init t c =
-  let b = c.lines_under-children.ensures in let b1 = b.1 in let w = c.word_at-w.ensures in (refl, omega arith, rw (G.come-here _ _ _ c.line_end-end.ensures c.if-end-query.false _ w.0 _ (b.0 _ w.1)) (G.going_start _ _ _ _ _ _))
+    let b = c.lines_under-children.ensures in let b1 = b.1 in let w = c.word_at-w.ensures in (refl, omega arith, rw (G.come-here _ _ _ c.line_end-end.ensures c.if-end-query.false _ w.0 _ (b.0 _ w.1)) (G.going_start _ _ _ _ _ _))
 
 pub say_flat-say_expression-child-requires : goal.say_flat-say_expression-child-requires
 say_flat-say_expression-child-requires t c = let p = c.requires in let m = p.0 in (omega arith, p.1.0)
@@ -70,7 +70,7 @@ say_flat-overflow_sub-children t c = let n = c.loop-children-test.true in omega 
 
 pub say_flat-put_after-to-requires : goal.say_flat-put_after-to-requires
 say_flat-put_after-to-requires t c =
-  let h = c.line_end-end.ensures.high in let n = c.if-end-query.false in let w = c.word_at-w.ensures.0.high in (omega arith, omega arith)
+    let h = c.line_end-end.ensures.high in let n = c.if-end-query.false in let w = c.word_at-w.ensures.0.high in (omega arith, omega arith)
 
 pub say_flat-overflow_add-i : goal.say_flat-overflow_add-i
 say_flat-overflow_add-i t c = let v = c.loop-children.invariant.1 in let n = c.loop-children-test.true in omega arith
@@ -80,11 +80,11 @@ say_flat-loop-children-smaller t c = let n = c.loop-children-test.true in omega 
 
 pub say_flat-loop-children-preserved : goal.say_flat-loop-children-preserved
 say_flat-loop-children-preserved t c =
-  let v = c.loop-children.invariant in let v1 = v.1 in let n = c.loop-children-test.true in let l = c.line_end-end.ensures in let e = c.if-end-query.false in let w = c.word_at-w.ensures in (search rules, omega arith, G.going-child _ _ _ _ _ _ _ _ _ _ v.2 _ (G.flat-under _ _ _ l e c.requires.1) n _ _ _ c.say_expression-child.ensures (G.after-here _ _ _ l e _ w.0 _ _ _ _ _ (c.put_after-to.ensures _ w.1)))
+    let v = c.loop-children.invariant in let v1 = v.1 in let n = c.loop-children-test.true in let l = c.line_end-end.ensures in let e = c.if-end-query.false in let w = c.word_at-w.ensures in (search rules, omega arith, G.going-child _ _ _ _ _ _ _ _ _ _ v.2 _ (G.flat-under _ _ _ l e c.requires.1) n _ _ _ c.say_expression-child.ensures (G.after-here _ _ _ l e _ w.0 _ _ _ _ _ (c.put_after-to.ensures _ w.1)))
 
 pub say_flat-returns : goal.say_flat-returns
 say_flat-returns t c =
-  let v = c.loop-children.invariant.2 in let n = c.loop-children-test.false in let l = c.line_end-end.ensures in let e = c.if-end-query.false in let w = c.word_at-w.ensures in G.writes _ _ _ _ _ l e _ _ _ _ (G.before_here _ _ _ l e _ w.0 _ _ _ (c.put_before-to.ensures _ w.1)) (G.all-tokens _ _ _ _ _ _ _ _ _ _ v n) (G.all_left _ _ _ _ _ _ _ _ _ _ v n)
+    let v = c.loop-children.invariant.2 in let n = c.loop-children-test.false in let l = c.line_end-end.ensures in let e = c.if-end-query.false in let w = c.word_at-w.ensures in G.writes _ _ _ _ _ l e _ _ _ _ (G.before_here _ _ _ l e _ w.0 _ _ _ (c.put_before-to.ensures _ w.1)) (G.all-tokens _ _ _ _ _ _ _ _ _ _ v n) (G.all_left _ _ _ _ _ _ _ _ _ _ v n)
 
 pub say_line-returns-then-end-query : goal.say_line-returns-then-end-query
 say_line-returns-then-end-query t c = G.no_line _ _ _ _ _ _ c.line_end-end.ensures c.if-end-query.true
@@ -94,21 +94,21 @@ say_line-word_at-w-requires t c = (G.line_low _ _ _ c.line_end-end.ensures c.if-
 
 pub say_line-overflow_add-first : goal.say_line-overflow_add-first
 say_line-overflow_add-first t c =
-  let h = c.line_end-end.ensures.high in let n = c.if-end-query.false in let w = c.word_at-w.ensures.0.high in omega arith
+    let h = c.line_end-end.ensures.high in let n = c.if-end-query.false in let w = c.word_at-w.ensures.0.high in omega arith
 
 pub say_line-lines_under-children-requires : goal.say_line-lines_under-children-requires
 say_line-lines_under-children-requires t c = let h = c.line_end-end.ensures.high in let n = c.if-end-query.false in (omega arith, c.requires)
 
 pub say_line-put_before-to-requires : goal.say_line-put_before-to-requires
 say_line-put_before-to-requires t c =
-  let h = c.line_end-end.ensures.high in let n = c.if-end-query.false in let w = c.word_at-w.ensures.0.high in (omega arith, omega arith)
+    let h = c.line_end-end.ensures.high in let n = c.if-end-query.false in let w = c.word_at-w.ensures.0.high in (omega arith, omega arith)
 
 pub say_line-overflow_add-next : goal.say_line-overflow_add-next
 say_line-overflow_add-next t c = let h = c.line_end-end.ensures.high in let n = c.if-end-query.false in omega arith
 
 pub say_line-loop-children-init : goal.say_line-loop-children-init
 say_line-loop-children-init t c =
-  let b = c.lines_under-children.ensures in let b1 = b.1 in let w = c.word_at-w.ensures in (refl, omega arith, rw (G.come-here _ _ _ c.line_end-end.ensures c.if-end-query.false _ w.0 _ (b.0 _ w.1)) (G.going_start _ _ _ _ _ _))
+    let b = c.lines_under-children.ensures in let b1 = b.1 in let w = c.word_at-w.ensures in (refl, omega arith, rw (G.come-here _ _ _ c.line_end-end.ensures c.if-end-query.false _ w.0 _ (b.0 _ w.1)) (G.going_start _ _ _ _ _ _))
 
 pub say_line-say_child-child-requires : goal.say_line-say_child-child-requires
 say_line-say_child-child-requires t c = let m = c.decreases in (omega arith, c.requires)
@@ -118,7 +118,7 @@ say_line-overflow_sub-children t c = let n = c.loop-children-test.true in omega 
 
 pub say_line-put_after-to-requires : goal.say_line-put_after-to-requires
 say_line-put_after-to-requires t c =
-  let h = c.line_end-end.ensures.high in let n = c.if-end-query.false in let w = c.word_at-w.ensures.0.high in (omega arith, omega arith)
+    let h = c.line_end-end.ensures.high in let n = c.if-end-query.false in let w = c.word_at-w.ensures.0.high in (omega arith, omega arith)
 
 pub say_line-overflow_add-i : goal.say_line-overflow_add-i
 say_line-overflow_add-i t c = let v = c.loop-children.invariant.1 in let n = c.loop-children-test.true in omega arith
@@ -128,11 +128,11 @@ say_line-loop-children-smaller t c = let n = c.loop-children-test.true in omega 
 
 pub say_line-loop-children-preserved : goal.say_line-loop-children-preserved
 say_line-loop-children-preserved t c =
-  let v = c.loop-children.invariant in let v1 = v.1 in let n = c.loop-children-test.true in let l = c.line_end-end.ensures in let e = c.if-end-query.false in let w = c.word_at-w.ensures in (search rules, omega arith, G.going-child _ _ _ _ _ _ _ _ _ _ v.2 _ (G.under-here _ _ _ l e _ w.0 _ (c.manner_of-under.ensures _ w.1)) n _ _ _ c.say_child-child.ensures (G.after-here _ _ _ l e _ w.0 _ _ _ _ _ (c.put_after-to.ensures _ w.1)))
+    let v = c.loop-children.invariant in let v1 = v.1 in let n = c.loop-children-test.true in let l = c.line_end-end.ensures in let e = c.if-end-query.false in let w = c.word_at-w.ensures in (search rules, omega arith, G.going-child _ _ _ _ _ _ _ _ _ _ v.2 _ (G.under-here _ _ _ l e _ w.0 _ (c.manner_of-under.ensures _ w.1)) n _ _ _ c.say_child-child.ensures (G.after-here _ _ _ l e _ w.0 _ _ _ _ _ (c.put_after-to.ensures _ w.1)))
 
 pub say_line-returns : goal.say_line-returns
 say_line-returns t c =
-  let v = c.loop-children.invariant.2 in let n = c.loop-children-test.false in let l = c.line_end-end.ensures in let e = c.if-end-query.false in let w = c.word_at-w.ensures in G.writes _ _ _ _ _ l e _ _ _ _ (G.before_here _ _ _ l e _ w.0 _ _ _ (c.put_before-to.ensures _ w.1)) (G.all-tokens _ _ _ _ _ _ _ _ _ _ v n) (G.all_left _ _ _ _ _ _ _ _ _ _ v n)
+    let v = c.loop-children.invariant.2 in let n = c.loop-children-test.false in let l = c.line_end-end.ensures in let e = c.if-end-query.false in let w = c.word_at-w.ensures in G.writes _ _ _ _ _ l e _ _ _ _ (G.before_here _ _ _ l e _ w.0 _ _ _ (c.put_before-to.ensures _ w.1)) (G.all-tokens _ _ _ _ _ _ _ _ _ _ v n) (G.all_left _ _ _ _ _ _ _ _ _ _ v n)
 
 pub say_pattern-returns-then-depth-eq0 : goal.say_pattern-returns-then-depth-eq0
 say_pattern-returns-then-depth-eq0 t c = G.none_left _ _ _ _ _ c.if-depth-eq0.true

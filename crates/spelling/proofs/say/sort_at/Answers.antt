@@ -10,4 +10,4 @@ word_at-w-requires c = (G.line_low _ _ _ c.line_end-end.ensures c.if-end-query.f
 
 pub returns : goal.returns
 returns c =
-  G.sort-here _ _ _ c.line_end-end.ensures c.if-end-query.false _ c.word_at-w.ensures.0 _ (c.sort_of.ensures _ c.word_at-w.ensures.1)
+    G.sort-here _ _ _ c.line_end-end.ensures c.if-end-query.false _ c.word_at-w.ensures.0 _ (c.sort_of.ensures _ c.word_at-w.ensures.1)

@@ -71,4 +71,4 @@ returns-in-7237492 c = λ f k. G.sort-plain f _ k (bytes "not") refl refl refl c
 pub returns-in_default : goal.returns-in_default
 unfolding key_of tells small shallow same
 returns-in_default c =
-  λ f k. let n = c.in_default.in_default-own.rest in G.sort-other f _ k n.0.0.0.0.0.0.0.0.0.0.0.0.0.0.1 n.0.0.0.0.0.0.0.0.0.0.0.0.0.1 n.0.0.0.0.0.0.0.0.0.0.0.0.1 n.0.0.0.0.0.0.0.0.0.0.0.1 n.0.0.0.0.0.0.0.0.0.0.1 n.0.0.0.0.0.0.0.0.0.1 n.0.0.0.0.0.0.0.0.1
+    λ f k. let n = c.in_default.in_default-own.rest in G.sort-other f _ k n.0.0.0.0.0.0.0.0.0.0.0.0.0.0.1 n.0.0.0.0.0.0.0.0.0.0.0.0.0.1 n.0.0.0.0.0.0.0.0.0.0.0.0.1 n.0.0.0.0.0.0.0.0.0.0.0.1 n.0.0.0.0.0.0.0.0.0.0.1 n.0.0.0.0.0.0.0.0.0.1 n.0.0.0.0.0.0.0.0.1

@@ -44,21 +44,21 @@ seek_flat-word_at-w-requires t c = (G.line_low _ _ _ c.line_end-end.ensures c.if
 
 pub seek_flat-overflow_add-first : goal.seek_flat-overflow_add-first
 seek_flat-overflow_add-first t c =
-  let h = c.line_end-end.ensures.high in let n = c.if-end-query.false in let w = c.word_at-w.ensures.0.high in omega arith
+    let h = c.line_end-end.ensures.high in let n = c.if-end-query.false in let w = c.word_at-w.ensures.0.high in omega arith
 
 pub seek_flat-lines_under-children-requires : goal.seek_flat-lines_under-children-requires
 seek_flat-lines_under-children-requires t c = let h = c.line_end-end.ensures.high in let n = c.if-end-query.false in (omega arith, c.requires)
 
 pub seek_flat-is_named-requires : goal.seek_flat-is_named-requires
 seek_flat-is_named-requires t c =
-  let h = c.line_end-end.ensures.high in let n = c.if-end-query.false in let w = c.word_at-w.ensures.0.high in (omega arith, omega arith)
+    let h = c.line_end-end.ensures.high in let n = c.if-end-query.false in let w = c.word_at-w.ensures.0.high in (omega arith, omega arith)
 
 pub seek_flat-overflow_add-next : goal.seek_flat-overflow_add-next
 seek_flat-overflow_add-next t c = let h = c.line_end-end.ensures.high in let n = c.if-end-query.false in omega arith
 
 pub seek_flat-loop-children-init : goal.seek_flat-loop-children-init
 seek_flat-loop-children-init t c =
-  let b = c.lines_under-children.ensures in let b1 = b.1 in let w = c.word_at-w.ensures in (omega arith, rw (G.come-here _ _ _ c.line_end-end.ensures c.if-end-query.false _ w.0 _ (b.0 _ w.1)) (G.searching-start _ _ _ _ _ _))
+    let b = c.lines_under-children.ensures in let b1 = b.1 in let w = c.word_at-w.ensures in (omega arith, rw (G.come-here _ _ _ c.line_end-end.ensures c.if-end-query.false _ w.0 _ (b.0 _ w.1)) (G.searching-start _ _ _ _ _ _))
 
 pub seek_flat-seek_expression-child-requires : goal.seek_flat-seek_expression-child-requires
 seek_flat-seek_expression-child-requires t c = let m = c.decreases in (omega arith, c.requires)
@@ -74,11 +74,11 @@ seek_flat-loop-children-smaller t c = let n = c.loop-children-test.true in omega
 
 pub seek_flat-loop-children-preserved : goal.seek_flat-loop-children-preserved
 seek_flat-loop-children-preserved t c =
-  let v = c.loop-children.invariant in let v0 = v.0 in let n = c.loop-children-test.true in let l = c.line_end-end.ensures in let e = c.if-end-query.false in let w = c.word_at-w.ensures in (omega arith, G.searching-child _ _ _ _ _ _ _ _ _ _ v.1 _ (c.both.ensures ∙ ap (◌&&◌ c.args.shown) (G.shows-here _ _ _ l e _ w.0 _ _ (c.shows_child.ensures _ w.1 _))) n _ _ c.seek_expression-child.ensures _ c.either-found.ensures)
+    let v = c.loop-children.invariant in let v0 = v.0 in let n = c.loop-children-test.true in let l = c.line_end-end.ensures in let e = c.if-end-query.false in let w = c.word_at-w.ensures in (omega arith, G.searching-child _ _ _ _ _ _ _ _ _ _ v.1 _ (c.both.ensures ∙ ap (◌&&◌ c.args.shown) (G.shows-here _ _ _ l e _ w.0 _ _ (c.shows_child.ensures _ w.1 _))) n _ _ c.seek_expression-child.ensures _ c.either-found.ensures)
 
 pub seek_flat-returns : goal.seek_flat-returns
 seek_flat-returns t c =
-  let v = c.loop-children.invariant.1 in let n = c.loop-children-test.false in let l = c.line_end-end.ensures in let e = c.if-end-query.false in let w = c.word_at-w.ensures in G.seeks _ _ _ _ _ _ l e _ _ _ (c.both-found.ensures ∙ ap (◌&&◌ c.args.shown) (G.names-here _ _ _ l e _ w.0 _ _ (c.is_named.ensures _ w.1))) (G.sought-found _ _ _ _ _ _ _ _ _ _ v n) (G.sought-left _ _ _ _ _ _ _ _ _ _ v n)
+    let v = c.loop-children.invariant.1 in let n = c.loop-children-test.false in let l = c.line_end-end.ensures in let e = c.if-end-query.false in let w = c.word_at-w.ensures in G.seeks _ _ _ _ _ _ l e _ _ _ (c.both-found.ensures ∙ ap (◌&&◌ c.args.shown) (G.names-here _ _ _ l e _ w.0 _ _ (c.is_named.ensures _ w.1))) (G.sought-found _ _ _ _ _ _ _ _ _ _ v n) (G.sought-left _ _ _ _ _ _ _ _ _ _ v n)
 
 pub seek_line-returns-then-end-query : goal.seek_line-returns-then-end-query
 seek_line-returns-then-end-query t c = G.sought-nothing _ _ _ _ _ _ c.line_end-end.ensures c.if-end-query.true
@@ -88,21 +88,21 @@ seek_line-word_at-w-requires t c = (G.line_low _ _ _ c.line_end-end.ensures c.if
 
 pub seek_line-overflow_add-first : goal.seek_line-overflow_add-first
 seek_line-overflow_add-first t c =
-  let h = c.line_end-end.ensures.high in let n = c.if-end-query.false in let w = c.word_at-w.ensures.0.high in omega arith
+    let h = c.line_end-end.ensures.high in let n = c.if-end-query.false in let w = c.word_at-w.ensures.0.high in omega arith
 
 pub seek_line-lines_under-children-requires : goal.seek_line-lines_under-children-requires
 seek_line-lines_under-children-requires t c = let h = c.line_end-end.ensures.high in let n = c.if-end-query.false in (omega arith, c.requires)
 
 pub seek_line-is_named-requires : goal.seek_line-is_named-requires
 seek_line-is_named-requires t c =
-  let h = c.line_end-end.ensures.high in let n = c.if-end-query.false in let w = c.word_at-w.ensures.0.high in (omega arith, omega arith)
+    let h = c.line_end-end.ensures.high in let n = c.if-end-query.false in let w = c.word_at-w.ensures.0.high in (omega arith, omega arith)
 
 pub seek_line-overflow_add-next : goal.seek_line-overflow_add-next
 seek_line-overflow_add-next t c = let h = c.line_end-end.ensures.high in let n = c.if-end-query.false in omega arith
 
 pub seek_line-loop-children-init : goal.seek_line-loop-children-init
 seek_line-loop-children-init t c =
-  let b = c.lines_under-children.ensures in let b1 = b.1 in let w = c.word_at-w.ensures in (omega arith, rw (G.come-here _ _ _ c.line_end-end.ensures c.if-end-query.false _ w.0 _ (b.0 _ w.1)) (G.searching-start _ _ _ _ _ _))
+    let b = c.lines_under-children.ensures in let b1 = b.1 in let w = c.word_at-w.ensures in (omega arith, rw (G.come-here _ _ _ c.line_end-end.ensures c.if-end-query.false _ w.0 _ (b.0 _ w.1)) (G.searching-start _ _ _ _ _ _))
 
 pub seek_line-seek_child-child-requires : goal.seek_line-seek_child-child-requires
 seek_line-seek_child-child-requires t c = let m = c.decreases in (omega arith, c.requires)
@@ -118,11 +118,11 @@ seek_line-loop-children-smaller t c = let n = c.loop-children-test.true in omega
 
 pub seek_line-loop-children-preserved : goal.seek_line-loop-children-preserved
 seek_line-loop-children-preserved t c =
-  let v = c.loop-children.invariant in let v0 = v.0 in let n = c.loop-children-test.true in let l = c.line_end-end.ensures in let e = c.if-end-query.false in let w = c.word_at-w.ensures in (omega arith, G.searching-child _ _ _ _ _ _ _ _ _ _ v.1 _ (c.both.ensures ∙ ap (◌&&◌ c.args.shown) (G.shows-here _ _ _ l e _ w.0 _ _ (c.shows_child.ensures _ w.1 _))) n _ _ c.seek_child-child.ensures _ c.either-found.ensures)
+    let v = c.loop-children.invariant in let v0 = v.0 in let n = c.loop-children-test.true in let l = c.line_end-end.ensures in let e = c.if-end-query.false in let w = c.word_at-w.ensures in (omega arith, G.searching-child _ _ _ _ _ _ _ _ _ _ v.1 _ (c.both.ensures ∙ ap (◌&&◌ c.args.shown) (G.shows-here _ _ _ l e _ w.0 _ _ (c.shows_child.ensures _ w.1 _))) n _ _ c.seek_child-child.ensures _ c.either-found.ensures)
 
 pub seek_line-returns : goal.seek_line-returns
 seek_line-returns t c =
-  let v = c.loop-children.invariant.1 in let n = c.loop-children-test.false in let l = c.line_end-end.ensures in let e = c.if-end-query.false in let w = c.word_at-w.ensures in G.seeks _ _ _ _ _ _ l e _ _ _ (c.both-found.ensures ∙ ap (◌&&◌ c.args.shown) (G.names-here _ _ _ l e _ w.0 _ _ (c.is_named.ensures _ w.1))) (G.sought-found _ _ _ _ _ _ _ _ _ _ v n) (G.sought-left _ _ _ _ _ _ _ _ _ _ v n)
+    let v = c.loop-children.invariant.1 in let n = c.loop-children-test.false in let l = c.line_end-end.ensures in let e = c.if-end-query.false in let w = c.word_at-w.ensures in G.seeks _ _ _ _ _ _ l e _ _ _ (c.both-found.ensures ∙ ap (◌&&◌ c.args.shown) (G.names-here _ _ _ l e _ w.0 _ _ (c.is_named.ensures _ w.1))) (G.sought-found _ _ _ _ _ _ _ _ _ _ v n) (G.sought-left _ _ _ _ _ _ _ _ _ _ v n)
 
 pub seek_pattern-returns-then-depth-eq0 : goal.seek_pattern-returns-then-depth-eq0
 seek_pattern-returns-then-depth-eq0 t c = G.sought-none _ _ _ _ _ c.if-depth-eq0.true

@@ -78,4 +78,4 @@ returns-in-107096743963756 c = λ f k. N.names-aggall f _ k _ _ _ c.in-107096743
 pub returns-in_default : goal.returns-in_default
 unfolding key_of
 returns-in_default c =
-  λ f k. let n = c.in_default.in_default-own.rest in N.names-none f _ k _ _ n.0.0.0.0.0.0.0.0.1 n.0.0.0.0.0.0.0.1 n.0.0.0.0.0.0.1 n.0.0.0.0.0.1 n.0.0.0.0.1 n.0.0.0.1 n.0.0.1 n.0.1 n.1
+    λ f k. let n = c.in_default.in_default-own.rest in N.names-none f _ k _ _ n.0.0.0.0.0.0.0.0.1 n.0.0.0.0.0.0.0.1 n.0.0.0.0.0.0.1 n.0.0.0.0.0.1 n.0.0.0.0.1 n.0.0.0.1 n.0.0.1 n.0.1 n.1

@@ -38,4 +38,4 @@ returns-in-6383463 c = λ f k fs. N.shows-agg f _ k fs _ c.in-6383463.is
 pub returns-in_default : goal.returns-in_default
 unfolding key_of
 returns-in_default c =
-  λ f k fs. let n = c.in_default.in_default-own.rest in N.shows-all f _ k fs _ n.0.0.0.0.0.0.0.1 n.0.0.0.0.0.0.1 n.0.0.0.0.0.1 n.0.0.0.0.1 n.0.0.0.1 n.0.0.1 n.0.1 n.1
+    λ f k fs. let n = c.in_default.in_default-own.rest in N.shows-all f _ k fs _ n.0.0.0.0.0.0.0.1 n.0.0.0.0.0.0.1 n.0.0.0.0.0.1 n.0.0.0.0.1 n.0.0.0.1 n.0.0.1 n.0.1 n.1

@@ -11,7 +11,7 @@ check_step-step-requires c = (c.requires.0, omega (arith, c.loop-left.invariant.
 
 pub returns-then-number-ne0 : goal.returns-then-number-ne0
 returns-then-number-ne0 c =
-  let l = c.loop-left in let s = c.check_step-step in goes-refused _ _ _ _ l.invariant.1 c.loop-left-test.true s.result _ s.ensures c.number.ensures (λ z. c.if-number-ne0.true z)
+    let l = c.loop-left in let s = c.check_step-step in goes-refused _ _ _ _ l.invariant.1 c.loop-left-test.true s.result _ s.ensures c.number.ensures (λ z. c.if-number-ne0.true z)
 
 pub overflow_add-k : goal.overflow_add-k
 overflow_add-k c = omega (arith, c.loop-left.invariant.0)
@@ -24,7 +24,7 @@ loop-left-smaller c = omega (arith, c.loop-left-test.true)
 
 pub loop-left-preserved : goal.loop-left-preserved
 loop-left-preserved c =
-  let l = c.loop-left in let s = c.check_step-step in (omega (arith, l.invariant.0, c.loop-left-test.true), goes-next _ _ _ _ l.invariant.1 c.loop-left-test.true s.result _ s.ensures c.number.ensures c.if-number-ne0.false)
+    let l = c.loop-left in let s = c.check_step-step in (omega (arith, l.invariant.0, c.loop-left-test.true), goes-next _ _ _ _ l.invariant.1 c.loop-left-test.true s.result _ s.ensures c.number.ensures c.if-number-ne0.false)
 
 pub returns : goal.returns
 returns c = c.loop-left.invariant.1 _ (steps-none _ _ _ _ (omega (arith, c.loop-left-test.false)))

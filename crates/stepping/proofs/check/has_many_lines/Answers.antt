@@ -15,7 +15,7 @@ overflow_sub-total c = omega (arith, c.loop-k.invariant.0.0)
 
 pub returns-then-total-lines : goal.returns-then-total-lines
 returns-then-total-lines c =
-  let l = c.loop-k in sums-many (texts c.args.input.now) l.total l.k _ l.invariant.0 (omega (arith, c.requires.1, c.loop-k-test.true)) _ c.text_at.ensures c.count_lines-lines.ensures c.if-total-lines.true
+    let l = c.loop-k in sums-many (texts c.args.input.now) l.total l.k _ l.invariant.0 (omega (arith, c.requires.1, c.loop-k-test.true)) _ c.text_at.ensures c.count_lines-lines.ensures c.if-total-lines.true
 
 pub overflow_add-total : goal.overflow_add-total
 overflow_add-total c = omega (arith, c.loop-k.invariant.0.0, c.if-total-lines.false)
@@ -28,8 +28,8 @@ loop-k-smaller c = omega (arith, c.loop-k-test.true)
 
 pub loop-k-preserved : goal.loop-k-preserved
 loop-k-preserved c =
-  let l = c.loop-k in (sums_next (texts c.args.input.now) l.total l.k _ l.invariant.0 (omega (arith, c.requires.1, c.loop-k-test.true)) _ c.text_at.ensures c.count_lines-lines.ensures c.if-total-lines.false, omega (arith, c.loop-k-test.true))
+    let l = c.loop-k in (sums_next (texts c.args.input.now) l.total l.k _ l.invariant.0 (omega (arith, c.requires.1, c.loop-k-test.true)) _ c.text_at.ensures c.count_lines-lines.ensures c.if-total-lines.false, omega (arith, c.loop-k-test.true))
 
 pub returns : goal.returns
 returns c =
-  let l = c.loop-k in sums-done (texts c.args.input.now) l.total l.k l.invariant.0 (omega (arith, c.requires.1, c.loop-k-test.false))
+    let l = c.loop-k in sums-done (texts c.args.input.now) l.total l.k l.invariant.0 (omega (arith, c.requires.1, c.loop-k-test.false))

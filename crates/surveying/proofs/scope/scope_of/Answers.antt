@@ -12,11 +12,11 @@ put_scope-need-requires c = T.surveyed-high _ _ _ _ _ _ c.requires
 
 pub returns-then-out-need : goal.returns-then-out-need
 returns-then-out-need c =
-  S.scope-short _ _ _ _ _ _ c.requires _ c.note_places.ensures _ _ _ _ c.put_scope-need.ensures c.if-out-need.true
+    S.scope-short _ _ _ _ _ _ c.requires _ c.note_places.ensures _ _ _ _ c.put_scope-need.ensures c.if-out-need.true
 
 pub put_scope-size-requires : goal.put_scope-size-requires
 put_scope-size-requires c = T.surveyed-high _ _ _ _ _ _ c.requires
 
 pub returns : goal.returns
 returns c =
-  S.scope-written _ _ _ _ _ _ c.requires _ c.note_places.ensures _ _ _ _ c.put_scope-need.ensures _ _ c.if-out-need.false (let g = c.well_formed in omega (arith, g)) c.put_scope-size.ensures
+    S.scope-written _ _ _ _ _ _ c.requires _ c.note_places.ensures _ _ _ _ c.put_scope-need.ensures _ _ c.if-out-need.false (let g = c.well_formed in omega (arith, g)) c.put_scope-size.ensures

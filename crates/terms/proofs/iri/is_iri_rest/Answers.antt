@@ -11,11 +11,11 @@ returns-then-b-eq62 c = L.iri-close _ _ c.loop-i-test.true c.if-b-eq62.true ∙ 
 
 pub returns-then-not-is_iri_byte : goal.returns-then-not-is_iri_byte
 returns-then-not-is_iri_byte c =
-  L.iri-stop _ _ c.loop-i-test.true c.if-b-eq62.false _ c.is_iri_byte.ensures c.if-not-is_iri_byte.true-raw ∙ sym c.loop-i.invariant
+    L.iri-stop _ _ c.loop-i-test.true c.if-b-eq62.false _ c.is_iri_byte.ensures c.if-not-is_iri_byte.true-raw ∙ sym c.loop-i.invariant
 
 pub loop-i-preserved : goal.loop-i-preserved
 loop-i-preserved c =
-  c.loop-i.invariant ∙ L.iri-next _ _ c.loop-i-test.true c.if-b-eq62.false _ c.is_iri_byte.ensures c.if-not-is_iri_byte.false-raw
+    c.loop-i.invariant ∙ L.iri-next _ _ c.loop-i-test.true c.if-b-eq62.false _ c.is_iri_byte.ensures c.if-not-is_iri_byte.false-raw
 
 pub returns : goal.returns
 returns c = L.iri-open _ _ c.loop-i-test.false ∙ sym c.loop-i.invariant

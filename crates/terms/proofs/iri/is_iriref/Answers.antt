@@ -10,8 +10,8 @@ returns-then-f-from-ne60 c = L.ref-mark _ _ c.if-f-from.false c.if-f-from-ne60.t
 
 pub returns-then-not-is_iri_rest : goal.returns-then-not-is_iri_rest
 returns-then-not-is_iri_rest c =
-  L.ref-stop _ _ c.if-f-from.false c.if-f-from-ne60.false _ c.is_iri_rest.ensures c.if-not-is_iri_rest.true-raw
+    L.ref-stop _ _ c.if-f-from.false c.if-f-from-ne60.false _ c.is_iri_rest.ensures c.if-not-is_iri_rest.true-raw
 
 pub returns : goal.returns
 returns c =
-  L.ref-utf8 _ _ c.if-f-from.false c.if-f-from-ne60.false _ c.is_iri_rest.ensures c.if-not-is_iri_rest.false-raw _ c.is_utf8.ensures
+    L.ref-utf8 _ _ c.if-f-from.false c.if-f-from-ne60.false _ c.is_iri_rest.ensures c.if-not-is_iri_rest.false-raw _ c.is_utf8.ensures

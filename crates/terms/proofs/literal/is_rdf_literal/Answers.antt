@@ -12,12 +12,12 @@ returns-then-f-ne34 c = L.literal-mark _ c.if-f-ne34.true
 
 pub returns-then-not-is_string : goal.returns-then-not-is_string
 returns-then-not-is_string c =
-  T.and-stop! _ _ _ c.is_string.ensures c.if-not-is_string.true-raw ∙ sym (L.literal-is _ c.if-f-lt1.false c.if-f-ne34.false)
+    T.and-stop! _ _ _ c.is_string.ensures c.if-not-is_string.true-raw ∙ sym (L.literal-is _ c.if-f-lt1.false c.if-f-ne34.false)
 
 pub returns-then-not-is_unescaped : goal.returns-then-not-is_unescaped
 returns-then-not-is_unescaped c =
-  T.and-go! _ _ _ _ c.is_string.ensures c.if-not-is_string.false-raw (T.and-stop! _ _ _ c.is_unescaped.ensures c.if-not-is_unescaped.true-raw) ∙ sym (L.literal-is _ c.if-f-lt1.false c.if-f-ne34.false)
+    T.and-go! _ _ _ _ c.is_string.ensures c.if-not-is_string.false-raw (T.and-stop! _ _ _ c.is_unescaped.ensures c.if-not-is_unescaped.true-raw) ∙ sym (L.literal-is _ c.if-f-lt1.false c.if-f-ne34.false)
 
 pub returns : goal.returns
 returns c =
-  T.and-go! _ _ _ _ c.is_string.ensures c.if-not-is_string.false-raw (T.and-go! _ _ _ _ c.is_unescaped.ensures c.if-not-is_unescaped.false-raw c.is_utf8.ensures) ∙ sym (L.literal-is _ c.if-f-lt1.false c.if-f-ne34.false)
+    T.and-go! _ _ _ _ c.is_string.ensures c.if-not-is_string.false-raw (T.and-go! _ _ _ _ c.is_unescaped.ensures c.if-not-is_unescaped.false-raw c.is_utf8.ensures) ∙ sym (L.literal-is _ c.if-f-lt1.false c.if-f-ne34.false)

@@ -16,8 +16,8 @@ returns-then-f-from-2 c = L.suffix-one _ _ c.if-f-from.false c.if-f-from-eq64.fa
 
 pub returns-then-f-from-ne94-2 : goal.returns-then-f-from-ne94-2
 returns-then-f-from-ne94-2 c =
-  L.suffix-other _ _ c.if-f-from.false c.if-f-from-eq64.false c.if-f-from-ne94.false c.if-f-from-2.false c.if-f-from-ne94-2.true
+    L.suffix-other _ _ c.if-f-from.false c.if-f-from-eq64.false c.if-f-from-ne94.false c.if-f-from-2.false c.if-f-from-ne94-2.true
 
 pub returns : goal.returns
 returns c =
-  L.suffix-iri _ _ c.if-f-from.false c.if-f-from-eq64.false c.if-f-from-ne94.false c.if-f-from-2.false c.if-f-from-ne94-2.false _ c.is_iriref.ensures
+    L.suffix-iri _ _ c.if-f-from.false c.if-f-from-eq64.false c.if-f-from-ne94.false c.if-f-from-2.false c.if-f-from-ne94-2.false _ c.is_iriref.ensures

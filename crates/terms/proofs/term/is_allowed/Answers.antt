@@ -7,8 +7,8 @@ returns-then-is_var c = L.term-var _ _ c.is_var.ensures c.if-is_var.true _ c.is_
 
 pub returns-then-is_iri : goal.returns-then-is_iri
 returns-then-is_iri c =
-  L.term-iri _ _ c.is_var.ensures c.if-is_var.false _ c.is_iri.ensures c.if-is_iri.true _ c.is_iriref.ensures
+    L.term-iri _ _ c.is_var.ensures c.if-is_var.false _ c.is_iri.ensures c.if-is_iri.true _ c.is_iriref.ensures
 
 pub returns : goal.returns
 returns c =
-  L.term-literal _ _ c.is_var.ensures c.if-is_var.false _ c.is_iri.ensures c.if-is_iri.false _ c.is_rdf_literal.ensures
+    L.term-literal _ _ c.is_var.ensures c.if-is_var.false _ c.is_iri.ensures c.if-is_iri.false _ c.is_rdf_literal.ensures

@@ -7,8 +7,8 @@ returns-then-is_dash c = L.cell-undef _ _ c.is_dash.ensures c.if-is_dash.true
 
 pub returns-then-is_iri : goal.returns-then-is_iri
 returns-then-is_iri c =
-  L.cell-iri _ _ c.is_dash.ensures c.if-is_dash.false _ c.is_iri.ensures c.if-is_iri.true _ c.is_iriref.ensures
+    L.cell-iri _ _ c.is_dash.ensures c.if-is_dash.false _ c.is_iri.ensures c.if-is_iri.true _ c.is_iriref.ensures
 
 pub returns : goal.returns
 returns c =
-  L.cell-literal _ _ c.is_dash.ensures c.if-is_dash.false _ c.is_iri.ensures c.if-is_iri.false _ c.is_rdf_literal.ensures
+    L.cell-literal _ _ c.is_dash.ensures c.if-is_dash.false _ c.is_iri.ensures c.if-is_iri.false _ c.is_rdf_literal.ensures

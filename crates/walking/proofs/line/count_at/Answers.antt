@@ -8,8 +8,8 @@ returns-then-end-at c = let x = L.count_none _ _ _ c.if-end-at.true in (x.0, x.1
 
 pub returns-in-Is : goal.returns-in-Is
 returns-in-Is c =
-  (L.count-is _ _ _ _ (omega arith) (omega arith) c.field_end-e.ensures _ c.number_of.ensures _ c.in-Is.is, L.count_next _ _ _ _ (omega arith) (omega arith) c.field_end-e.ensures, omega arith)
+    (L.count-is _ _ _ _ (omega arith) (omega arith) c.field_end-e.ensures _ c.number_of.ensures _ c.in-Is.is, L.count_next _ _ _ _ (omega arith) (omega arith) c.field_end-e.ensures, omega arith)
 
 pub returns-in-Not : goal.returns-in-Not
 returns-in-Not c =
-  (L.count-not _ _ _ _ (omega arith) (omega arith) c.field_end-e.ensures _ c.number_of.ensures c.in-Not.is, L.count_next _ _ _ _ (omega arith) (omega arith) c.field_end-e.ensures, omega arith)
+    (L.count-not _ _ _ _ (omega arith) (omega arith) c.field_end-e.ensures _ c.number_of.ensures c.in-Not.is, L.count_next _ _ _ _ (omega arith) (omega arith) c.field_end-e.ensures, omega arith)

@@ -5,4 +5,4 @@ use Rattle.walking.proofs.places.name_size.Goals as goal
 
 pub returns : goal.returns
 returns c =
-  let a = c.args in rw (column-at 0 a.table.now a.entry, column-at 1 a.table.now a.entry) (L.piece-size _ _ _ _ _ _ c.wide.ensures c.wide-2.ensures c.piece.ensures)
+    let a = c.args in rw (column-at 0 a.table.now a.entry, column-at 1 a.table.now a.entry) (L.piece-size _ _ _ _ _ _ c.wide.ensures c.wide-2.ensures c.piece.ensures)

@@ -15,7 +15,7 @@ returns-then-s-eq4 c = L.next_here _ _ _ _ _ c.loop-j.invariant refl c.if-s-eq4.
 
 pub loop-j-preserved : goal.loop-j-preserved
 loop-j-preserved c =
-  let inv = c.loop-j.invariant in let t = c.loop-j-test.true in (omega arith, omega arith, L.unmarked-more _ _ _ _ inv.2 refl c.if-s-eq4.false)
+    let inv = c.loop-j.invariant in let t = c.loop-j-test.true in (omega arith, omega arith, L.unmarked-more _ _ _ _ inv.2 refl c.if-s-eq4.false)
 
 pub returns : goal.returns
 returns c = L.next-none _ _ _ _ c.loop-j.invariant c.loop-j-test.false

@@ -15,7 +15,7 @@ note-requires c = let l = L.inside-at _ _ _ _ c.requires c.loop-j-test.true in l
 
 pub loop-j-preserved : goal.loop-j-preserved
 loop-j-preserved c =
-  (omega arith, L.noting-next _ _ _ _ _ _ _ _ c.loop-j.invariant.1 c.loop-j-test.true c.wide.ensures refl c.note.ensures)
+    (omega arith, L.noting-next _ _ _ _ _ _ _ _ c.loop-j.invariant.1 c.loop-j-test.true c.wide.ensures refl c.note.ensures)
 
 pub returns : goal.returns
 returns c = L.noting-all _ _ _ _ _ c.loop-j.invariant.1 c.loop-j-test.false

@@ -57,4 +57,4 @@ returns-in-11 c = (rw c.in-11.is refl, omega arith)
 pub returns-in_default : goal.returns-in_default
 unfolding first_of
 returns-in_default c =
-  let l : 0 + 12 ≤ c.args.sort = past c.args.sort 0 12 _ zero-le c.in_default.in_default-own.rest in let h = c.requires in let e : c.args.sort ≡ 12 = omega (arith, l, h) in (rw e refl, omega arith)
+    let l : 0 + 12 ≤ c.args.sort = past c.args.sort 0 12 _ zero-le c.in_default.in_default-own.rest in let h = c.requires in let e : c.args.sort ≡ 12 = omega (arith, l, h) in (rw e refl, omega arith)
