@@ -4,7 +4,7 @@ use Rattle.answering.proofs.of_two_listed.Goals as goal
 
 pub returns-then-call-eq7 : goal.returns-then-call-eq7
 returns-then-call-eq7 c =
-    let f = c.filters in listed-row _ _ _ _ _ _ _ _ _ f.result.answer f.result.many (row-filters _ _) (row_list _ _) c.if-call-eq7.true f.ensures
+  let f = c.filters in listed-row _ _ _ _ _ _ _ _ _ f.result.answer f.result.many (row-filters _ _) (row_list _ _) c.if-call-eq7.true f.ensures
 
 pub of_two-requires : goal.of_two-requires
 of_two-requires c = c.if-call-eq7.false

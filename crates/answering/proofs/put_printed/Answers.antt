@@ -8,4 +8,4 @@ returns-then-n-eq0 c = answer-prints c.args.answer c.args.out.now _ _ c.number-n
 
 pub returns : goal.returns
 returns c =
-    refusal-prints c.args.answer c.args.out.now c.put_refusal.new.out c.number-n.result c.put_refusal.result c.number-n.ensures c.if-n-eq0.false (omega arith) c.put_refusal.ensures
+  refusal-prints c.args.answer c.args.out.now c.put_refusal.new.out c.number-n.result c.put_refusal.result c.number-n.ensures c.if-n-eq0.false (omega arith) c.put_refusal.ensures

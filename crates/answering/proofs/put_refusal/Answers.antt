@@ -5,4 +5,4 @@ use Rattle.answering.proofs.put_refusal.Goals as goal
 
 pub returns : goal.returns
 returns c =
-    line-front _ _ _ _ _ _ _ _ c.put_all-a.ensures c.put_decimal-b.ensures c.put.ensures (let g = c.well_formed in omega (arith, g))
+  line-front _ _ _ _ _ _ _ _ c.put_all-a.ensures c.put_decimal-b.ensures c.put.ensures (let g = c.well_formed in omega (arith, g))

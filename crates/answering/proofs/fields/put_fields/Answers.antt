@@ -9,7 +9,7 @@ loop-j-init c = (refl, refl)
 
 pub loop-j-preserved : goal.loop-j-preserved
 loop-j-preserved c =
-    (search rules, fields-next _ _ _ _ c.loop-j.invariant.1 c.loop-j-test.true _ _ c.put-tab.ensures _ c.wide.ensures.0 c.put_decimal-to.ensures)
+  (search rules, fields-next _ _ _ _ c.loop-j.invariant.1 c.loop-j-test.true _ _ c.put-tab.ensures _ c.wide.ensures.0 c.put_decimal-to.ensures)
 
 pub shape_of-out : goal.shape_of-out
 shape_of-out c = c.loop-j.invariant.0

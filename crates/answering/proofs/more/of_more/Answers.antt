@@ -15,7 +15,7 @@ text_at-requires-then-n-eq2-2 c = ready _ _ _ _ 2 (search rules) (omega arith) (
 
 pub returns-then-n-eq2 : goal.returns-then-n-eq2
 returns-then-n-eq2 c =
-    λ e h0 h1. called-texts _ _ _ _ _ c.of_three.result (texts-three _ _ _ _ (omega (arith, e, c.if-n-eq2.true)) c.text_at.ensures c.text_at-then-n-eq2.ensures c.text_at-then-n-eq2-2.ensures) c.of_three.ensures
+  λ e h0 h1. called-texts _ _ _ _ _ c.of_three.result (texts-three _ _ _ _ (omega (arith, e, c.if-n-eq2.true)) c.text_at.ensures c.text_at-then-n-eq2.ensures c.text_at-then-n-eq2-2.ensures) c.of_three.ensures
 
 pub text_at-requires-then-n-eq4 : goal.text_at-requires-then-n-eq4
 text_at-requires-then-n-eq4 c = ready _ _ _ _ 0 (search rules) (omega arith) (omega (arith, c.if-n-eq4.true)) c.requires
@@ -34,7 +34,7 @@ text_at-requires-then-n-eq4-5 c = ready _ _ _ _ 4 (search rules) (omega arith) (
 
 pub returns-then-n-eq4 : goal.returns-then-n-eq4
 returns-then-n-eq4 c =
-    λ e h0 h1. called-texts _ _ _ _ _ c.of_five.result (texts-five _ _ _ _ _ _ (omega (arith, e, c.if-n-eq4.true)) c.text_at-then-n-eq4.ensures c.text_at-then-n-eq4-2.ensures c.text_at-then-n-eq4-3.ensures c.text_at-then-n-eq4-4.ensures c.text_at-then-n-eq4-5.ensures) c.of_five.ensures
+  λ e h0 h1. called-texts _ _ _ _ _ c.of_five.result (texts-five _ _ _ _ _ _ (omega (arith, e, c.if-n-eq4.true)) c.text_at-then-n-eq4.ensures c.text_at-then-n-eq4-2.ensures c.text_at-then-n-eq4-3.ensures c.text_at-then-n-eq4-4.ensures c.text_at-then-n-eq4-5.ensures) c.of_five.ensures
 
 pub returns : goal.returns
 returns c = called-none _ _ _ _ c.if-n-eq2.false c.if-n-eq4.false
