@@ -1,4 +1,4 @@
-//! Finds libgandeuch.a: in GANDEUCH_LIB_DIR, else where pkg-config says, else where `rt staticlib gandeuch` writes it.
+//! Finds libgandeuch.a: in GANDEUCH_LIB_DIR, else where pkg-config says, else where `tools/build gandeuch` writes it.
 
 use std::path::{Path, PathBuf};
 use std::process::{Command, exit};
@@ -39,9 +39,9 @@ fn folder() -> Result<PathBuf, String> {
             known.display()
         ));
     }
-    let built = Path::new(env!("CARGO_MANIFEST_DIR")).join("../target/staticlib");
+    let built = Path::new(env!("CARGO_MANIFEST_DIR")).join("../crates/gandeuch/out");
     whole(&built).ok_or(format!(
-        "no {FILE}: run `rt staticlib gandeuch` in Gandeuch's repository, which writes target/staticlib/{FILE}; or set \
+        "no {FILE}: run `tools/build gandeuch` in Gandeuch's repository, which writes crates/gandeuch/out/{FILE}; or set \
          GANDEUCH_LIB_DIR to the folder that holds it, or PKG_CONFIG_PATH to the one of gandeuch.pc"
     ))
 }

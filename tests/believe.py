@@ -18,11 +18,12 @@ PAGE = pathlib.Path("docs/BELIEVE.md")
 START = [
     "gandeuch/src/lib.rt", "answering/src/lib.rt", "demand3/proofs/Theorem.antt", "demand3/proofs/Returned.antt",
     "demand3/proofs/Empty.antt", "demand3/proofs/Without.antt", "laws/proofs/Theorem.antt", "merging/proofs/Order.antt", "names/proofs/Narrow.antt",
-    "filtering/proofs/NotPlaced.antt", "converting/proofs/Theorem.antt",
+    "filtering/proofs/NotPlaced.antt", "converting/proofs/Theorem.antt", "turns/proofs/Theorem.antt", "turns/proofs/Returned.antt", "editions/proofs/Theorem.antt",
+    "evaluated/proofs/Theorem.antt", "figures/proofs/Theorem.antt",
     "scoping/proofs/Standard.antt", "surveying/proofs/Standard.antt", "room/proofs/Theorem.antt",
 ]
-APART = ("Examples", "Cases")
-USE = re.compile(r"^\s*(?:pub )?(?:ghost )?use Rattle·(\w+?)(?:·specs|·proofs)?\.specs\.([\w.]+)", re.M)
+APART = ("Examples", "Cases", "Agreement")
+USE = re.compile(r"^\s*(?:pub )?(?:ghost )?use Rattle\.(?!std\.)(\w+)\.specs\.([\w.]+)", re.M)
 
 
 def specs():

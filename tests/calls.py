@@ -94,7 +94,7 @@ def pairs():
     yield "rust/src/lib.rs", functions("rust/src/lib.rs", "\npub fn ", ": &[u8]"), counted("rust")
     yield "rooms for C", sorted(named("include/gandeuch.h", r"#define GANDEUCH_(\w+)_ROOM\(")), rooms(str)
     yield "rooms for Rust", sorted(named("rust/src/room.rs", r"pub fn (\w+)\(")), rooms(str.lower)
-    yield "rooms proved", sorted(named("crates/room/specs/Room.antt", r"pub (\w+)Room :")), sorted([*rooms(str.lower), "list"])
+    yield "rooms proved", sorted(named("crates/room/specs/Room.antt", r"pub (\w+)_room :")), sorted([*rooms(str.lower), "list"])
     yield "run --help", helped(), counted("name")
     yield "run", {name: int(count) - 1 for count, name in named("run", r'"([0-9]) (\w+)"') if name in NAMES}, counted("name")
     yield "install", {"call", "merge"} - set(named("install", r'programs="(.*)"')[0].split()), set()

@@ -17,12 +17,12 @@ use binding::bindings::bindings;
 use emit::{put, put_all};
 use expressing::filters::filters;
 use joining::push::push_constants;
-use libc::STDOUT_FILENO;
 use naming::numbers::put_decimal;
 use negating::negate;
 use parted::{part_texts, text_at};
 use renaming::rename::rename;
 use respelling::namespaces;
+use std::io;
 use surveying::scope::scope;
 use text::{equal, piece};
 
@@ -211,14 +211,14 @@ pub fn first_of(list: &[u16], many: usize) -> &[u16]
     &list[..many]
 }
 
-// The line `left`, if there are numbers: whether all was written.
-pub fn write_left(fd: i32, list: &[u16], many: usize, out: &mut [u8]) -> bool {
+// The line `left`, if there are numbers.
+pub fn write_left(to: &impl Print, list: &[u16], many: usize, out: &mut [u8]) -> io::Result<()> {
     let size = put_left(first_of(list, many), out);
-    io::write_all(fd, piece(out, 0, size))
+    to.write_all(piece(out, 0, size))
 }
 
-// The answer's bytes, or the line `refused` with its number: whether all was written.
-pub fn write_answer(answer: Answer, out: &mut [u8]) -> bool {
+// The answer's bytes, or the line `refused` with its number.
+pub fn write_answer(to: &impl Print, answer: Answer, out: &mut [u8]) -> io::Result<()> {
     let size = put_printed(answer, out);
-    io::write_all(STDOUT_FILENO, piece(out, 0, size))
+    to.write_all(piece(out, 0, size))
 }

@@ -7,7 +7,9 @@
 use algebra::ENTRIES;
 use answering::answer;
 use answers::size_of;
-use libc::{STDIN_FILENO, STDOUT_FILENO};
+use std::env::Env;
+use std::io;
+use std::io::Read;
 use text::{Number, number_of};
 
 fn again(call: u32, input: &[u8], out: &mut [u8], list: &mut [u16], times: u32) -> usize {
@@ -22,37 +24,42 @@ fn again(call: u32, input: &[u8], out: &mut [u8], list: &mut [u16], times: u32) 
     mix
 }
 
-fn run(input: &[u8], times: &[u8], call: &[u8], out: &mut [u8], list: &mut [u16]) {
+fn run(
+    rt: &impl Print,
+    input: &[u8],
+    times: &[u8],
+    call: &[u8],
+    out: &mut [u8],
+    list: &mut [u16],
+) -> io::Result<()> {
     let Number::Is(n) = number_of(times) else {
-        return;
+        return Ok(());
     };
     let Number::Is(k) = number_of(call) else {
-        return;
+        return Ok(());
     };
     let mix = again(k, input, out, list, n);
     let listed = answer(k, input, out, list);
     let answer = listed.answer;
     let size = size_of(answer);
-    io::print_decimal(STDOUT_FILENO, size as u64);
-    io::write_all(STDOUT_FILENO, b"\t");
-    io::print_decimal(STDOUT_FILENO, mix as u64);
-    io::write_all(STDOUT_FILENO, b"\n");
+    println!(rt; "{size}\t{mix}")
 }
 
-fn main() {
+fn main(rt: HostRuntime) -> io::Result<()> {
     let mut word = [0u8; 16];
-    let size = os::arg(1, &mut word);
+    let size = rt.arg(1, &mut word).unwrap_or(0);
     let mut call = [0u8; 16];
-    let call_size = os::arg(2, &mut call);
-    let mut input = [0u8; 65536];
-    let n = io::read_full(STDIN_FILENO, &mut input);
+    let call_size = rt.arg(2, &mut call).unwrap_or(0);
+    let mut input = Vec::new(rt.alloc());
+    rt.stdin().take(65536).read_to_end(&mut input)?;
     let mut out = [0u8; 65536];
     let mut list = [0u16; ENTRIES];
     run(
-        &input[..n],
+        &rt,
+        &input,
         &word[..size],
         &call[..call_size],
         &mut out,
         &mut list,
-    );
+    )
 }

@@ -5,8 +5,10 @@
 ghost use Rattle.words.specs.bridge.Words.{Worded};
 
 use algebra::{Answer, number};
-use libc::{STDIN_FILENO, STDOUT_FILENO};
 use reading::check_tree;
+use std::env::Env;
+use std::io;
+use std::io::Read;
 use text::{Number, number_of};
 use words::table::{WordRow, all_words};
 
@@ -44,23 +46,20 @@ fn answer(text: &[u8], words: &[WordRow; 56]) -> Answer
     check_tree(text, words, &mut table, &mut hints)
 }
 
-fn run(text: &[u8], times: &[u8]) {
+fn run(rt: &impl Print, text: &[u8], times: &[u8]) -> io::Result<()> {
     let Number::Is(n) = number_of(times) else {
-        return;
+        return Ok(());
     };
     let words = all_words();
     let mix = again(text, &words, n);
-    let a = answer(text, &words);
-    io::print_decimal(STDOUT_FILENO, number(a));
-    io::write_all(STDOUT_FILENO, b"\t");
-    io::print_decimal(STDOUT_FILENO, mix as u64);
-    io::write_all(STDOUT_FILENO, b"\n");
+    let n = number(answer(text, &words));
+    println!(rt; "{n}\t{mix}")
 }
 
-fn main() {
+fn main(rt: HostRuntime) -> io::Result<()> {
     let mut word = [0u8; 16];
-    let size = os::arg(1, &mut word);
-    let mut text = [0u8; 20480];
-    let n = io::read_full(STDIN_FILENO, &mut text);
-    run(&text[..n], &word[..size]);
+    let size = rt.arg(1, &mut word).unwrap_or(0);
+    let mut text = Vec::new(rt.alloc());
+    rt.stdin().take(20480).read_to_end(&mut text)?;
+    run(&rt, &text, &word[..size])
 }

@@ -2,14 +2,14 @@
 #![tactic(auto)]
 
 use answering::{answer, call_number, write_answer};
-use libc::STDIN_FILENO;
+use std::io;
+use std::io::Read;
 
-fn main() {
-    let mut input = [0u8; 65537];
-    let n = io::read_full(STDIN_FILENO, &mut input);
+fn main(rt: HostRuntime) -> io::Result<()> {
+    let mut input = Vec::new(rt.alloc());
+    rt.stdin().take(65537).read_to_end(&mut input)?;
     let mut out = [0u8; 65536];
     let mut list = [0u16; 0];
-    let listed = answer(call_number(b"merge"), &input[..n], &mut out, &mut list);
-    let answer = listed.answer;
-    write_answer(answer, &mut out);
+    let listed = answer(call_number(b"merge"), &input, &mut out, &mut list);
+    write_answer(&rt, listed.answer, &mut out)
 }

@@ -3,18 +3,21 @@
 // 7 namespace table.
 #![tactic(auto)]
 
-ghost use Rattle.std.specs.Prelude.{◌<◌};
+ghost use Rattle.std.specs.Prelude.{◌<◌, IfOk};
 ghost use Rattle.words.specs.bridge.Words.{Worded};
 
 use algebra::{Answer, EMPTY_TREE, ENTRIES, number};
-use libc::STDOUT_FILENO;
 use lists::{check_constants, check_joins, check_mapping};
 use names::clear;
 use reading::{check_filters, check_query, check_sets, check_tree};
 use records::{LIMIT, NONE, read_record};
 use starts::table_number;
+use std::{fs, io};
 use text::piece;
 use words::table::{WordRow, all_words};
+
+// No record is longer.
+const WINDOW: usize = 20480;
 
 // A tree's text: an empty file is read as its two lines.
 fn check_given(
@@ -94,12 +97,12 @@ fn put_all(out: &mut [u8; 65536], from: usize, s: &[u8]) -> usize {
 }
 
 // Writes what has been put, if there may be no room for another line.
-fn room(out: &[u8; 65536], to: usize) -> usize {
+fn room(rt: &impl Print, out: &[u8; 65536], to: usize) -> io::Result<usize> {
     if to < 65000 {
-        return to;
+        return Ok(to);
     }
-    io::write_all(STDOUT_FILENO, piece(out, 0, to));
-    0
+    rt.write_all(piece(out, 0, to))?;
+    Ok(0)
 }
 
 // A number below 100.
@@ -111,81 +114,81 @@ fn put_number(out: &mut [u8; 65536], from: usize, n: u64) -> usize {
     put(out, to, 48 + (n % 10) as u8)
 }
 
-fn put_line(out: &mut [u8; 65536], from: usize, label: &[u8], n: u64) -> usize {
-    let to = room(out, from);
+fn put_line(
+    rt: &impl Print,
+    out: &mut [u8; 65536],
+    from: usize,
+    label: &[u8],
+    n: u64,
+) -> io::Result<usize> {
+    let to = room(rt, out, from)?;
     let to = put_all(out, to, label);
     let to = put(out, to, 9);
     let to = put_number(out, to, n);
-    put(out, to, 10)
+    Ok(put(out, to, 10))
 }
 
-fn put_bad_record(out: &mut [u8; 65536], from: usize) -> usize {
-    let to = room(out, from);
-    put_all(out, to, b"bad record\n")
+fn put_bad_record(rt: &impl Print, out: &mut [u8; 65536], from: usize) -> io::Result<usize> {
+    let to = room(rt, out, from)?;
+    Ok(put_all(out, to, b"bad record\n"))
 }
 
 // The record at a place of the file.
 fn turn(
-    fd: i32,
+    rt: &impl Print,
+    file: &[u8],
     at: u64,
-    window: &mut [u8],
     words: &[WordRow; 56],
     table: &mut [[u16; 2]; 1024],
     hints: &mut [u16; 2048],
     out: &mut [u8; 65536],
     to: usize,
-) -> Step
+) -> io::Result<Step>
     requires { (at < 1099511627776) × Worded words.now }
-    ensures { at < result.at }
+    ensures { IfOk result (λ step. at < step.at) }
 {
-    let r = read_record(fd, at, window);
+    let window = piece(file, at as usize, WINDOW);
+    let r = read_record(window, at);
     let next = r.next;
     if r.kind == NONE {
-        return Step { at: next, to };
+        return Ok(Step { at: next, to });
     }
     if 7 < r.kind {
-        let to = put_bad_record(out, to);
-        return Step { at: next, to };
+        let to = put_bad_record(rt, out, to)?;
+        return Ok(Step { at: next, to });
     }
     let text = piece(window, r.text, r.text_size);
     let n = number_of(r.kind, text, words, table, hints);
     let label = piece(window, r.label, r.label_size);
-    let to = put_line(out, to, label, n);
-    Step { at: next, to }
+    let to = put_line(rt, out, to, label, n)?;
+    Ok(Step { at: next, to })
 }
 
 fn run(
-    fd: i32,
-    window: &mut [u8],
+    rt: &impl Print,
+    file: &[u8],
     words: &[WordRow; 56],
     table: &mut [[u16; 2]; 1024],
     hints: &mut [u16; 2048],
     out: &mut [u8; 65536],
-)
+) -> io::Result<()>
     requires { Worded words.now }
 {
     let mut at: u64 = 0;
     let mut to: usize = 0;
     while at < LIMIT {
-        let s = turn(fd, at, window, words, table, hints, out, to);
+        let s = turn(rt, file, at, words, table, hints, out, to)?;
         at = s.at;
         to = s.to;
     }
-    io::write_all(STDOUT_FILENO, piece(out, 0, to));
+    rt.write_all(piece(out, 0, to))
 }
 
-fn main() {
-    let path = b"texts";
-    let fd = os::open_read(path);
-    if fd < 0 {
-        os::fail(path);
-        return;
-    }
+fn main(rt: HostRuntime) -> io::Result<()> {
+    let file = fs::read(&rt, "texts")?;
     let words = all_words();
-    let mut window = [0u8; 20480];
     let mut table = [[0u16; 2]; 1024];
     let mut hints = [0u16; 2048];
     let mut out = [0u8; 65536];
-    run(fd, &mut window, &words, &mut table, &mut hints, &mut out);
-    libc::close(fd);
+    run(&rt, &file, &words, &mut table, &mut hints, &mut out)
 }

@@ -4,7 +4,6 @@
 ghost use Rattle.std.specs.Prelude.{◌≤◌, ◌<◌};
 
 use cursor::{Cursor, Field};
-use libc::SEEK_SET;
 use text::{Number, number_of, piece};
 
 // No file goes on behind this place.
@@ -15,7 +14,7 @@ pub const NONE: u32 = 100;
 
 pub const BAD: u32 = 101;
 
-// A record by places in the bytes that were read, and the place of the next one in the file.
+// A record by places in the window, and the place of the next one in the file.
 #[derive(Clone, Copy)]
 pub struct Record {
     pub kind: u32,
@@ -138,15 +137,13 @@ fn record_in(s: &[u8], at: u64) -> Record
     }
 }
 
-// The record at a place of the file, which is read into the window.
-pub fn read_record(fd: i32, at: u64, window: &mut [u8]) -> Record
+// The record at a place of the file, whose bytes from there on the window has.
+pub fn read_record(window: &[u8], at: u64) -> Record
     requires { at < 1099511627776 }
     ensures { at < result.next }
 {
-    libc::lseek(fd, at as i64, SEEK_SET);
-    let n = io::read_full(fd, window);
-    if n == 0 {
+    if window.len() == 0 {
         return no_record(NONE);
     }
-    record_in(&window[..n], at)
+    record_in(window, at)
 }

@@ -3,59 +3,57 @@
 // 7 filters, 8 without and 9 namespaces.
 #![tactic(auto)]
 
-ghost use Rattle.std.specs.Prelude.{◌<◌};
+ghost use Rattle.std.specs.Prelude.{◌<◌, IfOk};
 
 use algebra::ENTRIES;
 use answering::{answer, write_answer, write_left};
-use libc::STDOUT_FILENO;
 use records::{LIMIT, NONE, read_record};
+use std::{fs, io};
 use text::piece;
 
+// No record is longer.
+const WINDOW: usize = 66560;
+
 // A call's answer to an input, and its list.
-fn tell(call: u32, input: &[u8], out: &mut [u8]) {
+fn tell(rt: &impl Print, call: u32, input: &[u8], out: &mut [u8]) -> io::Result<()> {
     let mut list = [0u16; ENTRIES];
     let listed = answer(call, input, out, &mut list);
-    let answer = listed.answer;
-    write_answer(answer, out);
-    write_left(STDOUT_FILENO, &list, listed.many, out);
+    let many = listed.many;
+    write_answer(rt, listed.answer, out)?;
+    write_left(rt, &list, many, out)
 }
 
 // The record at a place of the file, and where the next one starts.
-fn turn(fd: i32, at: u64, window: &mut [u8], out: &mut [u8]) -> u64
+fn turn(rt: &impl Print, file: &[u8], at: u64, out: &mut [u8]) -> io::Result<u64>
     requires { at < 1099511627776 }
-    ensures { at < result }
+    ensures { IfOk result (λ next. at < next) }
 {
-    let r = read_record(fd, at, window);
+    let window = piece(file, at as usize, WINDOW);
+    let r = read_record(window, at);
     let next = r.next;
     if r.kind == NONE {
-        return next;
+        return Ok(next);
     }
     if 9 < r.kind {
-        io::write_all(STDOUT_FILENO, b"bad record\n");
-        return next;
+        rt.write_all(b"bad record\n")?;
+        return Ok(next);
     }
-    io::write_all(STDOUT_FILENO, piece(window, r.label, r.label_size));
-    io::write_all(STDOUT_FILENO, b"\n");
-    tell(r.kind, piece(window, r.text, r.text_size), out);
-    next
+    rt.write_all(piece(window, r.label, r.label_size))?;
+    rt.write_all(b"\n")?;
+    tell(rt, r.kind, piece(window, r.text, r.text_size), out)?;
+    Ok(next)
 }
 
-fn run(fd: i32, window: &mut [u8], out: &mut [u8]) {
+fn run(rt: &impl Print, file: &[u8], out: &mut [u8]) -> io::Result<()> {
     let mut at: u64 = 0;
     while at < LIMIT {
-        at = turn(fd, at, window, out);
+        at = turn(rt, file, at, out)?;
     }
+    Ok(())
 }
 
-fn main() {
-    let path = b"cases";
-    let fd = os::open_read(path);
-    if fd < 0 {
-        os::fail(path);
-        return;
-    }
-    let mut window = [0u8; 66560];
+fn main(rt: HostRuntime) -> io::Result<()> {
+    let file = fs::read(&rt, "cases")?;
     let mut out = [0u8; 65536];
-    run(fd, &mut window, &mut out);
-    libc::close(fd);
+    run(&rt, &file, &mut out)
 }
