@@ -1,10 +1,6 @@
--- What the loops of `put_all` keep. Assumes nothing.
-use Prim.Native.Nat.{◌-◌}
-use lib.ListN.{length}
+-- What the loop of `put_all` counts down. Assumes nothing.
+use Rattle.std.specs.Prelude.{◌-◌, length}
 use Rattle.numbers.proofs.put_all.Given as goal
-
-abbrev pub invariant-loop-i : goal.invariant-loop-i
-invariant-loop-i l = Unit {0}
 
 abbrev pub decreases-loop-i : goal.decreases-loop-i
 decreases-loop-i l = length l.s - l.i

@@ -1,11 +1,6 @@
--- What the loops of `run` keep. Assumes nothing.
-use Prim.Native.Nat.{◌-◌}
-use mathlib.Core.Path.{◌≡◌}
-use lib.ListN.{length}
+-- What the loop of `run` counts down. Assumes nothing.
+use Rattle.std.specs.Prelude.{◌-◌}
 use Rattle.vectors.proofs.run.Given as goal
 
-abbrev pub invariant-loop-at : goal.invariant-loop-at
-invariant-loop-at l = (length l.window ≡ length l.initial.window) × (length l.out ≡ length l.initial.out)
-
 abbrev pub decreases-loop-at : goal.decreases-loop-at
-decreases-loop-at l = 1099511627776 - l.at
+decreases-loop-at g l = 1099511627776 - l.at
