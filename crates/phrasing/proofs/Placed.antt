@@ -1,5 +1,4 @@
 -- Places and editions by the code's numbers. Assumes nothing.
-use denote.Slice.{shr_slice_at}
 use Prim.Native.Nat.{ℕ, zero, suc}
 use mathlib.Core.Path.{◌≡◌, refl}
 use mathlib.Core.Bool.{Bool, true, false}
@@ -26,9 +25,9 @@ module _ (p : ℕ) where
   unfolding place_at
   at_inner h = rw h
 
-  pub shr_slice_at : p ≡ 2 → place_at p ≡ under_slice
+  pub at-slice : p ≡ 2 → place_at p ≡ under_slice
   unfolding place_at
-  shr_slice_at h = rw h
+  at-slice h = rw h
 
   pub at-distinct : p ≡ 3 → place_at p ≡ under_distinct
   unfolding place_at

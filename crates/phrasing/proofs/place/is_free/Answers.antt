@@ -9,7 +9,7 @@ pub returns-in-1 : goal.returns-in-1
 returns-in-1 c = rw (P.at_inner _ c.in-1.is)
 
 pub returns-in-2 : goal.returns-in-2
-returns-in-2 c = rw (P.shr_slice_at _ c.in-2.is)
+returns-in-2 c = rw (P.at-slice _ c.in-2.is)
 
 pub returns-in-3 : goal.returns-in-3
 returns-in-3 c = rw (P.at-distinct _ c.in-3.is)

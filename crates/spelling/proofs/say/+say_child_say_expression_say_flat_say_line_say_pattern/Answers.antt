@@ -9,7 +9,7 @@ use Rattle.spelling.proofs.say.+say_child_say_expression_say_flat_say_line_say_p
 
 pub say_child-say_flat-requires : goal.say_child-say_flat-requires
 say_child-say_flat-requires t c =
-    let p = c.requires in let m = p.0 in (omega arith, (p.1, c.sort_at-sort.ensures.flat c.if-sort-eq0.true))
+    let p = c.requires in let m = c.decreases in (omega arith, (p, c.sort_at-sort.ensures.flat c.if-sort-eq0.true))
 
 pub say_child-returns-then-sort-eq0 : goal.say_child-returns-then-sort-eq0
 say_child-returns-then-sort-eq0 t c = G.child-flat _ _ _ _ _ c.sort_at-sort.ensures _ _ _ c.if-sort-eq0.true c.say_flat.ensures
@@ -63,7 +63,7 @@ say_flat-loop-children-init t c =
     let b = c.lines_under-children.ensures in let b1 = b.1 in let w = c.word_at-w.ensures in (refl, omega arith, rw (G.come-here _ _ _ c.line_end-end.ensures c.if-end-query.false _ w.0 _ (b.0 _ w.1)) (G.going_start _ _ _ _ _ _))
 
 pub say_flat-say_expression-child-requires : goal.say_flat-say_expression-child-requires
-say_flat-say_expression-child-requires t c = let p = c.requires in let m = p.0 in (omega arith, p.1.0)
+say_flat-say_expression-child-requires t c = let p = c.requires in let m = c.decreases in (omega arith, p.0)
 
 pub say_flat-overflow_sub-children : goal.say_flat-overflow_sub-children
 say_flat-overflow_sub-children t c = let n = c.loop-children-test.true in omega arith

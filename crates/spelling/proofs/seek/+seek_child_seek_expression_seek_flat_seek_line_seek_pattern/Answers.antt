@@ -1,4 +1,5 @@
 -- Patterns and expressions call one another, remaining depth falling. Assumes nothing.
+use mathlib.Core.Bool.{◌&&◌}
 use mathlib.Core.Path.{ap, ◌∙◌}
 use native.Mathlib.Omega.{arith}
 use Rattle.spelling.proofs.Going as G

@@ -1,6 +1,7 @@
 -- `spelling::seek/is_end_of_path` meets its contract. Assumes nothing.
 use Rattle.spelling.proofs.Fielded as F
 use mathlib.Core.Path.{ap, ap₂, ◌∙◌}
+use mathlib.Core.Bool.{◌||◌}
 use Rattle.text.specs.Text.{same}
 use Rattle.spelling.proofs.seek.is_end_of_path.Goals as goal
 
