@@ -49,7 +49,7 @@ size n = n
 """,
     "crates/a/proofs/Laws.antt": """module _ (r : Row) where
   pub some-cell : width r ≡ 1 → Some r
-  some-cell h = search needs
+  some-cell h = search rules
 
   pub no-cell : width r ≡ 0 → None r
   no-cell h = refl
@@ -57,21 +57,21 @@ size n = n
 pub old-law : "--" ≡ "--"
 old-law = refl
 """,
-    "crates/a/proofs/f/Proof.antt": "pub f-spec : statement\nf-spec = a\n",
+    "crates/a/proofs/f/Answers.antt": "pub returns : goal.returns\nreturns c = a\n",
     "crates/a/src/lib.rt": """// Code.
 fn free(x: u8) -> u8 {
     x
 }
 
 pub fn width(x: &[u8]) -> usize
-    ensures { λ r. ⌜ r ≡ 1 ⌝ }
+    ensures { result ≡ 1 }
 {
     1
 }
 
 impl S {
     fn at(self) -> u8
-        requires { ⌜ 1 ≤ 2 ⌝ }
+        requires { 1 ≤ 2 }
     {
         0
     }
@@ -85,8 +85,8 @@ NEW = {
     .replace("abbrev pub Only : Row → Type 0\nOnly r = width r ≡ 1\n", "pub data Cell : Type 0 where\n  unbound : Cell\n"),
     "crates/a/specs/bridge/Walk.antt": OLD["crates/a/specs/bridge/Walk.antt"].replace("odd zero = false", "odd zero = true")
     + "\nabbrev pub Only : Row → Type 0\nOnly r =\n    width r ≡ 1\n",
-    "crates/b/proofs/Cells.antt": OLD["crates/a/proofs/Laws.antt"].replace("search needs", "omega arith").replace("≡ 0", "≡ 2").replace("old-law", "new-law"),
-    "crates/a/proofs/f/Proof.antt": "pub f-spec : statement\nf-spec = b\n",
+    "crates/b/proofs/Cells.antt": OLD["crates/a/proofs/Laws.antt"].replace("search rules", "omega arith").replace("≡ 0", "≡ 2").replace("old-law", "new-law"),
+    "crates/a/proofs/f/Answers.antt": "pub returns : goal.returns\nreturns c = b\n",
     "crates/a/src/lib.rt": OLD["crates/a/src/lib.rt"].replace("    1\n}", "    2 - 1\n}").replace("1 ≤ 2", "1 ≤ 3").replace("S {", "T {"),
 }
 
