@@ -7,9 +7,9 @@
 use algebra::ENTRIES;
 use answering::answer;
 use answers::size_of;
+use filling::read_full;
 use std::env::Env;
 use std::io;
-use std::io::Read;
 use text::{Number, number_of};
 
 fn again(call: u32, input: &[u8], out: &mut [u8], list: &mut [u16], times: u32) -> usize {
@@ -50,13 +50,13 @@ fn main(rt: HostRuntime) -> io::Result<()> {
     let size = rt.arg(1, &mut word).unwrap_or(0);
     let mut call = [0u8; 16];
     let call_size = rt.arg(2, &mut call).unwrap_or(0);
-    let mut input = Vec::new(rt.alloc());
-    rt.stdin().take(65536).read_to_end(&mut input)?;
+    let mut input = [0u8; 65536];
+    let read = read_full(&mut rt.stdin(), &mut input)?;
     let mut out = [0u8; 65536];
     let mut list = [0u16; ENTRIES];
     run(
         &rt,
-        &input,
+        &input[..read],
         &word[..size],
         &call[..call_size],
         &mut out,

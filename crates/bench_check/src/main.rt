@@ -5,10 +5,10 @@
 ghost use Rattle.words.specs.bridge.Words.{Worded};
 
 use algebra::{Answer, number};
+use filling::read_full;
 use reading::check_tree;
 use std::env::Env;
 use std::io;
-use std::io::Read;
 use text::{Number, number_of};
 use words::table::{WordRow, all_words};
 
@@ -59,7 +59,7 @@ fn run(rt: &impl Print, text: &[u8], times: &[u8]) -> io::Result<()> {
 fn main(rt: HostRuntime) -> io::Result<()> {
     let mut word = [0u8; 16];
     let size = rt.arg(1, &mut word).unwrap_or(0);
-    let mut text = Vec::new(rt.alloc());
-    rt.stdin().take(20480).read_to_end(&mut text)?;
-    run(&rt, &text, &word[..size])
+    let mut text = [0u8; 20480];
+    let n = read_full(&mut rt.stdin(), &mut text)?;
+    run(&rt, &text[..n], &word[..size])
 }

@@ -3,18 +3,18 @@
 
 use algebra::ENTRIES;
 use answering::{answer, call_number, write_answer, write_left};
+use filling::read_full;
 use std::env::Env;
 use std::io;
-use std::io::Read;
 
 fn main(rt: HostRuntime) -> io::Result<()> {
     let mut name = [0u8; 32];
     let size = rt.arg(1, &mut name).unwrap_or(0);
-    let mut input = Vec::new(rt.alloc());
-    rt.stdin().take(65537).read_to_end(&mut input)?;
+    let mut input = [0u8; 65537];
+    let n = read_full(&mut rt.stdin(), &mut input)?;
     let mut out = [0u8; 65536];
     let mut list = [0u16; ENTRIES];
-    let listed = answer(call_number(&name[..size]), &input, &mut out, &mut list);
+    let listed = answer(call_number(&name[..size]), &input[..n], &mut out, &mut list);
     let many = listed.many;
     write_answer(&rt, listed.answer, &mut out)?;
     write_left(&rt.stderr(), &list, many, &mut out)

@@ -12,12 +12,11 @@ use names::clear;
 use reading::{check_filters, check_query, check_sets, check_tree};
 use records::{LIMIT, NONE, read_record};
 use starts::table_number;
-use std::{fs, io};
+use std::fs::File;
+use std::io;
+use std::io::{Read, Seek};
 use text::piece;
 use words::table::{WordRow, all_words};
-
-// No record is longer.
-const WINDOW: usize = 20480;
 
 // A tree's text: an empty file is read as its two lines.
 fn check_given(
@@ -134,10 +133,11 @@ fn put_bad_record(rt: &impl Print, out: &mut [u8; 65536], from: usize) -> io::Re
 }
 
 // The record at a place of the file.
-fn turn(
+fn turn<F: Read + Seek>(
     rt: &impl Print,
-    file: &[u8],
+    file: &mut F,
     at: u64,
+    window: &mut [u8],
     words: &[WordRow; 56],
     table: &mut [[u16; 2]; 1024],
     hints: &mut [u16; 2048],
@@ -147,8 +147,7 @@ fn turn(
     requires { (at < 1099511627776) × Worded words.now }
     ensures { IfOk result (λ step. at < step.at) }
 {
-    let window = piece(file, at as usize, WINDOW);
-    let r = read_record(window, at);
+    let r = read_record(file, at, window)?;
     let next = r.next;
     if r.kind == NONE {
         return Ok(Step { at: next, to });
@@ -164,9 +163,10 @@ fn turn(
     Ok(Step { at: next, to })
 }
 
-fn run(
+fn run<F: Read + Seek>(
     rt: &impl Print,
-    file: &[u8],
+    file: &mut F,
+    window: &mut [u8],
     words: &[WordRow; 56],
     table: &mut [[u16; 2]; 1024],
     hints: &mut [u16; 2048],
@@ -177,7 +177,7 @@ fn run(
     let mut at: u64 = 0;
     let mut to: usize = 0;
     while at < LIMIT {
-        let s = turn(rt, file, at, words, table, hints, out, to)?;
+        let s = turn(rt, file, at, window, words, table, hints, out, to)?;
         at = s.at;
         to = s.to;
     }
@@ -185,10 +185,19 @@ fn run(
 }
 
 fn main(rt: HostRuntime) -> io::Result<()> {
-    let file = fs::read(&rt, "texts")?;
+    let mut file = File::open(&rt, "texts")?;
     let words = all_words();
     let mut table = [[0u16; 2]; 1024];
     let mut hints = [0u16; 2048];
+    let mut window = [0u8; 20480];
     let mut out = [0u8; 65536];
-    run(&rt, &file, &words, &mut table, &mut hints, &mut out)
+    run(
+        &rt,
+        &mut file,
+        &mut window,
+        &words,
+        &mut table,
+        &mut hints,
+        &mut out,
+    )
 }

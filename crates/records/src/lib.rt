@@ -1,9 +1,12 @@
 // Records of a file. A record is a header line of a kind, a size and a label, then a text of so many bytes, then a line end.
 #![tactic(auto)]
 
-ghost use Rattle.std.specs.Prelude.{◌≤◌, ◌<◌};
+ghost use Rattle.std.specs.Prelude.{◌≤◌, ◌<◌, IfOk};
 
 use cursor::{Cursor, Field};
+use filling::read_full;
+use std::io;
+use std::io::{Read, Seek, SeekFrom};
 use text::{Number, number_of, piece};
 
 // No file goes on behind this place.
@@ -14,7 +17,7 @@ pub const NONE: u32 = 100;
 
 pub const BAD: u32 = 101;
 
-// A record by places in the window, and the place of the next one in the file.
+// A record by places in the bytes that were read, and the place of the next one in the file.
 #[derive(Clone, Copy)]
 pub struct Record {
     pub kind: u32,
@@ -137,13 +140,19 @@ fn record_in(s: &[u8], at: u64) -> Record
     }
 }
 
-// The record at a place of the file, whose bytes from there on the window has.
-pub fn read_record(window: &[u8], at: u64) -> Record
+// The record at a place of the file, which is read into the window.
+pub fn read_record<F: Read + Seek>(
+    file: &mut F,
+    at: u64,
+    window: &mut [u8],
+) -> io::Result<Record>
     requires { at < 1099511627776 }
-    ensures { at < result.next }
+    ensures { IfOk result (λ r. at < r.next) }
 {
-    if window.len() == 0 {
-        return no_record(NONE);
+    file.seek(SeekFrom::Start(at))?;
+    let n = read_full(file, window)?;
+    if n == 0 {
+        return Ok(no_record(NONE));
     }
-    record_in(window, at)
+    Ok(record_in(&window[..n], at))
 }

@@ -8,11 +8,10 @@ ghost use Rattle.std.specs.Prelude.{◌<◌, IfOk};
 use algebra::ENTRIES;
 use answering::{answer, write_answer, write_left};
 use records::{LIMIT, NONE, read_record};
-use std::{fs, io};
+use std::fs::File;
+use std::io;
+use std::io::{Read, Seek};
 use text::piece;
-
-// No record is longer.
-const WINDOW: usize = 66560;
 
 // A call's answer to an input, and its list.
 fn tell(rt: &impl Print, call: u32, input: &[u8], out: &mut [u8]) -> io::Result<()> {
@@ -24,12 +23,17 @@ fn tell(rt: &impl Print, call: u32, input: &[u8], out: &mut [u8]) -> io::Result<
 }
 
 // The record at a place of the file, and where the next one starts.
-fn turn(rt: &impl Print, file: &[u8], at: u64, out: &mut [u8]) -> io::Result<u64>
+fn turn<F: Read + Seek>(
+    rt: &impl Print,
+    file: &mut F,
+    at: u64,
+    window: &mut [u8],
+    out: &mut [u8],
+) -> io::Result<u64>
     requires { at < 1099511627776 }
     ensures { IfOk result (λ next. at < next) }
 {
-    let window = piece(file, at as usize, WINDOW);
-    let r = read_record(window, at);
+    let r = read_record(file, at, window)?;
     let next = r.next;
     if r.kind == NONE {
         return Ok(next);
@@ -44,16 +48,22 @@ fn turn(rt: &impl Print, file: &[u8], at: u64, out: &mut [u8]) -> io::Result<u64
     Ok(next)
 }
 
-fn run(rt: &impl Print, file: &[u8], out: &mut [u8]) -> io::Result<()> {
+fn run<F: Read + Seek>(
+    rt: &impl Print,
+    file: &mut F,
+    window: &mut [u8],
+    out: &mut [u8],
+) -> io::Result<()> {
     let mut at: u64 = 0;
     while at < LIMIT {
-        at = turn(rt, file, at, out)?;
+        at = turn(rt, file, at, window, out)?;
     }
     Ok(())
 }
 
 fn main(rt: HostRuntime) -> io::Result<()> {
-    let file = fs::read(&rt, "cases")?;
+    let mut file = File::open(&rt, "cases")?;
+    let mut window = [0u8; 66560];
     let mut out = [0u8; 65536];
-    run(&rt, &file, &mut out)
+    run(&rt, &mut file, &mut window, &mut out)
 }
