@@ -141,11 +141,7 @@ fn record_in(s: &[u8], at: u64) -> Record
 }
 
 // The record at a place of the file, which is read into the window.
-pub fn read_record<F: Read + Seek>(
-    file: &mut F,
-    at: u64,
-    window: &mut [u8],
-) -> io::Result<Record>
+pub fn read_record<F: Read + Seek>(file: &mut F, at: u64, window: &mut [u8]) -> io::Result<Record>
     requires { at < 1099511627776 }
     ensures { IfOk result (λ r. at < r.next) }
 {
