@@ -1,6 +1,7 @@
--- No more bytes came than the slice has. Assumes nothing.
-use Rattle.std.specs.Prelude.{◌≤◌, length}
+-- What came is what the reader lost, and stands at the slice's start. Assumes nothing.
+use Rattle.std.proofs.Common.{◌≡◌, ◌≤◌, length, take}
+use Rattle.std.specs.Io.KnownBytes.{Consumes}
 use Rattle.filling.proofs.read_full.Given as goal
 
 abbrev pub invariant-loop : goal.invariant-loop
-invariant-loop g l = l.at ≤ length l.buf
+invariant-loop g l = (length l.buf ≡ length l.initial.buf) × (l.at ≤ length l.buf) × Consumes (g.R.Read.remaining l.initial.from) (g.R.Read.remaining l.from) (take l.at l.buf)
