@@ -17,5 +17,7 @@ fn main(rt: HostRuntime) -> io::Result<()> {
     let listed = answer(call_number(&name[..size]), &input[..n], &mut out, &mut list);
     let many = listed.many;
     write_answer(&rt, listed.answer, &mut out)?;
-    write_left(&rt.stderr(), &list, many, &mut out)
+    // a list that can't be told takes nothing from the answer
+    write_left(&rt.stderr(), &list, many, &mut out).unwrap_or(());
+    Ok(())
 }
