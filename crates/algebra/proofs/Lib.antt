@@ -18,3 +18,4 @@ pub mod Lines
 pub mod Roomy
 pub mod Given
 pub mod Alone
+pub mod Faults

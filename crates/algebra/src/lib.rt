@@ -1,4 +1,4 @@
-// The answer of a check: a good text with the number of its distinct names, or the refusal; and the bounds that code goes by.
+// Why a text is refused, the numbers of what a check answers, and the bounds that code goes by.
 #![tactic(auto)]
 
 ghost use Rattle.std.specs.Prelude.{◌≡◌};
@@ -14,23 +14,23 @@ pub const ENTRIES: usize = 256;
 // The two lines that an empty file is read as: `project` and `bgp 0`.
 pub const EMPTY_TREE: [u8; 14] = *b"project\nbgp\t0\n";
 
-// A number for each entry of a list.
+// A number for each entry of a list. No Vec: a call takes nothing from the heap, so that its memory is known.
 pub type PerEntry = [u16; ENTRIES];
 
-#[derive(Clone, Copy)]
-pub enum Answer {
-    Good(usize),
+// Why a text is refused.
+#[derive(Clone, Copy, Debug, PartialEq, Eq)]
+pub enum Fault {
     Malformed,
     OverBound,
 }
 
-// Its number: 0 good, 1 malformed, 2 over a bound (docs/SPECIFICATION.md, "Numbers").
-pub fn number(a: Answer) -> u64
-    ensures { result ≡ answer_number a }
+// The number of a check's answer: 0 good, 1 malformed, 2 over a bound (docs/SPECIFICATION.md, "Numbers").
+pub fn number(answer: Result<usize, Fault>) -> u64
+    ensures { result ≡ answer_number answer }
 {
-    match a {
-        Answer::Good(_) => 0,
-        Answer::Malformed => 1,
-        Answer::OverBound => 2,
+    match answer {
+        Ok(_) => 0,
+        Err(Fault::Malformed) => 1,
+        Err(Fault::OverBound) => 2,
     }
 }

@@ -11,9 +11,7 @@ use Rattle.text.specs.Text.{Bytes, same}
 use Rattle.parted.specs.Parted.{texts}
 use Rattle.parted.specs.bridge.Code.{Parted}
 use Rattle.parted.proofs.Parts.{parted-same}
-use Rattle.answers.specs.declared.Answer.{Answer}
-use Rattle.answers.specs.declared.Answer.TheVariants.{Malformed, OverBound}
-use Rattle.answers.specs.Outcome.{Outcome, refused, Reported, Answered}
+use Rattle.answers.specs.Outcome.{Answer, Outcome, refused, Reported, Answered}
 use Rattle.answers.specs.Both.{ReportedBoth, AnsweredBoth}
 use Rattle.answers.proofs.Both.{both-none}
 use Rattle.surveying.specs.Scope.{scope_outcome}
@@ -27,6 +25,8 @@ use Rattle.filtering.specs.Filters.{filters_outcome}
 use Rattle.filtering.specs.NotPlaced.{filters_not_placed}
 use Rattle.converting.specs.Namespaces.{namespaces_outcome}
 use Rattle.answering.specs.Answering.{Call, calls, called, called_list, call_input, input_list, number_in, call_number}
+use Rattle.std.specs.Prelude.{Err}
+use Rattle.answers.specs.declared.Refusal.TheVariants.{Malformed, OverBound}
 
 -- what holds of each of the ten and behind them holds of every number
 module _ (P : ℕ → Type 0) (p0 : P 0) (p1 : P 1) (p2 : P 2) (p3 : P 3) (p4 : P 4) (p5 : P 5) (p6 : P 6) (p7 : P 7) (p8 : P 8) (p9 : P 9) where
@@ -90,32 +90,32 @@ unfolding called
 row-namespaces a b = refl
 
 -- no call that reads one text, two, three, or five
-pub none-of-one : (k : ℕ) (a out : Bytes) → (k ≡ 0 → ⊥) → (k ≡ 5 → ⊥) → Answered (called k (a ∷ [])) out out Malformed
+pub none-of-one : (k : ℕ) (a out : Bytes) → (k ≡ 0 → ⊥) → (k ≡ 5 → ⊥) → Answered (called k (a ∷ [])) out out (Err Malformed)
 unfolding called Reported
-none-of-one k a out = by_number (λ k. (k ≡ 0 → ⊥) → (k ≡ 5 → ⊥) → Answered (called k (a ∷ [])) out out Malformed) (λ h i. absurd (h refl)) here here here here (λ h i. absurd (i refl)) here here here here (λ k. here) k
+none-of-one k a out = by_number (λ k. (k ≡ 0 → ⊥) → (k ≡ 5 → ⊥) → Answered (called k (a ∷ [])) out out (Err Malformed)) (λ h i. absurd (h refl)) here here here here (λ h i. absurd (i refl)) here here here here (λ k. here) k
   where
-    here : {n : ℕ} → (n ≡ 0 → ⊥) → (n ≡ 5 → ⊥) → Answered (refused 1) out out Malformed
+    here : {n : ℕ} → (n ≡ 0 → ⊥) → (n ≡ 5 → ⊥) → Answered (refused 1) out out (Err Malformed)
     here h i = (refl, refl, refl)
 
-pub none_of_two : (k : ℕ) (a b out : Bytes) → (k ≡ 1 → ⊥) → (k ≡ 4 → ⊥) → (k ≡ 6 → ⊥) → (k ≡ 9 → ⊥) → (k ≡ 7 → ⊥) → Answered (called k (a ∷ b ∷ [])) out out Malformed
+pub none_of_two : (k : ℕ) (a b out : Bytes) → (k ≡ 1 → ⊥) → (k ≡ 4 → ⊥) → (k ≡ 6 → ⊥) → (k ≡ 9 → ⊥) → (k ≡ 7 → ⊥) → Answered (called k (a ∷ b ∷ [])) out out (Err Malformed)
 unfolding called Reported
-none_of_two k a b out = by_number (λ k. (k ≡ 1 → ⊥) → (k ≡ 4 → ⊥) → (k ≡ 6 → ⊥) → (k ≡ 9 → ⊥) → (k ≡ 7 → ⊥) → Answered (called k (a ∷ b ∷ [])) out out Malformed) here (λ h i j l m. absurd (h refl)) here here (λ h i j l m. absurd (i refl)) here (λ h i j l m. absurd (j refl)) (λ h i j l m. absurd (m refl)) here (λ h i j l m. absurd (l refl)) (λ k. here) k
+none_of_two k a b out = by_number (λ k. (k ≡ 1 → ⊥) → (k ≡ 4 → ⊥) → (k ≡ 6 → ⊥) → (k ≡ 9 → ⊥) → (k ≡ 7 → ⊥) → Answered (called k (a ∷ b ∷ [])) out out (Err Malformed)) here (λ h i j l m. absurd (h refl)) here here (λ h i j l m. absurd (i refl)) here (λ h i j l m. absurd (j refl)) (λ h i j l m. absurd (m refl)) here (λ h i j l m. absurd (l refl)) (λ k. here) k
   where
-    here : {n : ℕ} → (n ≡ 1 → ⊥) → (n ≡ 4 → ⊥) → (n ≡ 6 → ⊥) → (n ≡ 9 → ⊥) → (n ≡ 7 → ⊥) → Answered (refused 1) out out Malformed
+    here : {n : ℕ} → (n ≡ 1 → ⊥) → (n ≡ 4 → ⊥) → (n ≡ 6 → ⊥) → (n ≡ 9 → ⊥) → (n ≡ 7 → ⊥) → Answered (refused 1) out out (Err Malformed)
     here h i j l m = (refl, refl, refl)
 
-pub none-of-three : (k : ℕ) (a b c out : Bytes) → (k ≡ 8 → ⊥) → Answered (called k (a ∷ b ∷ c ∷ [])) out out Malformed
+pub none-of-three : (k : ℕ) (a b c out : Bytes) → (k ≡ 8 → ⊥) → Answered (called k (a ∷ b ∷ c ∷ [])) out out (Err Malformed)
 unfolding called Reported
-none-of-three k a b c out = by_number (λ k. (k ≡ 8 → ⊥) → Answered (called k (a ∷ b ∷ c ∷ [])) out out Malformed) here here here here here here here here (λ h. absurd (h refl)) here (λ k. here) k
+none-of-three k a b c out = by_number (λ k. (k ≡ 8 → ⊥) → Answered (called k (a ∷ b ∷ c ∷ [])) out out (Err Malformed)) here here here here here here here here (λ h. absurd (h refl)) here (λ k. here) k
   where
-    here : {n : ℕ} → (n ≡ 8 → ⊥) → Answered (refused 1) out out Malformed
+    here : {n : ℕ} → (n ≡ 8 → ⊥) → Answered (refused 1) out out (Err Malformed)
     here h = (refl, refl, refl)
 
-pub none-of-five : (k : ℕ) (a b c d e out : Bytes) → (k ≡ 2 → ⊥) → (k ≡ 3 → ⊥) → Answered (called k (a ∷ b ∷ c ∷ d ∷ e ∷ [])) out out Malformed
+pub none-of-five : (k : ℕ) (a b c d e out : Bytes) → (k ≡ 2 → ⊥) → (k ≡ 3 → ⊥) → Answered (called k (a ∷ b ∷ c ∷ d ∷ e ∷ [])) out out (Err Malformed)
 unfolding called Reported
-none-of-five k a b c d e out = by_number (λ k. (k ≡ 2 → ⊥) → (k ≡ 3 → ⊥) → Answered (called k (a ∷ b ∷ c ∷ d ∷ e ∷ [])) out out Malformed) here here (λ h i. absurd (h refl)) (λ h i. absurd (i refl)) here here here here here here (λ k. here) k
+none-of-five k a b c d e out = by_number (λ k. (k ≡ 2 → ⊥) → (k ≡ 3 → ⊥) → Answered (called k (a ∷ b ∷ c ∷ d ∷ e ∷ [])) out out (Err Malformed)) here here (λ h i. absurd (h refl)) (λ h i. absurd (i refl)) here here here here here here (λ k. here) k
   where
-    here : {n : ℕ} → (n ≡ 2 → ⊥) → (n ≡ 3 → ⊥) → Answered (refused 1) out out Malformed
+    here : {n : ℕ} → (n ≡ 2 → ⊥) → (n ≡ 3 → ⊥) → Answered (refused 1) out out (Err Malformed)
     here h i = (refl, refl, refl)
 
 -- ---- a call's list
@@ -153,11 +153,11 @@ other-listed k a b out after lent r h x = rw (none k h) (both-none (called k (a 
     none n = by_number (λ n. (n ≡ 7 → ⊥) → called_list n (a ∷ b ∷ []) ≡ []) (λ i. refl) (λ i. refl) (λ i. refl) (λ i. refl) (λ i. refl) (λ i. refl) (λ i. refl) (λ i. absurd (i refl)) (λ i. refl) (λ i. refl) (λ k i. refl) n
 
 -- another number of texts than any call reads
-pub none-of-others : (k : ℕ) (ts : List Bytes) (out : Bytes) → (length ts ≡ 0 → ⊥) → (length ts ≡ 1 → ⊥) → (length ts ≡ 2 → ⊥) → (length ts ≡ 3 → ⊥) → (length ts ≡ 5 → ⊥) → Answered (called k ts) out out Malformed
+pub none-of-others : (k : ℕ) (ts : List Bytes) (out : Bytes) → (length ts ≡ 0 → ⊥) → (length ts ≡ 1 → ⊥) → (length ts ≡ 2 → ⊥) → (length ts ≡ 3 → ⊥) → (length ts ≡ 5 → ⊥) → Answered (called k ts) out out (Err Malformed)
 unfolding called Reported
-none-of-others k ts out h0 h1 h2 h3 h5 = by_number (λ k. Answered (called k ts) out out Malformed) (not 1 _ h1) (not 2 _ h2) (not 5 _ h5) (not 5 _ h5) (not 2 _ h2) (not 1 _ h1) (not 2 _ h2) (not 2 _ h2) (not 3 _ h3) (not 2 _ h2) (λ k. not 0 _ h0) k
+none-of-others k ts out h0 h1 h2 h3 h5 = by_number (λ k. Answered (called k ts) out out (Err Malformed)) (not 1 _ h1) (not 2 _ h2) (not 5 _ h5) (not 5 _ h5) (not 2 _ h2) (not 1 _ h1) (not 2 _ h2) (not 2 _ h2) (not 3 _ h3) (not 2 _ h2) (λ k. not 0 _ h0) k
   where
-    not : (n : ℕ) (o : Outcome) → (length ts ≡ n → ⊥) → Answered (cond (eqb (length ts) n) o (refused 1)) out out Malformed
+    not : (n : ℕ) (o : Outcome) → (length ts ≡ n → ⊥) → Answered (cond (eqb (length ts) n) o (refused 1)) out out (Err Malformed)
     not n o h = rw (ne_eqb (length ts) n h) (refl, refl, refl)
 
 -- ---- a call's number
@@ -208,7 +208,7 @@ texts-five ts a b c d e h ea eb ec ed ee =
 -- ---- an input
 
 module _ (k : ℕ) (s : Bytes) where
-  pub answer-long : (out : Bytes) (lent : List ℕ) → 65536 < length s → AnsweredBoth (call_input k s) (input_list k s) out out lent lent OverBound 0
+  pub answer-long : (out : Bytes) (lent : List ℕ) → 65536 < length s → AnsweredBoth (call_input k s) (input_list k s) out out lent lent (Err OverBound) 0
   unfolding call_input input_list ReportedBoth
   answer-long out lent h = rw (lt-leb (length s) 65536 h) (refl, refl, refl, refl, refl)
 
@@ -225,7 +225,7 @@ module _ (k : ℕ) (s : Bytes) where
   called-texts ts out after r e a = rw e a
 
   -- one more text than these, and no call reads so many
-  pub called-none : (out : Bytes) (b : ℕ) → (b ≡ 2 → ⊥) → (b ≡ 4 → ⊥) → length (texts s) ≡ b + 1 → (b ≡ 0 → ⊥) → (b ≡ 1 → ⊥) → Answered (called k (texts s)) out out Malformed
+  pub called-none : (out : Bytes) (b : ℕ) → (b ≡ 2 → ⊥) → (b ≡ 4 → ⊥) → length (texts s) ≡ b + 1 → (b ≡ 0 → ⊥) → (b ≡ 1 → ⊥) → Answered (called k (texts s)) out out (Err Malformed)
   called-none out b h2 h4 e h0 h1 =
       let i0 : length (texts s) ≡ 0 → ⊥ = omega arith in
       let i1 : length (texts s) ≡ 1 → ⊥ = λ q. h0 (omega arith) in

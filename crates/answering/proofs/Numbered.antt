@@ -13,8 +13,7 @@ use Rattle.algebra.specs.Query.{Query, mapping}
 use Rattle.algebra.specs.Tally.{bounds}
 use Rattle.algebra.specs.Given.{read_given_tree, read_given_query}
 use Rattle.algebra.specs.Texts.{read_pairs, read_sets, read_filters}
-use Rattle.answers.specs.declared.Answer.{Answer}
-use Rattle.answers.specs.Outcome.{Outcome, refused, number, size}
+use Rattle.answers.specs.Outcome.{Answer, Outcome, refused, number, size}
 use Rattle.answers.specs.Both.{AnsweredBoth}
 use Rattle.answers.proofs.Both.{both-as-before}
 use Rattle.answers.proofs.Numbered.{Numbered, written-numbered, then-numbered, test-numbered, not-zero}

@@ -17,10 +17,9 @@ use Rattle.text.specs.Text.{Bytes, ended}
 use Rattle.text.specs.Word.{bytes}
 use Rattle.text.specs.Field.{decimal}
 use Rattle.emit.specs.bridge.Emit.{Em, em, last, puts}
-use Rattle.emit.proofs.Laws.{puts-append, puts-nil, puts-at}
+use Rattle.emit.proofs.Laws.{puts-at}
 use Rattle.naming.proofs.Decimals.{digits-five}
-use Rattle.answers.specs.declared.Answer.{Answer}
-use Rattle.answers.specs.Outcome.{Outcome, refused, written, number, size, Reported}
+use Rattle.answers.specs.Outcome.{Answer, Outcome, refused, written, number, size, Reported}
 use Rattle.answers.specs.Both.{ReportedBoth}
 use Rattle.answers.proofs.Answers.{spared}
 use Rattle.answers.proofs.Numbered.{returned, from-not-zero}
@@ -30,21 +29,19 @@ use Rattle.answering.specs.bridge.Fields.{fields_of}
 -- ---- the line of a refusal
 
 -- the word and a tab, the number, a line end
-line-puts : (n : ℕ) (e : Em) → puts (refusal_line n) e ≡ puts (10 ∷ []) (puts (decimal n) (puts (bytes "refused\t") e))
-unfolding puts refusal_line ended
-line-puts n e = puts-append (decimal n) (10 ∷ []) (puts (bytes "refused\t") e)
+pub line-is : (n : ℕ) → bytes "refused\t" ++ decimal n ++ (10 ∷ []) ≡ refusal_line n
+unfolding refusal_line ended
+line-is n = append_assoc (bytes "refused\t") (decimal n) (10 ∷ [])
 
 line-length : (n : ℕ) → n < 256 → length (refusal_line n) ≤ 14
 unfolding refusal_line ended
 line-length n h = omega (arith, digits-five n (omega arith), length-append (decimal n) (10 ∷ []))
 
--- where the buffer has room for it, it stands in front
-pub line-front : (n a b r : ℕ) (out x y now : Bytes) → em a x ≡ puts (bytes "refused\t") (em 0 out) → em b y ≡ puts (decimal n) (em a x) → em r now ≡ puts (10 ∷ []) (em b y)
-    → length out < last → length (refusal_line n) ≤ length out → take r now ≡ refusal_line n
-line-front n a b r out x y now word digits end k l =
-    let e : em r now ≡ puts (refusal_line n) (em 0 out) = end ∙ ap (puts (10 ∷ [])) (digits ∙ ap (puts (decimal n)) word) ∙ sym (line-puts n (em 0 out)) in
-    let at : r ≡ min (0 + length (refusal_line n)) last = ap (λ (m : Em). m.at) e ∙ puts-at (refusal_line n) (em 0 out) (omega arith) in
-    spared (refusal_line n) out now r e (omega arith) k
+-- where the buffer has room for what is put, it stands in front
+pub front : (b : Bytes) (r : ℕ) (out now : Bytes) → em r now ≡ puts b (em 0 out) → length out < last → length b ≤ length out → take r now ≡ b
+front b r out now e k l =
+    let at : r ≡ min (0 + length b) last = ap (λ (m : Em). m.at) e ∙ puts-at b (em 0 out) (omega arith) in
+    spared b out now r e (omega arith) k
 
 -- ---- what the outcome says
 
@@ -99,40 +96,25 @@ fields-puts w [] = refl
 fields-puts w (x ∷ xs) = ap (λ (b : Bytes). w ++ (9 ∷ b)) (fields-puts (decimal x) xs ∙ sym (append_assoc (decimal x) (fields_of xs) (10 ∷ [])))
 
 -- one field after the other
-module _ (list : List ℕ) (j : ℕ) (e whole : Em) (inv : puts (fields_of (drop j list)) e ≡ whole) where
-  pub fields-next : j < length list → (t f : Em) → t ≡ puts (9 ∷ []) e → (n : ℕ) → n ≡ get_or list j 0 → f ≡ puts (decimal n) t → puts (fields_of (drop (j + 1) list)) f ≡ whole
-  unfolding fields_of puts
-  fields-next h t f p n is q =
-      let d = decimal (get_or list j 0) in
-      let bs = drop (suc j) list in
-      ap₂ (λ (k : ℕ) (x : Em). puts (fields_of (drop k list)) x) (add-one j) (q ∙ ap₂ (λ (k : ℕ) (x : Em). puts (decimal k) x) is p)
-      ∙ sym (puts-append d (fields_of bs) (puts (9 ∷ []) e))
-      ∙ ap (λ (xs : List ℕ). puts (fields_of xs) e) (sym (drop-cons list j 0 h))
-      ∙ inv
+pub fields-next : (list : List ℕ) (j n : ℕ) → j < length list → n ≡ get_or list j 0 → fields_of (drop j list) ≡ (9 ∷ []) ++ decimal n ++ fields_of (drop (j + 1) list)
+unfolding fields_of
+fields-next list j n h is =
+    ap fields_of (drop-cons list j 0 h) ∙ ap₂ (λ (x k : ℕ). 9 ∷ (decimal x ++ fields_of (drop k list))) (sym is) (sym (add-one j))
 
-  pub fields-done : length list ≤ j → e ≡ whole
-  unfolding fields_of
-  fields-done h = sym (puts-nil e) ∙ ap (λ (xs : List ℕ). puts (fields_of xs) e) (sym (drop_of_length-le list h)) ∙ inv
+pub fields-done : (list : List ℕ) (j : ℕ) → length list ≤ j → fields_of (drop j list) ≡ []
+unfolding fields_of
+fields-done list j h = ap fields_of (drop_of_length-le list h)
 
 pub no-left : (list : List ℕ) (out : Bytes) → length list ≡ 0 → take 0 out ≡ left_line list
 unfolding left_line
 no-left [] out h = refl
 no-left (x ∷ xs) out h = absurd (omega arith)
 
--- where the buffer has room for it, it stands in front
-pub left-front : (list : List ℕ) (a b r : ℕ) (out x y now : Bytes) → (length list ≡ 0 → ⊥) → em a x ≡ puts (bytes "left") (em 0 out) → em b y ≡ puts (fields_of list) (em a x) → em r now ≡ puts (10 ∷ []) (em b y)
-    → length out < last → length (left_line list) ≤ length out → take r now ≡ left_line list
-unfolding left_line ended
-left-front list a b r out x y now some word fields end k l =
-    let e : em r now ≡ puts (left_line list) (em 0 out) =
-    end ∙ ap (puts (10 ∷ [])) (fields ∙ ap (puts (fields_of list)) word)
-    ∙ sym (ap (λ (z : Bytes). puts z (em 0 out)) (line list some) ∙ puts-append (bytes "left") (fields_of list ++ (10 ∷ [])) (em 0 out) ∙ puts-append (fields_of list) (10 ∷ []) _) in
-    let at : r ≡ min (0 + length (left_line list)) last = ap (λ (m : Em). m.at) e ∙ puts-at (left_line list) (em 0 out) (omega arith) in
-    spared (left_line list) out now r e (omega arith) k
-  where
-    line : (xs : List ℕ) → (length xs ≡ 0 → ⊥) → left_line xs ≡ bytes "left" ++ (fields_of xs ++ (10 ∷ []))
-    line [] h = absurd (h refl)
-    line (z ∷ zs) h = fields-puts (bytes "left") (z ∷ zs)
+-- the word, the fields, a line end
+pub left-is : (list : List ℕ) → (length list ≡ 0 → ⊥) → bytes "left" ++ fields_of list ++ (10 ∷ []) ≡ left_line list
+unfolding left_line
+left-is [] h = absurd (h refl)
+left-is (x ∷ xs) h = append_assoc (bytes "left") (fields_of (x ∷ xs)) (10 ∷ []) ∙ sym (fields-puts (bytes "left") (x ∷ xs))
 
 fields-length : (xs : List ℕ) → all (λ k. ltb k bounds.entries) xs ≡ true → length (fields_of xs) ≤ 6 * length xs
 unfolding fields_of all

@@ -3,8 +3,7 @@ use Rattle.std.specs.Prelude.{ℕ, ◌≡◌, cond, List, [], ◌∷◌, map, le
 use Rattle.text.specs.Text.{Bytes, ended}
 use Rattle.text.specs.Word.{bytes}
 use Rattle.text.specs.Field.{decimal}
-use Rattle.answers.specs.declared.Answer.{Answer}
-use Rattle.answers.specs.Outcome.{Outcome, refused, written, Answered}
+use Rattle.answers.specs.Outcome.{Answer, Outcome, refused, written, Answered}
 
 -- "one line: `refused`, a tab, the number in base ten"
 unfoldable pub refusal_line : ℕ → Bytes

@@ -6,15 +6,15 @@ mod more;
 
 ghost use Rattle.std.specs.Prelude.{◌≡◌, [], ◌∷◌, ◌≤◌, length, take};
 ghost use Rattle.answers.specs.Outcome.{Answered};
-ghost use Rattle.answers.specs.Both.{AnsweredBoth};
+ghost use Rattle.answers.specs.Both.{answer_of, many_of, ListedBoth};
 ghost use Rattle.answering.specs.Answering.{called, call_input, call_number, called_list, input_list};
 ghost use Rattle.answering.specs.Printed.{refusal_line, left_line, Prints};
 
 use crate::fields::put_fields;
 use crate::more::of_more;
-use answers::{Answer, Listed, number, size_of};
+use answers::{Answer, Listed, ListedAnswer, Refusal, number, size_of};
 use binding::bindings::bindings;
-use emit::{put, put_all};
+use emit::Writer;
 use expressing::filters::filters;
 use joining::push::push_constants;
 use naming::numbers::put_decimal;
@@ -96,7 +96,7 @@ fn of_one(call: u32, a: &[u8], out: &mut [u8]) -> Answer
     if call == 5 {
         return negate(a, out);
     }
-    Answer::Malformed
+    Err(Refusal::Malformed)
 }
 
 // A call's answer to two texts.
@@ -116,39 +116,38 @@ fn of_two(call: u32, a: &[u8], b: &[u8], out: &mut [u8]) -> Answer
     if call == 9 {
         return namespaces(a, b, out);
     }
-    Answer::Malformed
+    Err(Refusal::Malformed)
 }
 
-// The same, and its list.
-fn of_two_listed(call: u32, a: &[u8], b: &[u8], out: &mut [u8], list: &mut [u16]) -> Listed
-    ensures { AnsweredBoth (called call (a.now ∷ b.now ∷ [])) (called_list call (a.now ∷ b.now ∷ [])) out.old out.new list.old list.new result.answer result.many }
+// The answer of a call that has no list.
+fn unlisted(answer: Answer) -> ListedAnswer
+    ensures { (answer_of result ≡ answer) × (many_of result ≡ 0) }
+{
+    let size = answer?;
+    Ok(Listed { size, many: 0 })
+}
+
+// A call's answer to two texts, and its list.
+fn of_two_listed(call: u32, a: &[u8], b: &[u8], out: &mut [u8], list: &mut [u16]) -> ListedAnswer
+    ensures { ListedBoth (called call (a.now ∷ b.now ∷ [])) (called_list call (a.now ∷ b.now ∷ [])) out.old out.new list.old list.new result }
 {
     if call == 7 {
         return filters(a, b, out, list);
     }
-    Listed {
-        answer: of_two(call, a, b, out),
-        many: 0,
-    }
+    unlisted(of_two(call, a, b, out))
 }
 
 // A call's answer to an input, whose texts are parted by lines `--`, and its list.
-pub fn answer(call: u32, input: &[u8], out: &mut [u8], list: &mut [u16]) -> Listed
-    ensures { AnsweredBoth (call_input call input.now) (input_list call input.now) out.old out.new list.old list.new result.answer result.many }
+pub fn answer(call: u32, input: &[u8], out: &mut [u8], list: &mut [u16]) -> ListedAnswer
+    ensures { ListedBoth (call_input call input.now) (input_list call input.now) out.old out.new list.old list.new result }
 {
     if LIMIT < input.len() {
-        return Listed {
-            answer: Answer::OverBound,
-            many: 0,
-        };
+        return Err(Refusal::OverBound);
     }
     let mut ends = [0usize; 5];
     let n = part_texts(input, &mut ends);
     if n == 0 {
-        return Listed {
-            answer: of_one(call, text_at(input, &ends, n, 0), out),
-            many: 0,
-        };
+        return unlisted(of_one(call, text_at(input, &ends, n, 0), out));
     }
     if n == 1 {
         return of_two_listed(
@@ -159,10 +158,7 @@ pub fn answer(call: u32, input: &[u8], out: &mut [u8], list: &mut [u16]) -> List
             list,
         );
     }
-    Listed {
-        answer: of_more(call, input, &ends, n, out),
-        many: 0,
-    }
+    unlisted(of_more(call, input, &ends, n, out))
 }
 
 const REFUSED: [u8; 8] = *b"refused\t";
@@ -171,9 +167,11 @@ const REFUSED: [u8; 8] = *b"refused\t";
 fn put_refusal(number: u8, out: &mut [u8]) -> usize
     ensures { length (refusal_line number) ≤ length out.old → take result out.new ≡ refusal_line number }
 {
-    let a = put_all(out, 0, &REFUSED);
-    let b = put_decimal(out, a, number as usize);
-    put(out, b, 10)
+    let mut w = Writer::new(out, 0);
+    w.put_all(&REFUSED);
+    put_decimal(&mut w, number as usize);
+    w.put(10);
+    w.at
 }
 
 // What is printed of an answer, from its buffer's start on: how many bytes.
@@ -196,9 +194,11 @@ pub fn put_left(list: &[u16], out: &mut [u8]) -> usize
     if list.len() == 0 {
         return 0;
     }
-    let a = put_all(out, 0, &LEFT);
-    let b = put_fields(list, out, a);
-    put(out, b, 10)
+    let mut w = Writer::new(out, 0);
+    w.put_all(&LEFT);
+    put_fields(list, &mut w);
+    w.put(10);
+    w.at
 }
 
 // The first numbers of a list, as far as there are any.

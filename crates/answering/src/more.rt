@@ -5,7 +5,7 @@ ghost use Rattle.parted.specs.bridge.Code.{Parted};
 ghost use Rattle.answers.specs.Outcome.{Answered};
 ghost use Rattle.answering.specs.Answering.{called};
 
-use answers::Answer;
+use answers::{Answer, Refusal};
 use joining::patterns::merge_patterns;
 use joining::queries::merge_queries;
 use joining::without::without;
@@ -18,7 +18,7 @@ fn of_three(call: u32, a: &[u8], b: &[u8], c: &[u8], out: &mut [u8]) -> Answer
     if call == 8 {
         return without(a, b, c, out);
     }
-    Answer::Malformed
+    Err(Refusal::Malformed)
 }
 
 // A call's answer to five texts.
@@ -31,7 +31,7 @@ fn of_five(call: u32, a: &[u8], b: &[u8], c: &[u8], d: &[u8], e: &[u8], out: &mu
     if call == 3 {
         return merge_queries(a, b, c, d, e, out);
     }
-    Answer::Malformed
+    Err(Refusal::Malformed)
 }
 
 // A call's answer to three texts or five of an input; to none else.
@@ -59,5 +59,5 @@ pub fn of_more(call: u32, input: &[u8], ends: &[usize; 5], n: usize, out: &mut [
             out,
         );
     }
-    Answer::Malformed
+    Err(Refusal::Malformed)
 }

@@ -1,17 +1,17 @@
 -- Laws of answers: what was measured decides, and what was written is the answer. Assumes nothing.
 use Prim.Native.Nat.{ℕ, ◌+◌, ◌≤◌, ◌<◌, min}
 use mathlib.Core.Path.{◌≡◌, refl, sym, ap, ap₂, subst, ◌∙◌}
-use mathlib.Core.List.{List, [], ◌∷◌, ◌++◌}
+use mathlib.Core.List.{◌++◌}
 use native.Mathlib.Nat.{zero-add}
 use native.Mathlib.Omega.{arith}
 use lib.ListN.{length, take, drop}
-use lib.Seq.{sets, sets-eq, take-append_seam}
+use lib.Seq.{sets-eq, take-append_seam}
 use Rattle.text.specs.Text.{Bytes, piece}
 use Rattle.emit.specs.bridge.Emit.{Em, em, last, puts}
 use Rattle.emit.proofs.Laws.{puts-at, puts-out}
-use Rattle.answers.specs.declared.Answer.{Answer}
-use Rattle.answers.specs.declared.Answer.TheVariants.{Written, TooShort}
-use Rattle.answers.specs.Outcome.{Outcome, written, number, size, Reported, Answered}
+use Rattle.answers.specs.Outcome.{Answer, Outcome, written, number, size, Reported, Answered}
+use Rattle.std.specs.Prelude.{Ok, Err}
+use Rattle.answers.specs.declared.Refusal.TheVariants.{TooShort}
 
 -- where a measure ended
 measured : (b : Bytes) (k : ℕ) (o o' : Bytes) → em k o' ≡ puts b (em 0 o) → k ≡ min (length b) last
@@ -19,14 +19,14 @@ measured b k o o' e = ap (λ (x : Em). x.at) e ∙ puts-at b (em 0 o) (omega ari
 
 module _ (b out : Bytes) (need : ℕ) (spare spare' : Bytes) (measure : em need spare' ≡ puts b (em 0 spare)) where
   -- the answer is longer than the buffer
-  pub too_short : length out < need → Answered (written b) out out TooShort
+  pub too_short : length out < need → Answered (written b) out out (Err TooShort)
   unfolding Reported
   too_short h =
       let m = measured b need spare spare' measure in
       (λ k. absurd (omega arith), λ k. (refl, refl, refl))
 
   -- all of it stands in front, and what was behind it is as it was
-  pub all-written : (size : ℕ) (out' : Bytes) → need ≤ length out → length out < last → em size out' ≡ puts b (em 0 out) → Answered (written b) out out' (Written size)
+  pub all-written : (size : ℕ) (out' : Bytes) → need ≤ length out → length out < last → em size out' ≡ puts b (em 0 out) → Answered (written b) out out' (Ok size)
   unfolding Reported
   all-written size out' h k e =
       let m = measured b need spare spare' measure in
@@ -44,7 +44,7 @@ spared b spare spare' need e h k =
 
 -- a short answer is copied from a spare buffer of k bytes
 pub copied : (b out : Bytes) (need : ℕ) (spare spare' : Bytes) → em need spare' ≡ puts b (em 0 spare) → (size : ℕ) (out' : Bytes) (k : ℕ) → need ≤ length out → length out < last → length spare ≡ k → k < last → need ≤ k
-    → em size out' ≡ puts (piece 0 need spare') (em 0 out) → Answered (written b) out out' (Written size)
+    → em size out' ≡ puts (piece 0 need spare') (em 0 out) → Answered (written b) out out' (Ok size)
 copied b out need spare spare' m size out' k i j l x y e =
     all-written b out need spare spare' m size out' i j (e ∙ ap (λ (c : Bytes). puts c (em 0 out)) (spared b spare spare' need m (omega arith) (omega arith)))
 

@@ -1,14 +1,38 @@
 -- Laws of answers in two slices: what is known of the one with the bytes, and what the list adds. Assumes nothing.
 use Prim.Native.Nat.{ℕ, ◌≤◌, ◌<◌}
-use mathlib.Core.Path.{◌≡◌, refl, sym, ap, subst, ◌∙◌}
+use mathlib.Core.Path.{◌≡◌, refl, sym, subst}
 use mathlib.Core.List.{List, [], ◌++◌}
 use native.Mathlib.Omega.{arith}
 use lib.ListN.{length, drop}
 use Rattle.text.specs.Text.{Bytes}
-use Rattle.answers.specs.declared.Answer.{Answer}
-use Rattle.answers.specs.declared.Answer.TheVariants.{TooShort, ListTooShort}
-use Rattle.answers.specs.Outcome.{Outcome, refused, written, number, size, Reported, Answered}
-use Rattle.answers.specs.Both.{Neither, ReportedBoth, AnsweredBoth}
+use Rattle.answers.specs.Outcome.{Answer, Outcome, refused, written, number, size, Reported, Answered}
+use Rattle.answers.specs.Both.{Neither, ReportedBoth, AnsweredBoth, ListedAnswer, answer_of, many_of, ListedBoth}
+use Rattle.std.specs.Prelude.{Err}
+use Rattle.answers.specs.declared.Refusal.{Refusal}
+use Rattle.answers.specs.declared.Refusal.TheVariants.{Forbidden, ListTooShort, Malformed, ManyLines, NoPairs, NotCovered, NotInOrder, NotMergeable, NotProject, NotUsable, Outside, OverBound, Repeated, TooShort, Unsayable}
+
+-- no refusal has the number 0
+pub refusal-numbered : (f : Refusal) → number (Err f) ≡ 0 → ⊥
+refusal-numbered Malformed e = omega arith
+refusal-numbered OverBound e = omega arith
+refusal-numbered Outside e = omega arith
+refusal-numbered NotProject e = omega arith
+refusal-numbered NotMergeable e = omega arith
+refusal-numbered TooShort e = omega arith
+refusal-numbered NotUsable e = omega arith
+refusal-numbered ManyLines e = omega arith
+refusal-numbered ListTooShort e = omega arith
+refusal-numbered Repeated e = omega arith
+refusal-numbered NoPairs e = omega arith
+refusal-numbered Unsayable e = omega arith
+refusal-numbered Forbidden e = omega arith
+refusal-numbered NotInOrder e = omega arith
+refusal-numbered NotCovered e = omega arith
+
+-- bytes that have room are not refused
+pub not-refused : (b before after : Bytes) (f : Refusal) → Answered (written b) before after (Err f) → length b ≤ length before → ⊥
+unfolding Reported
+not-refused b before after f a i = refusal-numbered f (a.0 i).0
 
 -- the bytes are as of the call without a list, where the list has room
 pub both-as-before : (o : Outcome) (xs : List ℕ) (before after : Bytes) (lent left : List ℕ) (n s m : ℕ) → length xs ≤ length lent → ReportedBoth o xs before after lent left n s m → Reported o before after n s
@@ -30,12 +54,12 @@ module _ (o : Outcome) (xs before : List ℕ) (lent : List ℕ) where
 
   module _ (b : Bytes) (e : o ≡ written b) where
     -- the bytes have no room
-    pub both-short : length before < length b → AnsweredBoth o xs before before lent lent TooShort 0
+    pub both-short : length before < length b → AnsweredBoth o xs before before lent lent (Err TooShort) 0
     unfolding ReportedBoth
     both-short i = subst (λ (q : Outcome). ReportedBoth q xs before before lent lent 6 0 0) (sym e) (λ k. (refl, refl, refl, refl, refl), λ k l. absurd (omega arith), λ k l. absurd (omega arith))
 
     -- the bytes have room and the list hasn't
-    pub both-list-short : length b ≤ length before → length lent < length xs → AnsweredBoth o xs before before lent lent ListTooShort 0
+    pub both-list-short : length b ≤ length before → length lent < length xs → AnsweredBoth o xs before before lent lent (Err ListTooShort) 0
     unfolding ReportedBoth
     both-list-short i j = subst (λ (q : Outcome). ReportedBoth q xs before before lent lent 9 0 0) (sym e) (λ k. absurd (omega arith), λ k l. (refl, refl, refl, refl, refl), λ k l. absurd (omega arith))
 
@@ -61,3 +85,7 @@ answered-both o q xs ys before after lent left r m e f h = subst (λ (x : Outcom
 -- what is reported of an answer's number and size
 pub reported-both : (o : Outcome) (xs : List ℕ) (before after : Bytes) (lent left : List ℕ) (r : Answer) (k m n s : ℕ) → AnsweredBoth o xs before after lent left r k → n ≡ number r → s ≡ size r → m ≡ k → ReportedBoth o xs before after lent left n s m
 reported-both o xs before after lent left r k m n s h p q e = rw (p, q, e) h
+
+-- an answer without numbers, told as one that could have them
+pub unlisted : (o : Outcome) (xs : List ℕ) (before after : Bytes) (lent left : List ℕ) (r : ListedAnswer) (a : Answer) → (answer_of r ≡ a) × (many_of r ≡ 0) → AnsweredBoth o xs before after lent left a 0 → ListedBoth o xs before after lent left r
+unlisted o xs before after lent left r a e h = rw (e.0, e.1) h

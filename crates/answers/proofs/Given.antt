@@ -4,8 +4,7 @@ use lib.ListN.{length}
 use Rattle.text.specs.Text.{Bytes}
 use Rattle.text.specs.Word.{bytes}
 use Rattle.algebra.proofs.Given.{tree_text, text-none, text-some}
-use Rattle.answers.specs.declared.Answer.{Answer}
-use Rattle.answers.specs.Outcome.{Outcome, Answered}
+use Rattle.answers.specs.Outcome.{Answer, Outcome, Answered}
 
 -- the outcome of a given text, and that of a text as it stands
 module _ (given asIs : Bytes → Outcome) (same : (s : Bytes) → given s ≡ asIs (tree_text s)) (s before after : Bytes) (r : Answer) where

@@ -1,8 +1,9 @@
 -- What a call with two lent slices promises: bytes, and a list of numbers. docs/SPECIFICATION.md, "Operation by operation". Assumes nothing.
-use Rattle.std.specs.Prelude.{ℕ, ◌≤◌, ◌<◌, ◌≡◌, List, ◌++◌, length, drop}
+use Rattle.std.specs.Prelude.{Result, Ok, Err, ℕ, ◌≤◌, ◌<◌, ◌≡◌, List, ◌++◌, length, drop}
 use Rattle.text.specs.Text.{Bytes}
-use Rattle.answers.specs.declared.Answer.{Answer}
-use Rattle.answers.specs.Outcome.{Outcome, refused, written, number, size}
+use Rattle.answers.specs.declared.Refusal.{Refusal}
+use Rattle.answers.specs.declared.Listed.{Listed}
+use Rattle.answers.specs.Outcome.{Answer, Outcome, refused, written, number, size}
 
 -- refused by this number: both lengths are 0, and neither slice is changed
 abbrev pub Neither : ℕ → Bytes → Bytes → List ℕ → List ℕ → ℕ → ℕ → ℕ → Type 0
@@ -19,3 +20,21 @@ ReportedBoth (written b) xs before after lent left n s m =
 -- the same of an answer, and how many numbers
 abbrev pub AnsweredBoth : Outcome → List ℕ → Bytes → Bytes → List ℕ → List ℕ → Answer → ℕ → Type 0
 AnsweredBoth o xs before after lent left r m = ReportedBoth o xs before after lent left (number r) (size r) m
+
+-- how many bytes were written and how many numbers listed, or why the call was refused
+abbrev pub ListedAnswer : Type 0
+ListedAnswer = Result Listed Refusal
+
+-- the same without its list
+abbrev pub answer_of : ListedAnswer → Answer
+answer_of (Ok l) = Ok l.size
+answer_of (Err r) = Err r
+
+-- a refusal has no numbers
+abbrev pub many_of : ListedAnswer → ℕ
+many_of (Ok l) = l.many
+many_of (Err r) = 0
+
+-- what is reported of such an answer
+abbrev pub ListedBoth : Outcome → List ℕ → Bytes → Bytes → List ℕ → List ℕ → ListedAnswer → Type 0
+ListedBoth o xs before after lent left r = AnsweredBoth o xs before after lent left (answer_of r) (many_of r)

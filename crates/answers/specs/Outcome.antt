@@ -1,10 +1,12 @@
 -- What a public call promises: docs/SPECIFICATION.md, "Operation by operation". Assumes nothing.
-use Rattle.std.specs.Prelude.{ℕ, ◌≤◌, ◌<◌, ◌≡◌, Bool, true, false, List, ◌++◌, length, drop}
+use Rattle.std.specs.Prelude.{Result, ℕ, ◌≤◌, ◌<◌, ◌≡◌, Bool, true, false, ◌++◌, length, drop, Ok, Err}
 use Rattle.std.proofs.Math.Option.{Option, none, some}
 use Rattle.text.specs.Text.{Bytes}
 use Rattle.algebra.specs.Reader.{Outcome as Reading, reads, refuses, refusal_number}
-use Rattle.answers.specs.declared.Answer.{Answer}
-use Rattle.answers.specs.declared.Answer.TheVariants.{Written, Malformed, OverBound, Outside, NotProject, NotMergeable, TooShort, NotUsable, ManyLines, ListTooShort, Repeated, NoPairs, Unsayable, Forbidden, NotInOrder, NotCovered}
+use Rattle.algebra.specs.declared.Fault.{Fault}
+use Rattle.algebra.specs.declared.Fault.TheVariants as F
+use Rattle.answers.specs.declared.Refusal.{Refusal}
+use Rattle.answers.specs.declared.Refusal.TheVariants.{Forbidden, ListTooShort, Malformed, ManyLines, NoPairs, NotCovered, NotInOrder, NotMergeable, NotProject, NotUsable, Outside, OverBound, Repeated, TooShort, Unsayable}
 
 -- ---- what is to come of the texts alone
 
@@ -30,43 +32,38 @@ refused_unless n false o = refused n
 
 -- ---- what the call does
 
+-- how many bytes were written, or why the call was refused
+abbrev pub Answer : Type 0
+Answer = Result ℕ Refusal
+
+-- a text that is refused refuses the call
+abbrev pub refusal_of : Fault → Refusal
+refusal_of F.Malformed = Malformed
+refusal_of F.OverBound = OverBound
+
 -- the number of docs/SPECIFICATION.md, "Numbers"; 0 where bytes were written
 abbrev pub number : Answer → ℕ
-number (Written n) = 0
-number Malformed = 1
-number OverBound = 2
-number Outside = 3
-number NotProject = 4
-number NotMergeable = 5
-number TooShort = 6
-number NotUsable = 7
-number ManyLines = 8
-number ListTooShort = 9
-number Repeated = 10
-number NoPairs = 11
-number Unsayable = 12
-number Forbidden = 13
-number NotInOrder = 14
-number NotCovered = 15
+number (Ok n) = 0
+number (Err Malformed) = 1
+number (Err OverBound) = 2
+number (Err Outside) = 3
+number (Err NotProject) = 4
+number (Err NotMergeable) = 5
+number (Err TooShort) = 6
+number (Err NotUsable) = 7
+number (Err ManyLines) = 8
+number (Err ListTooShort) = 9
+number (Err Repeated) = 10
+number (Err NoPairs) = 11
+number (Err Unsayable) = 12
+number (Err Forbidden) = 13
+number (Err NotInOrder) = 14
+number (Err NotCovered) = 15
 
 -- a refusal has length 0
 abbrev pub size : Answer → ℕ
-size (Written n) = n
-size Malformed = 0
-size OverBound = 0
-size Outside = 0
-size NotProject = 0
-size NotMergeable = 0
-size TooShort = 0
-size NotUsable = 0
-size ManyLines = 0
-size ListTooShort = 0
-size Repeated = 0
-size NoPairs = 0
-size Unsayable = 0
-size Forbidden = 0
-size NotInOrder = 0
-size NotCovered = 0
+size (Ok n) = n
+size (Err r) = 0
 
 -- number, length and every byte of the buffer: what stood behind the answer stays, and 6 means that it is longer than the buffer
 unfoldable pub Reported : Outcome → Bytes → Bytes → ℕ → ℕ → Type 0

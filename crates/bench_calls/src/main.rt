@@ -6,20 +6,17 @@
 
 use algebra::ENTRIES;
 use answering::answer;
-use answers::size_of;
+use answers::{answer_of, size_of};
 use filling::read_full;
 use std::env::Env;
 use std::io;
-use text::{Number, number_of};
+use text::number_of;
 
 fn again(call: u32, input: &[u8], out: &mut [u8], list: &mut [u16], times: u32) -> usize {
     let mut mix: usize = 0;
-    let mut k = times;
-    while k > 0 {
+    for _ in 0..times {
         let listed = answer(call, input, out, list);
-        let answer = listed.answer;
-        mix = mix ^ size_of(answer);
-        k -= 1;
+        mix ^= size_of(answer_of(listed));
     }
     mix
 }
@@ -32,16 +29,15 @@ fn run(
     out: &mut [u8],
     list: &mut [u16],
 ) -> io::Result<()> {
-    let Number::Is(n) = number_of(times) else {
+    let Some(n) = number_of(times) else {
         return Ok(());
     };
-    let Number::Is(k) = number_of(call) else {
+    let Some(k) = number_of(call) else {
         return Ok(());
     };
     let mix = again(k, input, out, list, n);
     let listed = answer(k, input, out, list);
-    let answer = listed.answer;
-    let size = size_of(answer);
+    let size = size_of(answer_of(listed));
     println!(rt; "{size}\t{mix}")
 }
 

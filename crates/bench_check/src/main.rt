@@ -4,12 +4,12 @@
 
 ghost use Rattle.words.specs.bridge.Words.{Worded};
 
-use algebra::{Answer, number};
+use algebra::{Fault, number};
 use filling::read_full;
 use reading::check_tree;
 use std::env::Env;
 use std::io;
-use text::{Number, number_of};
+use text::number_of;
 use words::table::{WordRow, all_words};
 
 fn entry(table: &[[u16; 2]; 1024], hints: &[u16; 2048], k: u32) -> u16 {
@@ -22,7 +22,7 @@ fn once(text: &[u8], words: &[WordRow; 56], k: u32) -> u16
 {
     let mut table = [[0u16; 2]; 1024];
     let mut hints = [0u16; 2048];
-    check_tree(text, words, &mut table, &mut hints);
+    let _ = check_tree(text, words, &mut table, &mut hints);
     entry(&table, &hints, k)
 }
 
@@ -30,15 +30,13 @@ fn again(text: &[u8], words: &[WordRow; 56], times: u32) -> u16
     requires { Worded words.now }
 {
     let mut mix: u16 = 0;
-    let mut k = times;
-    while k > 0 {
-        mix = mix ^ once(text, words, k);
-        k -= 1;
+    for k in 0..times {
+        mix ^= once(text, words, k + 1);
     }
     mix
 }
 
-fn answer(text: &[u8], words: &[WordRow; 56]) -> Answer
+fn answer(text: &[u8], words: &[WordRow; 56]) -> Result<usize, Fault>
     requires { Worded words.now }
 {
     let mut table = [[0u16; 2]; 1024];
@@ -47,7 +45,7 @@ fn answer(text: &[u8], words: &[WordRow; 56]) -> Answer
 }
 
 fn run(rt: &impl Print, text: &[u8], times: &[u8]) -> io::Result<()> {
-    let Number::Is(n) = number_of(times) else {
+    let Some(n) = number_of(times) else {
         return Ok(());
     };
     let words = all_words();

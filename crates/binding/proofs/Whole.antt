@@ -20,7 +20,6 @@ use Rattle.algebra.specs.Texts.{read_tree, read_sets}
 use Rattle.emit.specs.bridge.Emit.{Em, em, last, puts}
 use Rattle.emit.proofs.Laws.{puts-append, puts-at, puts-past}
 use Rattle.algebra.proofs.Theorem.{sets-exactly}
-use Rattle.answers.specs.declared.Answer.TheVariants.{Written, Malformed, OverBound, Outside, TooShort, NotUsable}
 use Rattle.answers.specs.Outcome.{written, refused, refused_unless, Reported, Answered}
 use Rattle.answers.proofs.Answers.{too_short, all-written, answered}
 use Rattle.scoping.specs.Sets.{all}
@@ -46,6 +45,8 @@ use Rattle.room.proofs.Bindings.{bindings-enough}
 use Rattle.binding.specs.declared.judge.Judged.{Judged}
 use Rattle.binding.specs.bridge.Judged.{all_below, at_below, JudgedAll}
 use Rattle.binding.specs.bridge.Bound.{bound_at, Holds}
+use Rattle.std.specs.Prelude.{Ok, Err}
+use Rattle.answers.specs.declared.Refusal.TheVariants.{Malformed, NotUsable, Outside, OverBound, TooShort}
 
 -- ---- the five pieces
 
@@ -113,12 +114,12 @@ module _ (tree sets : Bytes) (p : Pattern) (xs : List BindingSet) (e : read_tree
       sets-is : j.sets ≡ length xs
       sets-is = g.sets ∙ ap sets_in (sets-at sets xs f) ∙ sets-in xs
 
-      pub outside : (out : Bytes) → not j.inside ≡ true → Answered (bindings_as_is tree sets) out out Outside
+      pub outside : (out : Bytes) → not j.inside ≡ true → Answered (bindings_as_is tree sets) out out (Err Outside)
       unfolding Reported
       outside out h = rw (by_tests, sym inside_is ∙ not-true j.inside h) (refl, refl, refl)
 
       module _ (yes : not j.inside ≡ false) where
-        pub unusable : (out : Bytes) → not j.usable ≡ true → Answered (bindings_as_is tree sets) out out NotUsable
+        pub unusable : (out : Bytes) → not j.usable ≡ true → Answered (bindings_as_is tree sets) out out (Err NotUsable)
         unfolding Reported
         unusable out h = rw (by_tests, sym inside_is ∙ not-false j.inside yes, sym usable-is ∙ not-true j.usable h) (refl, refl, refl)
 
@@ -162,11 +163,11 @@ module _ (tree sets : Bytes) (p : Pattern) (xs : List BindingSet) (e : read_tree
             measure : em (min (length Answer) last) [] ≡ puts Answer (em 0 [])
             measure = puts-past Answer 0 (min (length Answer) last) [] (omega arith) (omega arith) (omega arith)
 
-            pub bindings-short : not b ≡ true → Answered (bindings_as_is tree sets) out out TooShort
-            bindings-short i = answered _ _ out out TooShort bound (too_short _ out (min (length Answer) last) [] [] measure (h.no (not-true b i)))
+            pub bindings-short : not b ≡ true → Answered (bindings_as_is tree sets) out out (Err TooShort)
+            bindings-short i = answered _ _ out out (Err TooShort) bound (too_short _ out (min (length Answer) last) [] [] measure (h.no (not-true b i)))
 
-            pub bindings-all : (size : ℕ) (out' : Bytes) → not b ≡ false → length out < last → em size out' ≡ puts Answer (em 0 out) → Answered (bindings_as_is tree sets) out out' (Written size)
-            bindings-all size out' i j k = answered _ _ out out' (Written size) bound (all-written _ out (min (length Answer) last) [] [] measure size out' (fits (not-false b i)) j k)
+            pub bindings-all : (size : ℕ) (out' : Bytes) → not b ≡ false → length out < last → em size out' ≡ puts Answer (em 0 out) → Answered (bindings_as_is tree sets) out out' (Ok size)
+            bindings-all size out' i j k = answered _ _ out out' (Ok size) bound (all-written _ out (min (length Answer) last) [] [] measure size out' (fits (not-false b i)) j k)
 
 -- ---- the room
 
@@ -184,19 +185,19 @@ size_holds most room k p o e =
 -- ---- a text that is refused
 
 module _ (tree sets out : Bytes) where
-  pub tree-malformed : read_tree tree ≡ refuses malformed → Answered (bindings_as_is tree sets) out out Malformed
+  pub tree-malformed : read_tree tree ≡ refuses malformed → Answered (bindings_as_is tree sets) out out (Err Malformed)
   unfolding bindings_as_is Reported
   tree-malformed e = rw e (refl, refl, refl)
 
-  pub tree_over : read_tree tree ≡ refuses over_bound → Answered (bindings_as_is tree sets) out out OverBound
+  pub tree_over : read_tree tree ≡ refuses over_bound → Answered (bindings_as_is tree sets) out out (Err OverBound)
   unfolding bindings_as_is Reported
   tree_over e = rw e (refl, refl, refl)
 
   module _ (p : Pattern) (r : read_tree tree ≡ reads p) where
-    pub sets-malformed : read_sets sets ≡ refuses malformed → Answered (bindings_as_is tree sets) out out Malformed
+    pub sets-malformed : read_sets sets ≡ refuses malformed → Answered (bindings_as_is tree sets) out out (Err Malformed)
     unfolding bindings_as_is Reported
     sets-malformed e = rw (r, e) (refl, refl, refl)
 
-    pub sets_over : read_sets sets ≡ refuses over_bound → Answered (bindings_as_is tree sets) out out OverBound
+    pub sets_over : read_sets sets ≡ refuses over_bound → Answered (bindings_as_is tree sets) out out (Err OverBound)
     unfolding bindings_as_is Reported
     sets_over e = rw (r, e) (refl, refl, refl)

@@ -17,12 +17,12 @@ ghost use Rattle.binding.specs.bridge.Bound.{bound_at, Holds};
 
 use crate::judge::judge;
 use crate::values::put_values;
-use algebra::{Answer as Check, COLUMNS, EMPTY_TREE};
-use answers::Answer;
+use algebra::{COLUMNS, EMPTY_TREE};
+use answers::{Answer, Refusal};
 use emit::put_all;
 use heads::copy;
 use names::{Columns, Entry, clear};
-use negating::{Outermost, outermost_projection};
+use negating::outermost_projection;
 use placing::columns::read_columns;
 use placing::ends::inner_end;
 use placing::steps::put_repeated;
@@ -79,24 +79,25 @@ fn bindings_of(tree: &[u8], sets: &[u8], words: &[WordRow; 56], out: &mut [u8]) 
     requires { ((p : Pattern) × (read_tree tree.now ≡ reads p)) × ((xs : List BindingSet) × (read_sets sets.now ≡ reads xs)) × Worded words.now }
     ensures { Answered (bindings_as_is tree.now sets.now) out.old out.new result }
 {
-    let Outermost::At(line, inner) = outermost_projection(tree, 0) else {
+    let Some(outermost) = outermost_projection(tree, 0) else {
         return copy(tree, out);
     };
+    let inner = outermost.inner;
     let mut columns = [[0u16; 2]; COLUMNS];
-    let n = read_columns(tree, line, &mut columns);
+    let n = read_columns(tree, outermost.line, &mut columns);
     let judged = judge(sets, n);
     if !judged.inside {
-        return Answer::Outside;
+        return Err(Refusal::Outside);
     }
     if !judged.usable {
-        return Answer::NotUsable;
+        return Err(Refusal::NotUsable);
     }
     let end = inner_end(tree, words, inner);
     if !has_room(tree, inner, end, &columns, n, sets, judged.sets, out.len()) {
-        return Answer::TooShort;
+        return Err(Refusal::TooShort);
     }
     let put = put_bindings(tree, inner, end, &columns, n, sets, judged.sets, out);
-    Answer::Written(put)
+    Ok(put)
 }
 
 // For a tree that was checked; its table of names is cleared and used again.
@@ -112,11 +113,8 @@ fn bindings_by(
     ensures { Answered (bindings_as_is tree.now sets.now) out.old out.new result }
 {
     clear(table);
-    match check_sets(sets, words, table, hints) {
-        Check::Good(_) => bindings_of(tree, sets, words, out),
-        Check::Malformed => Answer::Malformed,
-        Check::OverBound => Answer::OverBound,
-    }
+    check_sets(sets, words, table, hints)?;
+    bindings_of(tree, sets, words, out)
 }
 
 // The same for any tree's text as it stands.
@@ -126,11 +124,8 @@ fn bindings_text(tree: &[u8], sets: &[u8], out: &mut [u8]) -> Answer
     let words = all_words();
     let mut table = [[0u16; 2]; 1024];
     let mut hints = [0u16; 2048];
-    match check_tree(tree, &words, &mut table, &mut hints) {
-        Check::Good(_) => bindings_by(tree, sets, &words, &mut table, &mut hints, out),
-        Check::Malformed => Answer::Malformed,
-        Check::OverBound => Answer::OverBound,
-    }
+    check_tree(tree, &words, &mut table, &mut hints)?;
+    bindings_by(tree, sets, &words, &mut table, &mut hints, out)
 }
 
 // bindings: tree and binding sets to tree; an empty file is read as its two lines.

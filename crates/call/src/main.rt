@@ -3,6 +3,7 @@
 
 use algebra::ENTRIES;
 use answering::{answer, call_number, write_answer, write_left};
+use answers::{answer_of, many_of};
 use filling::read_full;
 use std::env::Env;
 use std::io;
@@ -15,8 +16,8 @@ fn main(rt: HostRuntime) -> io::Result<()> {
     let mut out = [0u8; 65536];
     let mut list = [0u16; ENTRIES];
     let listed = answer(call_number(&name[..size]), &input[..n], &mut out, &mut list);
-    let many = listed.many;
-    write_answer(&rt, listed.answer, &mut out)?;
+    let many = many_of(listed);
+    write_answer(&rt, answer_of(listed), &mut out)?;
     // a list that can't be told takes nothing from the answer
     write_left(&rt.stderr(), &list, many, &mut out).unwrap_or(());
     Ok(())

@@ -5,3 +5,4 @@ pub mod WalksLaw
 pub mod GroupsLaw
 pub mod OneLaw
 pub mod ReadLaw
+pub mod Counts

@@ -15,35 +15,29 @@ use Rattle.text.specs.Text.{Bytes, Line, split, part, First, lines_from}
 use Rattle.text.proofs.Places.{lines_end, lines_next}
 use Rattle.cursor.specs.declared.Cursor.{Cursor}
 use Rattle.cursor.specs.bridge.Cursor.{line_at, line_done}
-use Rattle.algebra.specs.declared.Answer.{Answer}
-use Rattle.algebra.specs.declared.Answer.TheVariants as A
 use Rattle.algebra.specs.bridge.Table.{patterns, heads, Below, opens}
 use Rattle.algebra.specs.bridge.Machine.{Check}
 use Rattle.scoping.specs.bridge.Places.{Mark, visible, covered, silent, under}
 use Rattle.scoping.specs.bridge.Walk.{State, state, times as many, child, beneath, whole, tree}
 use Rattle.scoping.specs.bridge.Spots.{Node, node, groups_below, noted, Trace, trace, spot_line}
-use Rattle.words.specs.declared.Found.TheVariants.{Is, None}
 use Rattle.words.specs.bridge.Code.{sort_at, groups_in, row_of, found}
 use Rattle.words.specs.bridge.Words.{code_at}
-use Rattle.names.specs.bridge.Names.{listing, Holds}
+use Rattle.names.specs.bridge.Names.{Holds}
 use Rattle.checking.specs.declared.place.Place.{Place}
 use Rattle.checking.specs.declared.place.Taken.{Taken}
-use Rattle.checking.specs.declared.check.Noting.{Noting}
-use Rattle.checking.specs.declared.check.Noting.TheVariants as N
+use Rattle.checking.specs.bridge.Walks.{counts, Noting, Marks, walk_at, Book, book_at, Full, NodePut, Walks, LineWalks, HeadWalks, entry_of, mark_alone, answer_of, Charts}
 use Rattle.lines.specs.declared.line.Asked.{Asked}
-use Rattle.lines.specs.declared.line.Line.{Line as Read}
-use Rattle.lines.specs.declared.line.Line.TheVariants.{Asks}
-use Rattle.lines.specs.bridge.Below.{amount_in}
-use Rattle.lines.specs.bridge.Says.{below, Heads, Sure}
-use Rattle.checking.specs.bridge.Run.{Started, Told, Tells}
+use Rattle.lines.specs.bridge.Says.{Line as Read, below, Heads, Sure}
+use Rattle.lines.specs.bridge.Below.{amount_in, mark_under}
+use Rattle.checking.specs.bridge.Run.{Started, Tells}
 use Rattle.lines.specs.bridge.Noded.{node_at, nodes_of, Noded, Roomy}
-use Rattle.lines.specs.bridge.Spotted.{mark_at, spots_of, Spotted}
+use Rattle.lines.specs.bridge.Spotted.{mark_at, spots_of}
 use Rattle.lines.specs.bridge.Stored.{store, Keeps, line_node, LineNotes}
-use Rattle.checking.specs.bridge.Walks.{Marks, walk_at, Book, book_at, Full, NodePut, Walks, LineWalks, HeadWalks, entry_of, mark_alone, answer_of, Charts}
-use Rattle.lines.specs.bridge.Below.{mark_under}
 use Rattle.lines.proofs.SlotLaw.{le-or-lt}
 use Rattle.lines.proofs.StoreLaw.{spots-long}
 use Rattle.lines.proofs.WalkLaw.{group-next, group-none, child-is, times-next, times-done}
+use Rattle.std.specs.Prelude.{Some, None, Ok, Err}
+use Rattle.algebra.specs.declared.Fault.{Fault}
 
 -- ---- marks
 
@@ -95,7 +89,7 @@ module _ (s : Bytes) where
   -- ---- a line
 
   -- the code keeps the line that it noted as the walk notes it
-  module _ (words b : List (List ℕ)) (m k : ℕ) (x : Asked) (low : k < 65536) (row : found (code_at words x.number) ≡ Is x.row) where
+  module _ (words b : List (List ℕ)) (m k : ℕ) (x : Asked) (low : k < 65536) (row : found (code_at words x.number) ≡ Some x.row) where
     abbrev raw : List ℕ
     raw = (x.number * 65536 + k % 65536) ∷ x.first ∷ x.second ∷ []
 
@@ -109,8 +103,8 @@ module _ (s : Bytes) where
     row_below = go (eqb (code_at words x.number) 0) refl
       where
         go : (t : Bool) → eqb (code_at words x.number) 0 ≡ t → code_at words x.number / 4294967296 ≡ x.row.below
-        go true e = let z : None ≡ Is x.row = sym (rw e refl) ∙ row in let y : ◌≡◌ {A = ℕ} 0 1 = cc in absurd (omega arith)
-        go false e = let z : Is (record { fields = code_at words x.number % 16777216; behind = code_at words x.number / 16777216 % 16; flag = code_at words x.number / 268435456 % 16; below = code_at words x.number / 4294967296 }) ≡ Is x.row = sym (rw e refl) ∙ row in cc
+        go true e = let z : None ≡ Some x.row = sym (rw e refl) ∙ row in let y : ◌≡◌ {A = ℕ} 0 1 = cc in absurd (omega arith)
+        go false e = let z : Some (record { fields = code_at words x.number % 16777216; behind = code_at words x.number / 16777216 % 16; flag = code_at words x.number / 268435456 % 16; below = code_at words x.number / 4294967296 }) ≡ Some x.row = sym (rw e refl) ∙ row in cc
 
     raw-node : node_at words raw ≡ node k (groups_below (row_of x.row).below (x.first ∷ x.second ∷ []))
     unfolding node_at
@@ -131,7 +125,7 @@ module _ (s : Bytes) where
   module _ (short : length s ≤ 16384) (a l : List ℕ) (w words b : List (List ℕ)) (a' l' : List ℕ) (w' b' : List (List ℕ)) (p : Place) (sort mark level : ℕ) (c : Cursor) (at : c ≡ line_at p.cursor c.end) (first : First 10 s p.cursor.at (length s) c.end) (ended : c.end < length s)
       (x : Asked) (sure : Sure words c sort level p.lines x) (m : ℕ) (put : NodePut b p.nodes sort p.spots x b' m) (d : Cursor) (done : d ≡ line_done c) where
     abbrev place : Place
-    place = record { cursor = d; lines = p.lines + 1; n = x.names; spots = x.spots; nodes = m; fault = 0 }
+    place = record { cursor = d; lines = p.lines + 1; n = x.names; spots = x.spots; nodes = m }
 
     at-is : c.at ≡ p.cursor.at
     at-is = ap (λ (k : Cursor). k.at) at
@@ -185,11 +179,11 @@ module _ (s : Bytes) where
             (λ (h : p.nodes < length b). here e h)
             (le-or-lt (length b) p.nodes)
 
-    pub line-walked : (line : Read) → line ≡ Asks x → LineNotes s a l p.n w p.spots a' l' w' c sort mark line
+    pub line-walked : (line : Read) → line ≡ Ok x → LineNotes s a l p.n w p.spots a' l' w' c sort mark line
         → LineWalks s (book_at a l w words b p) p (book_at a' l' w' words b' place) sort mark (record { row = x.row; first = x.first; second = x.second; place = place })
     unfolding LineWalks LineNotes
     line-walked line e notes y f =
-        let q : LineNotes s a l p.n w p.spots a' l' w' c sort mark (Asks x) = subst (LineNotes s a l p.n w p.spots a' l' w' c sort mark) e notes in
+        let q : LineNotes s a l p.n w p.spots a' l' w' c sort mark (Ok x) = subst (LineNotes s a l p.n w p.spots a' l' w' c sort mark) e notes in
         let u = q y.spots (subst (λ (i : ℕ). Keeps s (store a l p.n w p.spots) i y.spots) (sym at-is) f.keeps) in
         let v = noded y f in (
           record { spots = u.0; nodes = y.nodes ++ line_node sort (length y.spots) x },
@@ -344,9 +338,9 @@ module _ (s : Bytes) where
 
 -- ---- the whole text
 
-pub charts-none : (s : Bytes) (words : List (List ℕ)) (a l : List ℕ) (w w' b : List (List ℕ)) (sort level : ℕ) → Charts s words a l w w' b sort level N.OverBound
+pub charts-none : (s : Bytes) (words : List (List ℕ)) (a l : List ℕ) (w w' b : List (List ℕ)) (sort level : ℕ) (f : Fault) → Charts s words a l w w' b sort level (Err f)
 unfolding Charts
-charts-none s words a l w w' b sort level = tt
+charts-none s words a l w w' b sort level f = tt
 
 keeps-start : (s : Bytes) (a l h : List ℕ) (w : List (List ℕ)) → Holds s a l h 0 [] → length s ≤ 3 * length w → Keeps s (store a l 0 w 0) 0 []
 unfolding spots_of
@@ -359,24 +353,6 @@ keeps-start s a l h w q room = record {
   spots = record { many = omega arith; are = refl; inside = λ i k. absurd (omega arith) };
 }
 
--- a good answer comes from the end of the text, without a fault
-told-good : (s : Bytes) (p : Place) (t : Answer) (n : ℕ) → Told s p t → t ≡ A.Good n → (p.fault ≡ 0) × (length s ≤ p.cursor.at) × (p.n ≡ n)
-told-good s p t n told e = fault (eqb p.fault 0) refl
-  where
-    place : p.fault ≡ 0 → (p.fault ≡ 0) × (length s ≤ p.cursor.at) × (p.n ≡ n)
-    place z = ⊎_elim
-        (λ (h : length s ≤ p.cursor.at). let q : A.Good p.n ≡ A.Good n = sym (told.whole z h) ∙ e in let i : p.n ≡ n = cc in (z, h, i))
-        (λ (h : p.cursor.at < length s). let q : A.Malformed ≡ A.Good n = sym (told.left z h) ∙ e in let y : ◌≡◌ {A = ℕ} 0 1 = cc in absurd (omega arith))
-        (le-or-lt (length s) p.cursor.at)
-
-    other : (b : Bool) → eqb p.fault 1 ≡ b → (p.fault ≡ 0 → ⊥) → (p.fault ≡ 0) × (length s ≤ p.cursor.at) × (p.n ≡ n)
-    other true f nz = let q : A.Malformed ≡ A.Good n = sym (told.wrong (eqb-true p.fault 1 f)) ∙ e in let y : ◌≡◌ {A = ℕ} 0 1 = cc in absurd (omega arith)
-    other false f nz = let q : A.OverBound ≡ A.Good n = sym (told.over nz (eqb-false p.fault 1 f)) ∙ e in let y : ◌≡◌ {A = ℕ} 0 1 = cc in absurd (omega arith)
-
-    fault : (b : Bool) → eqb p.fault 0 ≡ b → (p.fault ≡ 0) × (length s ≤ p.cursor.at) × (p.n ≡ n)
-    fault true f = place (eqb-true p.fault 0 f)
-    fault false f = other (eqb p.fault 1) refl (eqb-false p.fault 0 f)
-
 full_start : (s : Bytes) (words : List (List ℕ)) (a l h : List ℕ) (w b : List (List ℕ)) (p0 : Place) → Started p0 → Holds s a l h 0 [] → length s ≤ 3 * length w → Full s (book_at a l w words b p0) 0 (record { spots = []; nodes = [] })
 unfolding nodes_of
 full_start s words a l h w b p0 st q room = record {
@@ -386,36 +362,22 @@ full_start s words a l h w b p0 st q room = record {
   noded = λ all. record { many = (let e = st.nodes in omega (arith, e)); are = ap (nodes_of words b) st.nodes };
 }
 
-pub charted : (s : Bytes) (words : List (List ℕ)) (a l h : List ℕ) (w b : List (List ℕ)) (a' l' : List ℕ) (w' b' : List (List ℕ)) (sort level : ℕ) (p0 p : Place) (t : Answer) (r : Noting) → Started p0 → Holds s a l h 0 [] → Told s p t
-    → (answer_of r ≡ t) × ((n k m : ℕ) → r ≡ N.Good n k m → (t ≡ A.Good n) × (k ≡ p.spots) × (m ≡ p.nodes))
-    → (p.fault ≡ 0 → Walks s (book_at a l w words b p0) p0 (book_at a' l' w' words b' p) p (entry_of level sort (mark_alone sort)))
-    → Charts s words a' l' w w' b' sort level r
+pub charted : (s : Bytes) (words : List (List ℕ)) (a l h : List ℕ) (w b : List (List ℕ)) (a' l' : List ℕ) (w' b' : List (List ℕ)) (sort level : ℕ) (p0 p : Place) → Started p0 → Holds s a l h 0 [] → length s ≤ p.cursor.at
+    → Walks s (book_at a l w words b p0) p0 (book_at a' l' w' words b' p) p (entry_of level sort (mark_alone sort))
+    → Charts s words a' l' w w' b' sort level (Ok (counts p.n p.spots p.nodes))
 unfolding Charts Walks
-charted s words a l h w b a' l' w' b' sort level p0 p t (N.Good n k m) st q told is walks = λ room.
-    let g = is.1 n k m refl in
-    let z = told-good s p t n told g.0 in
-    let u = walks z.0 (record { spots = []; nodes = [] }) (subst (λ (i : ℕ). Full s (book_at a l w words b p0) i (record { spots = []; nodes = [] })) (sym st.at) (full_start s words a l h w b p0 st q room)) in
-    let e : p.cursor.at ≡ length s = let i = u.1.keeps.inside in let j = z.1 in omega arith in (
-      (let f = u.1.keeps.few in let m = z.2 in omega arith),
+charted s words a l h w b a' l' w' b' sort level p0 p st q end walks = λ room.
+    let u = walks (record { spots = []; nodes = [] }) (subst (λ (i : ℕ). Full s (book_at a l w words b p0) i (record { spots = []; nodes = [] })) (sym st.at) (full_start s words a l h w b p0 st q room)) in
+    let e : p.cursor.at ≡ length s = let i = u.1.keeps.inside in omega (arith, end, i) in (
+      u.1.keeps.few,
       u.0.spots,
       u.0.nodes,
-      ap (λ (i : ℕ). entry_of level sort (mark_alone sort) (state (lines_from s i) (trace i [] []))) (sym st.at) ∙ sym u.2 ∙ ap₂ (λ (ls : List Line) (i : ℕ). state ls (trace i u.0.spots u.0.nodes)) (lines_end s p.cursor.at z.1) e,
-      subst (λ (i : ℕ). Spotted (listing s a' l' i) w' k u.0.spots) z.2 (subst (λ (j : ℕ). Spotted (listing s a' l' p.n) w' j u.0.spots) (sym g.1) u.1.keeps.spots),
-      λ all. subst (λ (j : ℕ). Noded words b' j u.0.nodes) (sym g.2) (u.1.noded all),
+      ap (λ (i : ℕ). entry_of level sort (mark_alone sort) (state (lines_from s i) (trace i [] []))) (sym st.at) ∙ sym u.2 ∙ ap₂ (λ (ls : List Line) (i : ℕ). state ls (trace i u.0.spots u.0.nodes)) (lines_end s p.cursor.at end) e,
+      u.1.keeps.spots,
+      u.1.noded,
     )
-charted s words a l h w b a' l' w' b' sort level p0 p t N.Malformed st q told is walks = tt
-charted s words a l h w b a' l' w' b' sort level p0 p t N.OverBound st q told is walks = tt
 
 -- ---- the answer with the spots and without
-
-pub noted-good : (p : Place) (t : Answer) (n : ℕ) → t ≡ A.Good n → (answer_of (N.Good n p.spots p.nodes) ≡ t) × ((m k j : ℕ) → N.Good n p.spots p.nodes ≡ N.Good m k j → (t ≡ A.Good m) × (k ≡ p.spots) × (j ≡ p.nodes))
-noted-good p t n e = (sym e, λ m k j q. let i : n ≡ m = cc in let h : k ≡ p.spots = cc in let g : j ≡ p.nodes = cc in (e ∙ ap A.Good i, h, g))
-
-pub noted-wrong : (p : Place) (t : Answer) → t ≡ A.Malformed → (answer_of N.Malformed ≡ t) × ((m k j : ℕ) → N.Malformed ≡ N.Good m k j → (t ≡ A.Good m) × (k ≡ p.spots) × (j ≡ p.nodes))
-noted-wrong p t e = (sym e, λ m k j q. let z : ◌≡◌ {A = ℕ} 0 1 = cc in absurd (omega arith))
-
-pub noted-over : (p : Place) (t : Answer) → t ≡ A.OverBound → (answer_of N.OverBound ≡ t) × ((m k j : ℕ) → N.OverBound ≡ N.Good m k j → (t ≡ A.Good m) × (k ≡ p.spots) × (j ≡ p.nodes))
-noted-over p t e = (sym e, λ m k j q. let z : ◌≡◌ {A = ℕ} 0 1 = cc in absurd (omega arith))
 
 pub tells_as : (s a l h : List ℕ) (x : Check) (r q : Noting) → r ≡ q → Tells s a l h x (answer_of r) → Tells s a l h x (answer_of q)
 tells_as s a l h x r q e t = subst (λ (y : Noting). Tells s a l h x (answer_of y)) e t

@@ -1,39 +1,20 @@
 // Whole texts: one line with all that it asks for, or a list of such; then left-over lines.
-ghost use Rattle.std.specs.Prelude.{◌≡◌, ℕ, ◌≤◌, pred, cond, not, ◌&&◌, ltb, eqb, length, [], ◌∷◌};
-ghost use Rattle.text.specs.Text.{Bytes};
+ghost use Rattle.std.specs.Prelude.{IfOk, IfErr, ◌≡◌, ◌≤◌, pred, cond, not, ◌&&◌, ltb, eqb, length, [], ◌∷◌};
 ghost use Rattle.algebra.specs.Tally.{bounds};
-ghost use Rattle.algebra.specs.bridge.Machine.{want, done, entries, check_text};
+ghost use Rattle.algebra.specs.bridge.Machine.{want, done, bad, entries, check_text};
 ghost use Rattle.names.specs.bridge.Names.{starts_of, sizes_of, HoldsIn};
-ghost use Rattle.algebra.specs.declared.Answer.TheVariants.{Good as GoodOf};
 ghost use Rattle.words.specs.bridge.Code.{sort_at};
 ghost use Rattle.words.specs.bridge.Words.{Worded};
-ghost use Rattle.checking.specs.bridge.Run.{Told, Begins, tree_sort, level_for, Tells};
+ghost use Rattle.checking.specs.bridge.Run.{refusal, Begins, tree_sort, level_for, Tells};
 ghost use Rattle.checking.specs.bridge.Walks.{Reads, ReadTo, answer_of, Charts};
-ghost use Rattle.checking.specs.declared.check.Noting.TheVariants.{Good};
 
 use crate::descent::check_entry;
 use crate::place::{Place, start};
-use algebra::{Answer, ENTRIES};
+use algebra::{ENTRIES, Fault};
 use lines::fields::{Node, Spot};
 use names::Entry;
 use reader::LineReader;
 use words::table::WordRow;
-
-// What a check that ended here says: a fault, lines that are left over, or the number of names.
-fn told(p: Place, left: bool) -> Answer
-    ensures { (s : Bytes) → left ≡ ltb p.cursor.at (length s) → Told s p result }
-{
-    if p.fault == 0 {
-        if left {
-            return Answer::Malformed;
-        }
-        return Answer::Good(p.n);
-    }
-    if p.fault == 1 {
-        return Answer::Malformed;
-    }
-    Answer::OverBound
-}
 
 // Only a query has a head line.
 fn lacks_head(head: bool, sort: u8) -> bool
@@ -59,7 +40,6 @@ fn part_sort(head: bool, sort: u8) -> u8
 }
 
 // A part of a text of a sort, from a place on: its head line, which only a query has, or its tree with all that it asks for.
-// Nothing where a fault was met before.
 fn check_from(
     text: &[u8],
     next: usize,
@@ -72,15 +52,12 @@ fn check_from(
     hints: &mut [u16; 2048],
     spots: &mut [Spot],
     nodes: &mut [Node],
-) -> Place
+) -> Result<Place, Fault>
     requires { Begins text.now next p sort words.now }
     ensures { Reads head text.now words.now table.old hints.old spots.old nodes.old p sort level table.new hints.new spots.new nodes.new result }
 {
-    if p.fault != 0 {
-        return p;
-    }
     if lacks_head(head, sort) {
-        return p;
+        return Ok(p);
     }
     let mut q = p;
     let cursor = q.cursor.moved_to(next);
@@ -111,7 +88,7 @@ fn check_lent<'a>(
     hints: &mut [u16; 2048],
     spots: &mut [Spot],
     nodes: &mut [Node],
-) -> Place
+) -> Result<Place, Fault>
     requires { Begins reader.text.now reader.next p sort words.now }
     ensures { Reads head reader.entry.text.now words.now table.old hints.old spots.old nodes.old p sort level table.new hints.new spots.new nodes.new result }
 {
@@ -162,9 +139,10 @@ fn read_one(
     hints: &mut [u16; 2048],
     spots: &mut [Spot],
     nodes: &mut [Node],
-) -> Ended
+) -> Result<Ended, Fault>
     requires { (sort ≤ 11) × (length s.now ≤ 16384) × HoldsIn s.now table.old hints.old 0 [] × Worded words.now }
-    ensures { ReadTo s.now words.now table.old spots.old nodes.old table.new hints.new spots.new nodes.new sort level result.place result.left }
+    ensures read { IfOk result (λ e. ReadTo s.now words.now table.old spots.old nodes.old table.new hints.new spots.new nodes.new sort level e.place e.left) }
+    ensures refused { IfErr result (λ f. check_text bounds done (want (sort_at sort) level 0 ∷ []) s.now ≡ bad (refusal f)) }
 {
     let reader = LineReader { text: s, next: 0 };
     let p = check_lent(
@@ -178,19 +156,19 @@ fn read_one(
         hints,
         spots,
         nodes,
-    );
+    )?;
     let behind = LineReader {
         text: reader.text,
         next: p.cursor.at,
     };
     let q = check_lent(
         behind, p, sort, level, false, words, table, hints, spots, nodes,
-    );
+    )?;
     let left = left_over(LineReader {
         text: reader.text,
         next: q.cursor.at,
     });
-    Ended { place: q, left }
+    Ok(Ended { place: q, left })
 }
 
 // A text that is one line of a sort with all that it asks for.
@@ -201,13 +179,13 @@ pub fn check_one(
     words: &[WordRow; 56],
     table: &mut [Entry; 1024],
     hints: &mut [u16; 2048],
-) -> Answer
+) -> Result<usize, Fault>
     requires { (sort ≤ 11) × HoldsIn s.now table.old hints.old 0 [] × Worded words.now }
     ensures { Tells s.now (starts_of table.new) (sizes_of table.new) hints.new (check_text bounds done (want (sort_at sort) level 0 ∷ []) s.now) result }
 {
     let mut no_spots: [Spot; 1] = [[0, 0, 0]];
     let mut no_nodes: [Node; 1] = [[0, 0, 0]];
-    let r = note_one(
+    let noted = note_one(
         s,
         sort,
         level,
@@ -216,31 +194,16 @@ pub fn check_one(
         hints,
         &mut no_spots,
         &mut no_nodes,
-    );
-    match r {
-        Noting::Good(n, _, _) => Answer::Good(n),
-        Noting::Malformed => Answer::Malformed,
-        Noting::OverBound => Answer::OverBound,
-    }
+    )?;
+    Ok(noted.names)
 }
 
-// The answer of a check that notes spots and lines: how many names, spots and nodes there are.
+// How many names, spots and nodes a check noted.
 #[derive(Clone, Copy)]
-pub enum Noting {
-    Good(usize, usize, usize),
-    Malformed,
-    OverBound,
-}
-
-// The same with all its spots and nodes.
-fn noted(p: Place, r: Answer) -> Noting
-    ensures { (answer_of result ≡ r) × ((n k m : ℕ) → result ≡ Good n k m → (r ≡ GoodOf n) × (k ≡ p.spots) × (m ≡ p.nodes)) }
-{
-    match r {
-        Answer::Good(n) => Noting::Good(n, p.spots, p.nodes),
-        Answer::Malformed => Noting::Malformed,
-        Answer::OverBound => Noting::OverBound,
-    }
+pub struct Counted {
+    pub names: usize,
+    pub spots: usize,
+    pub nodes: usize,
 }
 
 // A text that is one line of a sort with all that it asks for, its spots and its nodes.
@@ -253,16 +216,23 @@ pub fn note_one(
     hints: &mut [u16; 2048],
     spots: &mut [Spot],
     nodes: &mut [Node],
-) -> Noting
+) -> Result<Counted, Fault>
     requires { (sort ≤ 11) × HoldsIn s.now table.old hints.old 0 [] × Worded words.now }
     ensures tells { Tells s.now (starts_of table.new) (sizes_of table.new) hints.new (check_text bounds done (want (sort_at sort) level 0 ∷ []) s.now) (answer_of result) }
     ensures charts { sort ≤ 7 → Charts s.now words.now (starts_of table.new) (sizes_of table.new) spots.old spots.new nodes.new sort level result }
 {
     if 16384 < s.len() {
-        return Noting::OverBound;
+        return Err(Fault::OverBound);
     }
-    let e = read_one(s, sort, level, words, table, hints, spots, nodes);
-    noted(e.place, told(e.place, e.left))
+    let e = read_one(s, sort, level, words, table, hints, spots, nodes)?;
+    if e.left {
+        return Err(Fault::Malformed);
+    }
+    Ok(Counted {
+        names: e.place.n,
+        spots: e.place.spots,
+        nodes: e.place.nodes,
+    })
 }
 
 // An entry too many has no level.
@@ -292,12 +262,12 @@ pub fn check_list(
     words: &[WordRow; 56],
     table: &mut [Entry; 1024],
     hints: &mut [u16; 2048],
-) -> Answer
+) -> Result<usize, Fault>
     requires { (sort ≤ 11) × HoldsIn s.now table.old hints.old 0 [] × Worded words.now }
     ensures { Tells s.now (starts_of table.new) (sizes_of table.new) hints.new (check_text bounds (entries bounds.entries (sort_at sort) level) [] s.now) result }
 {
     if 16384 < s.len() {
-        return Answer::OverBound;
+        return Err(Fault::OverBound);
     }
     let mut p = start();
     let mut left = ENTRIES;
@@ -317,10 +287,7 @@ pub fn check_list(
             &mut no_spots,
             &mut no_nodes,
             true,
-        );
-        if p.fault != 0 {
-            return told(p, is_left(s, p.cursor.at));
-        }
+        )?;
     }
-    told(p, is_left(s, p.cursor.at))
+    Ok(p.n)
 }

@@ -1,5 +1,5 @@
 // Where a check stands in a text, and the line that it takes from there.
-ghost use Rattle.std.specs.Prelude.{◌≡◌, ◌≤◌, ◌<◌, [], ◌∷◌, eqb};
+ghost use Rattle.std.specs.Prelude.{Ok, Err, IfOk, IfErr, ◌≡◌, ◌≤◌, ◌<◌, [], ◌∷◌, eqb};
 ghost use Rattle.algebra.specs.bridge.Machine.{want};
 ghost use Rattle.words.specs.bridge.Code.{sort_at};
 ghost use Rattle.words.specs.bridge.Words.{Worded};
@@ -10,16 +10,17 @@ ghost use Rattle.lines.specs.bridge.Spotted.{mark_at};
 ghost use Rattle.checking.specs.bridge.Walks.{LineWalks, NodePut, book_in};
 ghost use Rattle.lines.specs.bridge.Below.{mark_under};
 
+use algebra::Fault;
 use cursor::Cursor;
 use lines::fields::{Node, Spot};
-use lines::line::{Asked, Line, read_line};
+use lines::line::{Asked, read_line};
 use lines::sorts::is_noted;
 use lines::wanted::Wanted;
 use names::Entry;
 use words::Row;
 use words::table::WordRow;
 
-// Where the text goes on, how many lines, names, spots and nodes there were; and the fault that ended the check: 0 for none, 1 for malformed, else over a bound.
+// Where the text goes on, and how many lines, names, spots and nodes there were.
 #[derive(Clone, Copy)]
 pub struct Place {
     pub cursor: Cursor,
@@ -27,7 +28,6 @@ pub struct Place {
     pub n: usize,
     pub spots: usize,
     pub nodes: usize,
-    pub fault: usize,
 }
 
 // Before the first line.
@@ -41,21 +41,6 @@ pub fn start() -> Place
         n: 0,
         spots: 0,
         nodes: 0,
-        fault: 0,
-    }
-}
-
-fn stopped(fault: usize) -> Place
-    ensures { result.fault ≡ fault }
-{
-    let cursor = Cursor::new(0);
-    Place {
-        cursor,
-        lines: 0,
-        n: 0,
-        spots: 0,
-        nodes: 0,
-        fault,
     }
 }
 
@@ -90,22 +75,6 @@ pub struct Taken {
     pub place: Place,
 }
 
-fn lost(fault: usize) -> Taken
-    ensures { result.place.fault ≡ fault }
-{
-    Taken {
-        row: Row {
-            fields: 0,
-            behind: 0,
-            flag: 0,
-            below: 0,
-        },
-        first: 0,
-        second: 0,
-        place: stopped(fault),
-    }
-}
-
 // Notes a line of a sort that is noted, where there is room, behind so many spots.
 fn put_node(nodes: &mut [Node], m: usize, sort: u8, before: usize, a: Asked) -> usize
     requires { (sort ≤ 11) × (a.number ≤ 56) × (a.first < 4294967296) × (a.second < 4294967296) }
@@ -135,45 +104,35 @@ pub fn take_line(
     hints: &mut [u16; 2048],
     spots: &mut [Spot],
     nodes: &mut [Node],
-) -> Taken
+) -> Result<Taken, Fault>
     requires { (w.sort ≤ 11) × Ready s.now p × Worded words.now }
-    ensures runs { Runs s.now table.old hints.old p (want (sort_at w.sort) w.level w.width ∷ []) (groups 3 result.row.below (below w.sort w.level) result.first result.second) table.new hints.new result.place }
-    ensures sound { result.place.fault ≡ 0 → Sound s.now p w.sort w.level result }
-    ensures walks { result.place.fault ≡ 0 → w.sort ≤ 7 → LineWalks s.now (book_in table.old spots.old words.now nodes.old p) p (book_in table.new spots.new words.now nodes.new result.place) w.sort w.mark result }
+    ensures runs { IfOk result (λ t. Runs s.now table.old hints.old p (want (sort_at w.sort) w.level w.width ∷ []) (groups 3 t.row.below (below w.sort w.level) t.first t.second) table.new hints.new (Ok t.place)) }
+    ensures refused { IfErr result (λ f. Runs s.now table.old hints.old p (want (sort_at w.sort) w.level w.width ∷ []) [] table.new hints.new (Err f)) }
+    ensures sound { IfOk result (λ t. Sound s.now p w.sort w.level t) }
+    ensures walks { w.sort ≤ 7 → IfOk result (λ t. LineWalks s.now (book_in table.old spots.old words.now nodes.old p) p (book_in table.new spots.new words.now nodes.new t.place) w.sort w.mark t) }
 {
     let at = p.cursor.at;
     if s.len() <= at {
-        return lost(1);
+        return Err(Fault::Malformed);
     }
     let c = p.cursor.next_line(s);
     if c.end == s.len() {
-        return lost(1);
+        return Err(Fault::Malformed);
     }
-    let l = read_line(s, c, w, p.lines, words, table, hints, p.n, spots, p.spots);
-    match l {
-        Line::Asks(a) => {
-            let m = put_node(nodes, p.nodes, w.sort, p.spots, a);
-            let row = a.row;
-            let cursor = c.line_done();
-            return Taken {
-                row,
-                first: a.first,
-                second: a.second,
-                place: Place {
-                    cursor,
-                    lines: p.lines + 1,
-                    n: a.names,
-                    spots: a.spots,
-                    nodes: m,
-                    fault: 0,
-                },
-            };
-        }
-        Line::Malformed => {
-            return lost(1);
-        }
-        Line::OverBound => {
-            return lost(2);
-        }
-    }
+    let a = read_line(s, c, w, p.lines, words, table, hints, p.n, spots, p.spots)?;
+    let m = put_node(nodes, p.nodes, w.sort, p.spots, a);
+    let row = a.row;
+    let cursor = c.line_done();
+    Ok(Taken {
+        row,
+        first: a.first,
+        second: a.second,
+        place: Place {
+            cursor,
+            lines: p.lines + 1,
+            n: a.names,
+            spots: a.spots,
+            nodes: m,
+        },
+    })
 }

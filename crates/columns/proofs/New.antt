@@ -9,7 +9,8 @@ use lib.ListN.{length, get_or, take, drop, length-take, drop_of_length-le}
 use lib.Seq.{drop-cons, get_or-take}
 use borrow.Author.Tests.{eq-eqb, ne_eqb}
 use Rattle.text.specs.Text.{Bytes, piece}
-use Rattle.emit.specs.bridge.Emit.{em, puts}
+use Rattle.emit.specs.bridge.Emit.{Em, em, puts}
+use Rattle.emit.proofs.Laws.{puts-at}
 use Rattle.answers.proofs.Answers.{spared}
 use Rattle.names.specs.bridge.Names.{starts_of, sizes_of}
 use Rattle.names.proofs.Columns.{column-at}
@@ -33,11 +34,12 @@ module _ (s : Bytes) (table news : List (List ℕ)) (k : ℕ) where
       ∙ ap₂ named (column-at 0 news k) (column-at 1 news k)
 
 -- twelve bytes have room for a generated name
-pub room-is : (n b : ℕ) (room room' : Bytes) (size : ℕ) → length room ≡ 12 → size ≤ 0 + 12 → em size room' ≡ puts (named n b) (em 0 room) → piece 0 size room' ≡ named n b
-room-is n b room room' size long few put = spared (named n b) room room' size put (omega arith) (omega arith)
+module _ (n b : ℕ) (room room' : Bytes) (size : ℕ) (long : length room ≡ 12) (few : length (named n b) ≤ 12) (put : em size room' ≡ puts (named n b) (em 0 room)) where
+  pub room-fits : size ≤ 12
+  room-fits = let m = ap (λ (x : Em). x.at) put ∙ puts-at (named n b) (em 0 room) (omega arith) in omega arith
 
-pub room-long : (room' : Bytes) (size k : ℕ) → length room' ≡ k → k ≡ 12 → size ≤ 0 + 12 → size ≡ length (take size room')
-room-long room' size k long is few = simp length-take (omega arith)
+  pub room-is : piece 0 size room' ≡ named n b
+  room-is = let f = room-fits in spared (named n b) room room' size put (omega arith) (omega arith)
 
 -- ---- along the columns
 

@@ -1,7 +1,7 @@
 -- Columns picked by a mask, one after the other. Assumes nothing.
 use Prim.Native.Nat.{ℕ, ◌+◌, ◌-◌, ◌/◌, ◌%◌, ◌^◌, ◌≤◌, ◌<◌}
 use mathlib.Core.Path.{◌≡◌, refl, sym, ap, ◌∙◌}
-use mathlib.Core.List.{List, [], ◌∷◌, append-nil}
+use mathlib.Core.List.{List, [], ◌∷◌, ◌++◌}
 use mathlib.Core.Bool.{Bool, true, false, cond, not, ◌||◌, false≢true}
 use native.Mathlib.Decide.{dec_le}
 use native.Mathlib.Omega.{arith}
@@ -10,30 +10,22 @@ use lib.Dec.{eqb}
 use lib.Pow.{shr-shr}
 use borrow.Author.Tests.{not-true, not-false}
 use Rattle.text.specs.Text.{Bytes, same}
-use Rattle.emit.specs.bridge.Emit.{Em, puts}
-use Rattle.emit.proofs.Laws.{puts-append}
+use Rattle.emit.specs.declared.Writer.{Writer}
+use Rattle.emit.specs.bridge.Writer.{Wrote}
+use Rattle.emit.proofs.Writing.{wrote-none}
+use Rattle.walking.proofs.Tabbed.{tabbed-append, put-tabbed}
 use Rattle.walking.specs.bridge.Walk.{tabbed}
 use Rattle.algebra.specs.Valid.{mem}
 use Rattle.columns.specs.bridge.Columns.{picked}
 
 -- ---- what is written of a column
 
-pub column-none : (f : Bytes) (b : Bool) (e : Em) → not b ≡ true → e ≡ puts (tabbed (cond b (f ∷ []) [])) e
-unfolding tabbed puts
-column-none f b e h = rw (not-true b h)
+pub column-none : {u : Writer} (f : Bytes) (b : Bool) → not b ≡ true → Wrote u u (tabbed (cond b (f ∷ []) []))
+unfolding tabbed
+column-none f b h = rw (not-true b h) wrote-none
 
-pub column-put : (f : Bytes) (b : Bool) (e e' e'' : Em) → not b ≡ false → e' ≡ puts (9 ∷ []) e → e'' ≡ puts f e' → e'' ≡ puts (tabbed (cond b (f ∷ []) [])) e
-unfolding tabbed puts
-column-put f b e e' e'' h p q = rw (not-false b h) (q ∙ ap (puts f) p ∙ ap (λ (l : Bytes). puts l (puts (9 ∷ []) e)) (sym (append-nil f)))
-
--- fields written before others
-pub tabbed-cons : (f : Bytes) (fs : List Bytes) (e : Em) → puts (tabbed fs) (puts (tabbed (f ∷ [])) e) ≡ puts (tabbed (f ∷ fs)) e
-unfolding tabbed puts
-tabbed-cons f fs e = ap (λ (l : Bytes). puts (tabbed fs) (puts l (puts (9 ∷ []) e))) (append-nil f) ∙ sym (puts-append f (tabbed fs) (puts (9 ∷ []) e))
-
-pub tabbed-nil : (fs : List Bytes) (e : Em) → puts (tabbed fs) (puts (tabbed []) e) ≡ puts (tabbed fs) e
-unfolding tabbed puts
-tabbed-nil fs e = refl
+pub column-put : {u v w : Writer} (f : Bytes) (b : Bool) → not b ≡ false → Wrote u v (9 ∷ []) → Wrote v w f → Wrote u w (tabbed (cond b (f ∷ []) []))
+column-put f b h p q = rw (not-false b h) (put-tabbed p q)
 
 -- ---- one after the other, by the bits of a mask from number i on
 
@@ -44,8 +36,8 @@ from_all v = let z : v / 1 ≡ v = omega arith in z
 pub all-counted : (bit v n : ℕ) (gs : List Bytes) → n ≡ length (picked bit v gs) → n ≡ length (picked bit (v / 2 ^ 0) gs)
 all-counted bit v n gs e = e ∙ ap (λ (m : ℕ). length (picked bit m gs)) (sym (from_all v))
 
-pub all-put : (bit v : ℕ) (gs : List Bytes) (x : Em) → puts (tabbed (picked bit (v / 2 ^ 0) gs)) x ≡ puts (tabbed (picked bit v gs)) x
-all-put bit v gs x = ap (λ (m : ℕ). puts (tabbed (picked bit m gs)) x) (from_all v)
+pub all-put : (bit v : ℕ) (gs : List Bytes) → tabbed (picked bit v gs) ≡ tabbed (picked bit (v / 2 ^ 0) gs)
+all-put bit v gs = ap (λ (m : ℕ). tabbed (picked bit m gs)) (sym (from_all v))
 
 pub all_named : (v : ℕ) (gs : List Bytes) (f : Bytes) → mem f (picked 1 (v / 2 ^ 0) gs) ≡ mem f (picked 1 v gs)
 all_named v gs f = ap (λ (m : ℕ). mem f (picked 1 m gs)) (from_all v)
@@ -61,14 +53,14 @@ module _ (bit v i : ℕ) (f : Bytes) (fs gs : List Bytes) (are : gs ≡ f ∷ fs
   unfolding picked
   picked_next = ap (picked bit (v / 2 ^ i)) are ∙ ap (λ (n : ℕ). cond (eqb (v / 2 ^ i % 2) bit) (f ∷ picked bit n fs) (picked bit n fs)) (half v i)
 
-  -- a turn: what is left does what was left before it
-  pub columns-next : (r : ℕ) (b : Bool) (x x' : Em) → r ≡ v / 2 ^ i % 2 → b ≡ eqb r bit → x' ≡ puts (tabbed (cond b (f ∷ []) [])) x
-      → puts (tabbed (picked bit (v / 2 ^ (i + 1)) fs)) x' ≡ puts (tabbed (picked bit (v / 2 ^ i) gs)) x
-  columns-next r b x x' is p q = ap (puts (tabbed rest)) q ∙ go b ∙ ap (λ (t : Bool). puts (tabbed (cond t (f ∷ rest) rest)) x) (p ∙ ap (λ (n : ℕ). eqb n bit) is) ∙ ap (λ (l : List Bytes). puts (tabbed l) x) (sym picked_next)
+  -- what is left before a turn and after it
+  pub columns-next : (r : ℕ) (b : Bool) → r ≡ v / 2 ^ i % 2 → b ≡ eqb r bit → tabbed (picked bit (v / 2 ^ i) gs) ≡ tabbed (cond b (f ∷ []) []) ++ tabbed (picked bit (v / 2 ^ (i + 1)) fs)
+  unfolding tabbed
+  columns-next r b is p = ap tabbed picked_next ∙ ap (λ (t : Bool). tabbed (cond t (f ∷ rest) rest)) (sym (p ∙ ap (λ (n : ℕ). eqb n bit) is)) ∙ go b
     where
-      go : (t : Bool) → puts (tabbed rest) (puts (tabbed (cond t (f ∷ []) [])) x) ≡ puts (tabbed (cond t (f ∷ rest) rest)) x
-      go true = tabbed-cons f rest x
-      go false = tabbed-nil rest x
+      go : (t : Bool) → tabbed (cond t (f ∷ rest) rest) ≡ tabbed (cond t (f ∷ []) []) ++ tabbed rest
+      go true = tabbed-append (f ∷ []) rest
+      go false = refl
 
   -- one less is left to be written
   pub columns-less : (r : ℕ) (b : Bool) (n m : ℕ) → r ≡ v / 2 ^ i % 2 → b ≡ eqb r bit → n ≡ length (picked bit (v / 2 ^ i) gs) → m ≡ cond b (n - 1) n → m ≡ length (picked bit (v / 2 ^ (i + 1)) fs)
@@ -114,10 +106,10 @@ columns-more bit bits n gs i c over e h = go (dec_le c i)
     go (yes l) = absurd (let z = ap length (picked_none bit bits gs (over l)) in omega arith)
     go (no l) = omega arith
 
-pub nothing_left : (fs : List Bytes) (n : ℕ) (x y : Em) → n ≡ length fs → n ≤ 0 → puts (tabbed fs) x ≡ y → x ≡ y
-unfolding tabbed puts
-nothing_left [] n x y p q e = e
-nothing_left (f ∷ fs) n x y p q e = absurd (omega arith)
+pub nothing_left : (fs : List Bytes) (n : ℕ) → n ≡ length fs → n ≤ 0 → tabbed fs ≡ []
+unfolding tabbed
+nothing_left [] n p q = refl
+nothing_left (f ∷ fs) n p q = absurd (omega arith)
 
 -- ---- one column
 

@@ -18,7 +18,9 @@ use Rattle.text.proofs.Places.{lines_start, lines_end, lines-open, lines_next}
 use Rattle.text.proofs.Texts.{glue, glue-split}
 use Rattle.cursor.specs.bridge.Cursor.{left}
 use Rattle.cursor.proofs.Laws.{left-none, left-next, left-all}
-use Rattle.emit.specs.bridge.Emit.{Em, puts}
+use Rattle.emit.specs.declared.Writer.{Writer}
+use Rattle.emit.specs.bridge.Writer.{Wrote}
+use Rattle.emit.proofs.Writing.{wrote-as, wrote-none}
 use Rattle.algebra.specs.Query.{Pair}
 use Rattle.algebra.specs.Layout.{put_pairs}
 use Rattle.algebra.specs.Tally.{bounds}
@@ -28,10 +30,9 @@ use Rattle.merging.specs.Names.{place_in}
 use Rattle.scoping.specs.bridge.Walk.{number_in}
 use Rattle.walking.specs.bridge.Walk.{tabbed}
 use Rattle.reader.specs.bridge.Lines.{LineEnd}
-use Rattle.columns.specs.declared.list.Positions.{Positions}
-use Rattle.columns.specs.declared.list.Positions.TheVariants.{Outside, Are}
-use Rattle.columns.specs.bridge.Listed.{Listed, positions_in, Kept, Found, Ordered, second_of, terms_from}
-use Rattle.columns.proofs.Picked.{column-put, tabbed-cons, tabbed-nil}
+use Rattle.columns.specs.bridge.Listed.{Positions, Listed, positions_in, Kept, Found, Ordered, second_of, terms_from}
+use Rattle.walking.proofs.Tabbed.{tabbed-append, put-tabbed}
+use Rattle.std.specs.Prelude.{Some, None}
 
 -- ---- pairs as lines
 
@@ -137,7 +138,7 @@ module _ (s : Bytes) (xs : List Pair) (second : Bool) (c : ℕ) (at lines : List
     unfolding all
     left-inside p q = sym g.inside ∙ ap (λ (ys : List Pair). all (λ i. ltb i c) (positions_in second ys)) here.are ∙ ap (λ (n : ℕ). ltb n c && all (λ i. ltb i c) (positions_in second here.others)) (sym q)
 
-    pub going-outside : (p : ℕ) → p ≡ number_in (get_or (left s from e) (cond second 1 0) []) → c ≤ p → Found s xs second c at lines Outside
+    pub going-outside : (p : ℕ) → p ≡ number_in (get_or (left s from e) (cond second 1 0) []) → c ≤ p → Found s xs second c at lines None
     unfolding Found
     going-outside p q h = left-inside p (read-position p q) ∙ ap (λ (b : Bool). b && all (λ i. ltb i c) (positions_in second here.others)) (le-ltb p c h)
 
@@ -172,7 +173,7 @@ module _ (s : Bytes) (xs : List Pair) (second : Bool) (c : ℕ) (at lines : List
         regroup [] x b = refl
         regroup (y ∷ a) x b = ap (λ (l : List ℕ). y ∷ l) (regroup a x b)
 
-  pub going_done : length s ≤ from → Found s xs second c at lines (Are m)
+  pub going_done : length s ≤ from → Found s xs second c at lines (Some m)
   unfolding Found all
   going_done h =
       let e : drop m xs ≡ [] = pairs-none (drop m xs) (sym (lines_end s from h) ∙ g.rest) in
@@ -228,20 +229,20 @@ module _ (s : Bytes) (from e : ℕ) (l : LineEnd s from e) where
 -- ---- the terms that are written
 
 module _ (s : Bytes) (xs : List Pair) (second : Bool) (at lines : List ℕ) (m k : ℕ) (kept : Kept s xs second at lines m) where
-  pub term-none : (x : Em) → m ≤ k → x ≡ puts (tabbed (second_of (drop k xs))) x
-  unfolding tabbed puts
-  term-none x h = let e = kept.many in rw (drop_all xs k (omega arith))
+  pub term-none : {u : Writer} → m ≤ k → Wrote u u (tabbed (second_of (drop k xs)))
+  unfolding tabbed
+  term-none h = let e = kept.many in rw (drop_all xs k (omega arith)) wrote-none
 
-  pub term-put : (from : ℕ) (r : Bytes) (x x' x'' : Em) → k < m → from ≡ get_or lines k 0 → ((f g : Bytes) (ls : List Line) → lines_from s from ≡ (f ∷ g ∷ []) ∷ ls → r ≡ g)
-      → x' ≡ puts (9 ∷ []) x → x'' ≡ puts r x' → x'' ≡ puts (tabbed (second_of (drop k xs))) x
+  pub term-put : {u v w : Writer} (from : ℕ) (r : Bytes) → k < m → from ≡ get_or lines k 0 → ((f g : Bytes) (ls : List Line) → lines_from s from ≡ (f ∷ g ∷ []) ∷ ls → r ≡ g)
+      → Wrote u v (9 ∷ []) → Wrote v w r → Wrote u w (tabbed (second_of (drop k xs)))
   unfolding put_pairs
-  term-put from r x x' x'' h q f p e =
+  term-put {u} {v} {w} from r h q f p e =
       let i = kept.many in
       go (drop k xs) refl (ap (lines_from s) q ∙ kept.places k h)
     where
-      go : (ys : List Pair) → drop k xs ≡ ys → lines_from s from ≡ put_pairs ys [] → x'' ≡ puts (tabbed (second_of ys)) x
-      go [] w z = absurd (let v = drop-whole xs k w in let i = kept.many in omega arith)
-      go (y ∷ ys) w z = column-put y.second true x x' x'' refl p (e ∙ ap (λ (b : Bytes). puts b x') (f y.first y.second (put_pairs ys []) z))
+      go : (ys : List Pair) → drop k xs ≡ ys → lines_from s from ≡ put_pairs ys [] → Wrote u w (tabbed (second_of ys))
+      go [] t z = absurd (let v = drop-whole xs k t in let i = kept.many in omega arith)
+      go (y ∷ ys) t z = put-tabbed p (wrote-as (f y.first y.second (put_pairs ys []) z) e)
 
 -- positions below a number of columns are below the bound too
 pub below_more : (is : List ℕ) (c : ℕ) → c ≤ bounds.columns → all (λ i. ltb i c) is ≡ true → all (λ i. ltb i bounds.entries) is ≡ true
@@ -274,21 +275,16 @@ term-at xs ps order i l e o = go (dec_lt (place_in i ps) (length ps))
         let a = o.else i l (omega arith) in
         ap second_of (drop_all xs (get_or order i 0) (omega arith) ∙ sym (drop_all xs (place_in i ps) (omega arith)))
 
-pub terms-next : (xs : List Pair) (i r : ℕ) (x x' : Em) (ps order : List ℕ) → i < bounds.columns → r ≡ get_or order i 0 → Ordered ps order → ps ≡ positions_in false xs → x' ≡ puts (tabbed (second_of (drop r xs))) x
-    → puts (tabbed (terms_from xs (i + 1) (bounds.columns - (i + 1)))) x' ≡ puts (tabbed (terms_from xs i (bounds.columns - i))) x
+pub terms-next : (xs : List Pair) (i r : ℕ) (ps order : List ℕ) → i < bounds.columns → r ≡ get_or order i 0 → Ordered ps order → ps ≡ positions_in false xs
+    → tabbed (terms_from xs i (bounds.columns - i)) ≡ tabbed (second_of (drop r xs)) ++ tabbed (terms_from xs (i + 1) (bounds.columns - (i + 1)))
 unfolding terms_from
-terms-next xs i r x x' ps order h e o q p =
+terms-next xs i r ps order h e o q =
     let n : bounds.columns - i ≡ suc (bounds.columns - (i + 1)) = omega arith in
     let l : length xs ≡ length ps = sym (ap length q ∙ length-map xs (λ (x : Pair). position x.first)) in
     let w : second_of (drop r xs) ≡ second_of (drop (place_in i (positions_in false xs)) xs) = ap (λ (m : ℕ). second_of (drop m xs)) e ∙ term-at xs ps order i h l o ∙ ap (λ (y : List ℕ). second_of (drop (place_in i y) xs)) q in
-    ap (puts (tabbed (terms_from xs (i + 1) (bounds.columns - (i + 1))))) p
-    ∙ go (drop r xs) (terms_from xs (i + 1) (bounds.columns - (i + 1)))
-    ∙ ap₂ (λ (a : List Bytes) (b : ℕ). puts (tabbed (a ++ terms_from xs b (bounds.columns - (i + 1)))) x) w (add-one i)
-    ∙ ap (λ (a : ℕ). puts (tabbed (terms_from xs i a)) x) (sym n)
-  where
-    go : (ys : List Pair) (ts : List Bytes) → puts (tabbed ts) (puts (tabbed (second_of ys)) x) ≡ puts (tabbed (second_of ys ++ ts)) x
-    go [] ts = tabbed-nil ts x
-    go (y ∷ ys) ts = tabbed-cons y.second ts x
+    ap (λ (a : ℕ). tabbed (terms_from xs i a)) n
+    ∙ ap₂ (λ (a : List Bytes) (b : ℕ). tabbed (a ++ terms_from xs b (bounds.columns - (i + 1)))) (sym w) (sym (add-one i))
+    ∙ tabbed-append (second_of (drop r xs)) (terms_from xs (i + 1) (bounds.columns - (i + 1)))
 
 -- a position from c on isn't listed where all are below c
 place-beyond : (c i : ℕ) (ps : List ℕ) → c ≤ i → all (λ p. ltb p c) ps ≡ true → length ps ≤ place_in i ps
@@ -307,6 +303,6 @@ terms-beyond xs c i (suc n) h a =
     let l : length (positions_in false xs) ≡ length xs = length-map xs (λ (x : Pair). position x.first) in
     ap₂ (λ (ys : List Pair) (ts : List Bytes). second_of ys ++ ts) (drop_all xs (place_in i (positions_in false xs)) (omega arith)) (terms-beyond xs c (suc i) n (omega arith) a)
 
-pub terms-done : (xs : List Pair) (c i : ℕ) (x : Em) → c ≤ i → all (λ p. ltb p c) (positions_in false xs) ≡ true → puts (tabbed (terms_from xs i (bounds.columns - i))) x ≡ x
-unfolding tabbed puts
-terms-done xs c i x h a = rw (terms-beyond xs c i (bounds.columns - i) h a)
+pub terms-done : (xs : List Pair) (c i : ℕ) → c ≤ i → all (λ p. ltb p c) (positions_in false xs) ≡ true → tabbed (terms_from xs i (bounds.columns - i)) ≡ []
+unfolding tabbed
+terms-done xs c i h a = ap tabbed (terms-beyond xs c i (bounds.columns - i) h a)

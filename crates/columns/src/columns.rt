@@ -3,7 +3,7 @@
 ghost use Rattle.std.specs.Prelude.{◌≡◌, ◌-◌, ◌≤◌, ◌<◌, [], ◌∷◌, map, true, false, cond, ◌||◌, length, take, get_or, ltb};
 ghost use Rattle.std.specs.Int.Count.{ones};
 ghost use Rattle.text.specs.Text.{same};
-ghost use Rattle.emit.specs.bridge.Emit.{em, puts};
+ghost use Rattle.emit.specs.bridge.Writer.{Wrote};
 ghost use Rattle.walking.specs.bridge.Walk.{tabbed};
 ghost use Rattle.walking.specs.bridge.Code.{Inside};
 ghost use Rattle.naming.specs.bridge.New.{named};
@@ -16,7 +16,7 @@ ghost use Rattle.mask.specs.bridge.Words.{mask_value};
 ghost use Rattle.columns.specs.bridge.Columns.{new_in, columns_of, picked, gone_bits};
 
 use algebra::PerEntry;
-use emit::{put, put_all};
+use emit::Writer;
 use lines::fields::Spot;
 use mask::{Mask, bit_at, count_ones, empty, with_bit, with_one};
 use names::{Entry, wide};
@@ -24,23 +24,17 @@ use naming::numbers::put_name;
 use text::{equal, piece};
 
 // What the name at an entry becomes: a generated name, or itself.
-fn put_new(
-    text: &[u8],
-    table: &[Entry; 1024],
-    news: &[Entry; 1024],
-    entry: usize,
-    out: &mut [u8],
-    at: usize,
-) -> usize
+fn put_new(text: &[u8], table: &[Entry; 1024], news: &[Entry; 1024], entry: usize, w: &mut Writer)
     requires { entry < 1024 }
-    ensures { em result out.new ≡ puts (new_in text.now table.now news.now entry) (em at out.old) }
+    ensures { Wrote w.old w.new (new_in text.now table.now news.now entry) }
 {
     let e = news[entry];
     if e[1] == 0 {
         let f = table[entry];
-        return put_all(out, at, piece(text, wide(f[0]), wide(f[1])));
+        w.put_all(piece(text, wide(f[0]), wide(f[1])));
+        return;
     }
-    put_name(out, at, e)
+    put_name(w, e);
 }
 
 // A column that was chosen, after a tab.
@@ -50,17 +44,16 @@ fn put_column(
     news: &[Entry; 1024],
     entry: usize,
     chosen: bool,
-    out: &mut [u8],
-    at: usize,
-) -> usize
+    w: &mut Writer,
+)
     requires { entry < 1024 }
-    ensures { em result out.new ≡ puts (tabbed (cond chosen (new_in text.now table.now news.now entry ∷ []) [])) (em at out.old) }
+    ensures { Wrote w.old w.new (tabbed (cond chosen (new_in text.now table.now news.now entry ∷ []) [])) }
 {
     if !chosen {
-        return at;
+        return;
     }
-    let a = put(out, at, 9);
-    put_new(text, table, news, entry, out, a)
+    w.put(9);
+    put_new(text, table, news, entry, w);
 }
 
 // One less where a column was chosen.
@@ -84,23 +77,20 @@ pub fn put_columns(
     mask: Mask,
     bit: u64,
     count: usize,
-    out: &mut [u8],
-    at: usize,
-) -> usize
+    w: &mut Writer,
+)
     requires { Inside 1024 spots.now columns × (count ≡ length (picked bit (mask_value mask) (columns_of text.now table.now news.now spots.now columns))) }
-    ensures { em result out.new ≡ puts (tabbed (picked bit (mask_value mask) (columns_of text.now table.now news.now spots.now columns))) (em at out.old) }
+    ensures { Wrote w.old w.new (tabbed (picked bit (mask_value mask) (columns_of text.now table.now news.now spots.now columns))) }
 {
-    let mut to = at;
     let mut left = count;
     let mut i = 0;
     while 0 < left {
         let s = spots[i];
         let chosen = bit_at(mask, i) == bit;
-        to = put_column(text, table, news, wide(s[1]), chosen, out, to);
+        put_column(text, table, news, wide(s[1]), chosen, w);
         left = less(left, chosen);
         i += 1;
     }
-    to
 }
 
 // The header's width: as many columns as there are, less the mask's ones.
@@ -125,12 +115,22 @@ pub fn position_mask(at: &PerEntry, m: usize, c: usize) -> Mask
     mask
 }
 
+// A generated name in front of the room: its size.
+fn write_name(e: Entry, room: &mut [u8; 12]) -> usize
+    ensures fits { result ≤ 12 }
+    ensures stands { take result room.new ≡ named (get_or e 0 0) (get_or e 1 0) }
+{
+    let mut w = Writer::new(room, 0);
+    put_name(&mut w, e);
+    w.at
+}
+
 // A generated name is this one.
 fn is_generated(e: Entry, name: &[u8]) -> bool
     ensures { result ≡ same name.now (named (get_or e 0 0) (get_or e 1 0)) }
 {
     let mut room = [0u8; 12];
-    let size = put_name(&mut room, 0, e);
+    let size = write_name(e, &mut room);
     equal(name, &room[..size])
 }
 
@@ -170,14 +170,12 @@ fn is_marked(
     requires { Inside 1024 spots.now columns }
     ensures { result ≡ mem name.now (picked 1 (mask_value mask) (columns_of text.now table.now news.now spots.now columns)) }
 {
-    let mut i = 0;
-    while i < columns {
+    for i in 0..columns {
         let s = spots[i];
         let marked = bit_at(mask, i) == 1;
         if is_column(text, table, news, wide(s[1]), marked, name) {
             return true;
         }
-        i += 1;
     }
     false
 }
@@ -216,7 +214,7 @@ fn goes(
         );
     }
     let mut room = [0u8; 12];
-    let size = put_name(&mut room, 0, e);
+    let size = write_name(e, &mut room);
     is_marked(
         other,
         other_table,
@@ -247,8 +245,7 @@ pub fn joined_mask(
     ensures { mask_value result ≡ mask_of (gone_bits (mask_value mask) (picked 1 (mask_value marks) (columns_of other.now other_table.now other_news.now other_spots.now other_columns)) (columns_of text.now table.now news.now spots.now columns)) }
 {
     let mut gone = empty();
-    let mut i = 0;
-    while i < columns {
+    for i in 0..columns {
         let s = spots[i];
         let constant = bit_at(mask, i) == 1;
         let go = goes(
@@ -265,7 +262,6 @@ pub fn joined_mask(
             marks,
         );
         gone = with_bit(gone, i, go);
-        i += 1;
     }
     gone
 }

@@ -2,7 +2,7 @@
 ghost use Rattle.std.specs.Prelude.{◌≡◌, ℕ, ◌+◌, ◌≤◌, ◌<◌, List, [], ◌∷◌, Bool, true, false, cond, length, get_or, take, drop, ltb};
 ghost use Rattle.text.specs.Text.{Bytes, Line, lines_from};
 ghost use Rattle.cursor.specs.bridge.Cursor.{left};
-ghost use Rattle.emit.specs.bridge.Emit.{em, puts};
+ghost use Rattle.emit.specs.bridge.Writer.{Wrote};
 ghost use Rattle.scoping.specs.bridge.Walk.{number_in};
 ghost use Rattle.walking.specs.bridge.Walk.{tabbed};
 ghost use Rattle.scoping.specs.Sets.{all};
@@ -12,17 +12,10 @@ ghost use Rattle.columns.specs.bridge.Listed.{Listed, Kept, Found, Ordered, seco
 
 use algebra::{ENTRIES, PerEntry};
 use cursor::field_end;
-use emit::{put, put_all};
+use emit::Writer;
 use names::wide;
 use reader::line_end;
 use walking::line::count_at;
-
-// A position is outside its projection, or there are so many.
-#[derive(Clone, Copy)]
-pub enum Positions {
-    Outside,
-    Are(usize),
-}
 
 // The number in a line's first field or in its second.
 fn position_at(list: &[u8], from: usize, end: usize, second: bool) -> usize
@@ -37,14 +30,15 @@ fn position_at(list: &[u8], from: usize, end: usize, second: bool) -> usize
     b.number
 }
 
-// The positions in one of the two fields of each line, below c, and where each line starts.
+// The positions in one of the two fields of each line, below c, and where each line starts: how many there are. None where one is
+// outside the projection.
 pub fn read_positions(
     list: &[u8],
     second: bool,
     c: usize,
     at: &mut PerEntry,
     lines: &mut PerEntry,
-) -> Positions
+) -> Option<usize>
     requires { (c ≤ bounds.columns) × (length at.old ≡ bounds.entries) × (length lines.old ≡ bounds.entries) × ((xs : List Pair) × Listed list.now xs) }
     ensures { (length at.new ≡ bounds.entries) × (length lines.new ≡ bounds.entries) × ((xs : List Pair) → Listed list.now xs → Found list.now xs second c at.new lines.new result) }
 {
@@ -53,18 +47,18 @@ pub fn read_positions(
     while from < list.len() {
         let end = line_end(list, from);
         if end == list.len() {
-            return Positions::Outside;
+            return None;
         }
         let p = position_at(list, from, end, second);
         if c <= p {
-            return Positions::Outside;
+            return None;
         }
         at[m] = p as u16;
         lines[m] = from as u16;
         m += 1;
         from = end + 1;
     }
-    Positions::Are(m)
+    Some(m)
 }
 
 // The second field of the line that starts here, a part of the list.
@@ -84,15 +78,15 @@ fn second_field(list: &[u8], from: usize) -> &[u8]
 }
 
 // The term of the constant at a place of the list, after a tab, if it is below m.
-fn put_term(list: &[u8], lines: &PerEntry, k: usize, m: usize, out: &mut [u8], at: usize) -> usize
+fn put_term(list: &[u8], lines: &PerEntry, k: usize, m: usize, w: &mut Writer)
     requires { m ≤ bounds.entries }
-    ensures { (xs : List Pair) (second : Bool) (at₀ : List ℕ) → Kept list.now xs second at₀ lines.now m → em result out.new ≡ puts (tabbed (second_of (drop k xs))) (em at out.old) }
+    ensures { (xs : List Pair) (second : Bool) (at₀ : List ℕ) → Kept list.now xs second at₀ lines.now m → Wrote w.old w.new (tabbed (second_of (drop k xs))) }
 {
     if m <= k {
-        return at;
+        return;
     }
-    let a = put(out, at, 9);
-    put_all(out, a, second_field(list, wide(lines[k])))
+    w.put(9);
+    w.put_all(second_field(list, wide(lines[k])));
 }
 
 // Where each position stands among the first m; a number from m on for a position that isn't there.
@@ -114,19 +108,14 @@ pub fn put_terms(
     lines: &PerEntry,
     m: usize,
     columns: usize,
-    out: &mut [u8],
-    to: usize,
-) -> usize
+    w: &mut Writer,
+)
     requires { (m ≤ bounds.entries) × (length at.now ≡ bounds.entries) × (columns ≤ bounds.columns) × (all (λ i. ltb i columns) (take m at.now) ≡ true) }
-    ensures { (xs : List Pair) → Kept list.now xs false at.now lines.now m → em result out.new ≡ puts (tabbed (terms_from xs 0 bounds.columns)) (em to out.old) }
+    ensures { (xs : List Pair) → Kept list.now xs false at.now lines.now m → Wrote w.old w.new (tabbed (terms_from xs 0 bounds.columns)) }
 {
     let mut order = [256u16; ENTRIES];
     note_order(at, m, &mut order);
-    let mut next = to;
-    let mut p = 0;
-    while p < columns {
-        next = put_term(list, lines, wide(order[p]), m, out, next);
-        p += 1;
+    for p in 0..columns {
+        put_term(list, lines, wide(order[p]), m, w);
     }
-    next
 }

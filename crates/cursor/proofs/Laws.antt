@@ -13,9 +13,8 @@ use Rattle.text.specs.Text.{Bytes, split, part, First}
 use Rattle.text.proofs.Lists.{split-here, split-last}
 use Rattle.reader.specs.bridge.Lines.{LineEnd}
 use Rattle.cursor.specs.declared.Cursor.{Cursor}
-use Rattle.cursor.specs.declared.Field.{Field}
-use Rattle.cursor.specs.declared.Field.TheVariants.{At, None}
-use Rattle.cursor.specs.bridge.Cursor.{left, Reads}
+use Rattle.cursor.specs.bridge.Cursor.{Reading, field, left, Reads}
+use Rattle.std.specs.Prelude.{Some, None}
 
 -- past the end of the line no field is left
 pub left-none : (s : Bytes) (at end : ℕ) → end < at → left s at end ≡ []
@@ -52,13 +51,13 @@ pub record Next (s : Bytes) (c : Cursor) (e : ℕ) (d : Cursor) : Type 0 where
 pub next-at : (s : Bytes) (c : Cursor) (e : ℕ) (d : Cursor) → First 9 s c.at c.end e → (d.at ≡ e + 1) × (d.end ≡ c.end) × (d.awaited ≡ c.awaited) → Next s c e d
 next-at s c e d f h = record { first = f; at = h.0; end = h.1; awaited = h.2 }
 
-pub reads_at : (s : Bytes) (c : Cursor) (r : Field) (e : ℕ) (d : Cursor) → Reads s c r → r ≡ At e d → Next s c e d
+pub reads_at : (s : Bytes) (c : Cursor) (r : Reading) (e : ℕ) (d : Cursor) → Reads s c r → r ≡ Some (field e d) → Next s c e d
 unfolding Reads
 reads_at s c r e d h q = taken (subst (Reads s c) q h)
   where
-    taken : Reads s c (At e d) → Next s c e d
+    taken : Reads s c (Some (field e d)) → Next s c e d
     taken h = next-at s c e d h.0 (h.1, h.2, h.3)
 
-pub reads_none : (s : Bytes) (c : Cursor) (r : Field) → Reads s c r → r ≡ None → c.end < c.at
+pub reads_none : (s : Bytes) (c : Cursor) (r : Reading) → Reads s c r → r ≡ None → c.end < c.at
 unfolding Reads
 reads_none s c r h q = subst (Reads s c) q h

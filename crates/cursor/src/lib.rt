@@ -19,9 +19,9 @@ pub struct Cursor {
 
 // The end of a field, and the cursor behind it.
 #[derive(Clone, Copy)]
-pub enum Field {
-    At(usize, Cursor),
-    None,
+pub struct Field {
+    pub end: usize,
+    pub behind: Cursor,
 }
 
 // The end of the field that starts at a place of the line up to `end`.
@@ -69,24 +69,24 @@ impl Cursor {
     }
 
     // The next field of the line, if one is left.
-    pub fn next_field(self, s: &[u8]) -> Field
+    pub fn next_field(self, s: &[u8]) -> Option<Field>
         requires { self.end < length s.now }
         ensures { Reads s.now self result }
     {
         let at = self.at;
         let end = self.end;
         if end < at {
-            return Field::None;
+            return None;
         }
-        let e = field_end(s, at, end);
-        Field::At(
-            e,
-            Cursor {
-                at: e + 1,
+        let to = field_end(s, at, end);
+        Some(Field {
+            end: to,
+            behind: Cursor {
+                at: to + 1,
                 end,
                 awaited: self.awaited,
             },
-        )
+        })
     }
 
     // Behind a field that ends at a place of the line.

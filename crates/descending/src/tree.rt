@@ -66,12 +66,10 @@ fn rename_variables(j: usize, to: usize, spots: &mut [Spot], news: &[Entry; 1024
     requires { (j ≤ length spots.old) × (to ≤ length spots.old) }
     ensures { Walked (sizes_of news.now) spots.old j spots.new result × (to ≤ result) }
 {
-    let mut k = j;
-    while k < to {
+    for k in j..to {
         rename_variable(spots, k, news);
-        k += 1;
     }
-    k
+    j.max(to)
 }
 
 // The number of the first variable of a line, of k.
@@ -199,10 +197,8 @@ fn rename_group(
         return Reached { node: i, spot: j };
     }
     let mut r = Reached { node: i, spot: j };
-    let mut rest = times;
-    while 0 < rest {
+    for done in 0..times {
         r = rename_child(r.node, r.spot, depth, sort, words, nodes, spots, news);
-        rest -= 1;
     }
     r
 }
@@ -286,10 +282,9 @@ pub fn rename_in_expression(
         node: i + 1,
         spot: h.spot,
     };
-    let mut left = amount(h.groups, h.first, h.second);
-    while 0 < left {
+    let below = amount(h.groups, h.first, h.second);
+    for done in 0..below {
         r = rename_in_expression(r.node, r.spot, depth - 1, words, nodes, spots, news);
-        left -= 1;
     }
     r
 }

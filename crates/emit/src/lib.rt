@@ -35,11 +35,7 @@ fn copy(out: &mut [u8], at: usize, piece: &[u8])
     requires { at + length piece.now ≤ length out.old }
     ensures { out.new ≡ sets out.old at piece.now }
 {
-    let mut i = 0;
-    while i < piece.len() {
-        out[at + i] = piece[i];
-        i += 1;
-    }
+    out[at..at + piece.len()].copy_from_slice(piece);
 }
 
 // The bytes of a slice, one by one.
@@ -47,10 +43,8 @@ fn put_each(out: &mut [u8], at: usize, piece: &[u8]) -> usize
     ensures { em result out.new ≡ puts piece.now (em at out.old) }
 {
     let mut to = at;
-    let mut i = 0;
-    while i < piece.len() {
+    for i in 0..piece.len() {
         to = put(out, to, piece[i]);
-        i += 1;
     }
     to
 }
@@ -67,4 +61,36 @@ pub fn put_all(out: &mut [u8], at: usize, piece: &[u8]) -> usize
         return at + piece.len();
     }
     put_each(out, at, piece)
+}
+
+// A buffer that is written, and where its next byte goes.
+#[derive(Drop)]
+pub struct Writer<'a> {
+    pub out: &'a mut [u8],
+    pub at: usize,
+}
+
+impl<'a> Writer<'a> {
+    ghost use Rattle.emit.specs.bridge.Writer.{Wrote};
+
+    pub fn new(out: &'a mut [u8], at: usize) -> Writer<'a>
+        ensures same_reference { result.out.ghost_name ≡ out.entry.ghost_name }
+        ensures starts { em result.at result.out.now ≡ em at out.old }
+    {
+        Writer { out, at }
+    }
+
+    // One byte.
+    pub fn put(&mut self, b: u8)
+        ensures { Wrote self.old self.new (b ∷ []) }
+    {
+        self.at = put(self.out, self.at, b);
+    }
+
+    // The bytes of a slice.
+    pub fn put_all(&mut self, piece: &[u8])
+        ensures { Wrote self.old self.new piece.now }
+    {
+        self.at = put_all(self.out, self.at, piece);
+    }
 }

@@ -19,7 +19,6 @@ use Rattle.algebra.specs.Texts.{read_tree, read_filters}
 use Rattle.algebra.specs.Tally.{bounds}
 use Rattle.emit.specs.bridge.Emit.{Em, em, last, puts}
 use Rattle.emit.proofs.Laws.{puts-append, puts-at, puts-past}
-use Rattle.answers.specs.declared.Answer.TheVariants.{Written, Malformed, OverBound, Outside, TooShort, ListTooShort}
 use Rattle.answers.specs.Outcome.{written, refused_unless}
 use Rattle.answers.specs.Both.{ReportedBoth, AnsweredBoth}
 use Rattle.answers.proofs.Answers.{too_short, all-written}
@@ -46,6 +45,8 @@ use Rattle.placing.proofs.Inner.{none_found, Found, is_found, way, columns-are, 
 use Rattle.expressing.specs.declared.place.Noted.{Noted}
 use Rattle.expressing.specs.bridge.Walks.{lines_at, filters_from, Notes}
 use Rattle.expressing.specs.bridge.Filtered.{ref_below, filtered_at}
+use Rattle.std.specs.Prelude.{Ok, Err}
+use Rattle.answers.specs.declared.Refusal.TheVariants.{ListTooShort, Malformed, Outside, OverBound, TooShort}
 
 -- ---- the six pieces
 
@@ -102,8 +103,8 @@ module _ (s : Bytes) (inner end : ℕ) (ls : List Line) (ands size : ℕ) (low :
       puts-past Text 0 need [] (omega arith) (omega arith) (omega arith)
 
   module _ (out : Bytes) (xs lent : List ℕ) where
-    pub listed-short : length out < need → AnsweredBoth (written Text) xs out out lent lent TooShort 0
-    listed-short h = both-refused (written Text) xs out lent TooShort (λ e. omega arith) (too_short Text out need [] [] measure h)
+    pub listed-short : length out < need → AnsweredBoth (written Text) xs out out lent lent (Err TooShort) 0
+    listed-short h = both-refused (written Text) xs out lent (Err TooShort) (λ e. omega arith) (too_short Text out need [] [] measure h)
 
     module _ (fits : need ≤ length out) (long : length out < last) where
       text-fits : length Text ≤ length out
@@ -112,11 +113,11 @@ module _ (s : Bytes) (inner end : ℕ) (ls : List Line) (ands size : ℕ) (low :
           let k : size ≡ min (0 + length (text_of ls)) last = ap (λ (e : Em). e.at) m ∙ puts-at (text_of ls) (em 0 []) (omega arith) in
           omega arith
 
-      pub list-short : length lent < length xs → AnsweredBoth (written Text) xs out out lent lent ListTooShort 0
+      pub list-short : length lent < length xs → AnsweredBoth (written Text) xs out out lent lent (Err ListTooShort) 0
       list-short h = both-list-short (written Text) xs out lent Text refl text-fits h
 
-      pub listed-all : length xs ≤ length lent → (n : ℕ) (out' : Bytes) (left : List ℕ) → em n out' ≡ puts Text (em 0 out) → left ≡ xs ++ drop (length xs) lent → AnsweredBoth (written Text) xs out out' lent left (Written n) (length xs)
-      listed-all h n out' left e l = both-written (written Text) xs out lent Text refl out' left (Written n) text-fits h (all-written Text out need [] [] measure n out' fits long e) l
+      pub listed-all : length xs ≤ length lent → (n : ℕ) (out' : Bytes) (left : List ℕ) → em n out' ≡ puts Text (em 0 out) → left ≡ xs ++ drop (length xs) lent → AnsweredBoth (written Text) xs out out' lent left (Ok n) (length xs)
+      listed-all h n out' left e l = both-written (written Text) xs out lent Text refl out' left (Ok n) text-fits h (all-written Text out need [] [] measure n out' fits long e) l
 
 -- ---- the outcome
 
@@ -157,7 +158,7 @@ module _ (tree filters : Bytes) (p : Pattern) (fs : List Filter) (e : read_tree 
           ∙ below-inside At.columns (put_filters fs [])
           ∙ references-lines At.columns fs
 
-      pub outside : (out : Bytes) (lent : List ℕ) → not b ≡ true → AnsweredBoth (filters_as_is tree filters) (not_placed_as_is tree filters) out out lent lent Outside 0
+      pub outside : (out : Bytes) (lent : List ℕ) → not b ≡ true → AnsweredBoth (filters_as_is tree filters) (not_placed_as_is tree filters) out out lent lent (Err Outside) 0
       unfolding ReportedBoth
       outside out lent h = rw (by_tests, sym inside_is ∙ not-true b h) (refl, refl, refl, refl, refl)
 
@@ -226,19 +227,19 @@ module _ (tree filters : Bytes) (p : Pattern) (fs : List Filter) (e : read_tree 
 -- ---- a text that is refused
 
 module _ (tree filters out : Bytes) (lent : List ℕ) where
-  pub tree-malformed : read_tree tree ≡ refuses malformed → AnsweredBoth (filters_as_is tree filters) (not_placed_as_is tree filters) out out lent lent Malformed 0
+  pub tree-malformed : read_tree tree ≡ refuses malformed → AnsweredBoth (filters_as_is tree filters) (not_placed_as_is tree filters) out out lent lent (Err Malformed) 0
   unfolding filters_as_is ReportedBoth
   tree-malformed e = rw e (refl, refl, refl, refl, refl)
 
-  pub tree_over : read_tree tree ≡ refuses over_bound → AnsweredBoth (filters_as_is tree filters) (not_placed_as_is tree filters) out out lent lent OverBound 0
+  pub tree_over : read_tree tree ≡ refuses over_bound → AnsweredBoth (filters_as_is tree filters) (not_placed_as_is tree filters) out out lent lent (Err OverBound) 0
   unfolding filters_as_is ReportedBoth
   tree_over e = rw e (refl, refl, refl, refl, refl)
 
   module _ (p : Pattern) (r : read_tree tree ≡ reads p) where
-    pub filters-malformed : read_filters filters ≡ refuses malformed → AnsweredBoth (filters_as_is tree filters) (not_placed_as_is tree filters) out out lent lent Malformed 0
+    pub filters-malformed : read_filters filters ≡ refuses malformed → AnsweredBoth (filters_as_is tree filters) (not_placed_as_is tree filters) out out lent lent (Err Malformed) 0
     unfolding filters_as_is ReportedBoth
     filters-malformed e = rw (r, e) (refl, refl, refl, refl, refl)
 
-    pub filters-over : read_filters filters ≡ refuses over_bound → AnsweredBoth (filters_as_is tree filters) (not_placed_as_is tree filters) out out lent lent OverBound 0
+    pub filters-over : read_filters filters ≡ refuses over_bound → AnsweredBoth (filters_as_is tree filters) (not_placed_as_is tree filters) out out lent lent (Err OverBound) 0
     unfolding filters_as_is ReportedBoth
     filters-over e = rw (r, e) (refl, refl, refl, refl, refl)

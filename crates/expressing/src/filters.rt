@@ -10,7 +10,7 @@ ghost use Rattle.words.specs.bridge.Words.{Worded};
 ghost use Rattle.names.specs.bridge.Names.{names_in};
 ghost use Rattle.emit.specs.bridge.Emit.{em, last, puts};
 ghost use Rattle.answers.specs.Outcome.{written};
-ghost use Rattle.answers.specs.Both.{AnsweredBoth};
+ghost use Rattle.answers.specs.Both.{ListedBoth};
 ghost use Rattle.scoping.specs.Sets.{all};
 ghost use Rattle.negating.specs.bridge.Lines.{from_project, Projects};
 ghost use Rattle.std.proofs.Math.Option.{none};
@@ -21,13 +21,13 @@ ghost use Rattle.expressing.specs.bridge.Filtered.{ref_below, filtered_at};
 ghost use Rattle.expressing.specs.bridge.Walks.{lines_at};
 
 use crate::place::{note_filters, put_expressions, put_numbers};
-use algebra::{Answer as Check, COLUMNS, EMPTY_TREE, ENTRIES};
-use answers::{Answer, Listed};
+use algebra::{COLUMNS, EMPTY_TREE, ENTRIES};
+use answers::{Listed, ListedAnswer, Refusal};
 use cursor::Cursor;
 use emit::put_all;
 use heads::copy;
 use names::{Columns, Entry, clear};
-use negating::{Outermost, outermost_projection};
+use negating::outermost_projection;
 use placing::columns::read_columns;
 use placing::ends::inner_end;
 use placing::field::{field_at, position_of};
@@ -123,55 +123,43 @@ fn put_listed(
     numbers: &[u16],
     out: &mut [u8],
     list: &mut [u16],
-) -> Listed
+) -> ListedAnswer
     requires { (inner ≤ end) × (end ≤ length tree.now) × (length tree.now ≤ 16384) × (n ≤ bounds.columns) × Worded words.now × (0 < length starts.now) × (length starts.now ≤ bounds.entries) × (em size [] ≡ puts (text_of (lines_at (names_in tree.now columns.now n) filters.now starts.now)) (em 0 [])) }
-    ensures { AnsweredBoth (written (filtered_at tree.now inner end (length starts.now - 1) (lines_at (names_in tree.now columns.now n) filters.now starts.now))) numbers.now out.old out.new list.old list.new result.answer result.many }
+    ensures { ListedBoth (written (filtered_at tree.now inner end (length starts.now - 1) (lines_at (names_in tree.now columns.now n) filters.now starts.now))) numbers.now out.old out.new list.old list.new result }
 {
     let ands = starts.len() - 1;
     if out.len() < filtered_size(tree, ands, size) {
-        return Listed {
-            answer: Answer::TooShort,
-            many: 0,
-        };
+        return Err(Refusal::TooShort);
     }
     if list.len() < numbers.len() {
-        return Listed {
-            answer: Answer::ListTooShort,
-            many: 0,
-        };
+        return Err(Refusal::ListTooShort);
     }
     let put = put_filtered(
         tree, inner, end, columns, n, filters, words, starts, ands, out,
     );
     put_numbers(numbers, list);
-    Listed {
-        answer: Answer::Written(put),
+    Ok(Listed {
+        size: put,
         many: numbers.len(),
-    }
+    })
 }
 
 // No filter is placed, and their numbers are listed.
-fn copy_listed(tree: &[u8], numbers: &[u16], out: &mut [u8], list: &mut [u16]) -> Listed
-    ensures { AnsweredBoth (written tree.now) numbers.now out.old out.new list.old list.new result.answer result.many }
+fn copy_listed(tree: &[u8], numbers: &[u16], out: &mut [u8], list: &mut [u16]) -> ListedAnswer
+    ensures { ListedBoth (written tree.now) numbers.now out.old out.new list.old list.new result }
 {
     if out.len() < tree.len() {
-        return Listed {
-            answer: Answer::TooShort,
-            many: 0,
-        };
+        return Err(Refusal::TooShort);
     }
     if list.len() < numbers.len() {
-        return Listed {
-            answer: Answer::ListTooShort,
-            many: 0,
-        };
+        return Err(Refusal::ListTooShort);
     }
-    let answer = copy(tree, out);
+    let size = copy(tree, out)?;
     put_numbers(numbers, list);
-    Listed {
-        answer,
+    Ok(Listed {
+        size,
         many: numbers.len(),
-    }
+    })
 }
 
 // For texts that were checked, where the projection is this line and its inner pattern starts there.
@@ -183,17 +171,14 @@ fn filters_found(
     words: &[WordRow; 56],
     out: &mut [u8],
     list: &mut [u16],
-) -> Listed
+) -> ListedAnswer
     requires { ((p : Pattern) × (read_tree tree.now ≡ reads p)) × ((fs : List Filter) × (read_filters filters.now ≡ reads fs)) × Projects tree.now 0 line inner × Worded words.now }
-    ensures { AnsweredBoth (filters_as_is tree.now filters.now) (not_placed_as_is tree.now filters.now) out.old out.new list.old list.new result.answer result.many }
+    ensures { ListedBoth (filters_as_is tree.now filters.now) (not_placed_as_is tree.now filters.now) out.old out.new list.old list.new result }
 {
     let mut columns = [[0u16; 2]; COLUMNS];
     let n = read_columns(tree, line, &mut columns);
     if !are_inside(filters, n) {
-        return Listed {
-            answer: Answer::Outside,
-            many: 0,
-        };
+        return Err(Refusal::Outside);
     }
     let mut starts = [0usize; ENTRIES];
     let mut numbers = [0u16; ENTRIES];
@@ -236,9 +221,9 @@ fn filters_not_found(
     words: &[WordRow; 56],
     out: &mut [u8],
     list: &mut [u16],
-) -> Listed
+) -> ListedAnswer
     requires { ((p : Pattern) × (read_tree tree.now ≡ reads p)) × ((fs : List Filter) × (read_filters filters.now ≡ reads fs)) × (from_project (lines_from tree.now 0) ≡ none) × Worded words.now }
-    ensures { AnsweredBoth (filters_as_is tree.now filters.now) (not_placed_as_is tree.now filters.now) out.old out.new list.old list.new result.answer result.many }
+    ensures { ListedBoth (filters_as_is tree.now filters.now) (not_placed_as_is tree.now filters.now) out.old out.new list.old list.new result }
 {
     let columns = [[0u16; 2]; COLUMNS];
     let mut starts = [0usize; ENTRIES];
@@ -264,14 +249,22 @@ fn filters_of(
     words: &[WordRow; 56],
     out: &mut [u8],
     list: &mut [u16],
-) -> Listed
+) -> ListedAnswer
     requires { ((p : Pattern) × (read_tree tree.now ≡ reads p)) × ((fs : List Filter) × (read_filters filters.now ≡ reads fs)) × Worded words.now }
-    ensures { AnsweredBoth (filters_as_is tree.now filters.now) (not_placed_as_is tree.now filters.now) out.old out.new list.old list.new result.answer result.many }
+    ensures { ListedBoth (filters_as_is tree.now filters.now) (not_placed_as_is tree.now filters.now) out.old out.new list.old list.new result }
 {
-    let Outermost::At(line, inner) = outermost_projection(tree, 0) else {
+    let Some(outermost) = outermost_projection(tree, 0) else {
         return filters_not_found(tree, filters, words, out, list);
     };
-    filters_found(tree, line, inner, filters, words, out, list)
+    filters_found(
+        tree,
+        outermost.line,
+        outermost.inner,
+        filters,
+        words,
+        out,
+        list,
+    )
 }
 
 // For a tree that was checked; its table of names is cleared and used again.
@@ -283,47 +276,29 @@ fn filters_by(
     hints: &mut [u16; 2048],
     out: &mut [u8],
     list: &mut [u16],
-) -> Listed
+) -> ListedAnswer
     requires { ((p : Pattern) × (read_tree tree.now ≡ reads p)) × Worded words.now }
-    ensures { AnsweredBoth (filters_as_is tree.now filters.now) (not_placed_as_is tree.now filters.now) out.old out.new list.old list.new result.answer result.many }
+    ensures { ListedBoth (filters_as_is tree.now filters.now) (not_placed_as_is tree.now filters.now) out.old out.new list.old list.new result }
 {
     clear(table);
-    match check_filters(filters, words, table, hints) {
-        Check::Good(_) => filters_of(tree, filters, words, out, list),
-        Check::Malformed => Listed {
-            answer: Answer::Malformed,
-            many: 0,
-        },
-        Check::OverBound => Listed {
-            answer: Answer::OverBound,
-            many: 0,
-        },
-    }
+    check_filters(filters, words, table, hints)?;
+    filters_of(tree, filters, words, out, list)
 }
 
 // The same for any tree's text as it stands.
-fn filters_text(tree: &[u8], filters: &[u8], out: &mut [u8], list: &mut [u16]) -> Listed
-    ensures { AnsweredBoth (filters_as_is tree.now filters.now) (not_placed_as_is tree.now filters.now) out.old out.new list.old list.new result.answer result.many }
+fn filters_text(tree: &[u8], filters: &[u8], out: &mut [u8], list: &mut [u16]) -> ListedAnswer
+    ensures { ListedBoth (filters_as_is tree.now filters.now) (not_placed_as_is tree.now filters.now) out.old out.new list.old list.new result }
 {
     let words = all_words();
     let mut table = [[0u16; 2]; 1024];
     let mut hints = [0u16; 2048];
-    match check_tree(tree, &words, &mut table, &mut hints) {
-        Check::Good(_) => { filters_by(tree, filters, &words, &mut table, &mut hints, out, list) }
-        Check::Malformed => Listed {
-            answer: Answer::Malformed,
-            many: 0,
-        },
-        Check::OverBound => Listed {
-            answer: Answer::OverBound,
-            many: 0,
-        },
-    }
+    check_tree(tree, &words, &mut table, &mut hints)?;
+    filters_by(tree, filters, &words, &mut table, &mut hints, out, list)
 }
 
 // filters: tree and filters to tree, and the numbers of the filters that were not placed; an empty file is read as its two lines.
-pub fn filters(tree: &[u8], filters: &[u8], out: &mut [u8], list: &mut [u16]) -> Listed
-    ensures { AnsweredBoth (filters_outcome tree.now filters.now) (filters_not_placed tree.now filters.now) out.old out.new list.old list.new result.answer result.many }
+pub fn filters(tree: &[u8], filters: &[u8], out: &mut [u8], list: &mut [u16]) -> ListedAnswer
+    ensures { ListedBoth (filters_outcome tree.now filters.now) (filters_not_placed tree.now filters.now) out.old out.new list.old list.new result }
 {
     if tree.len() == 0 {
         return filters_text(&EMPTY_TREE, filters, out, list);

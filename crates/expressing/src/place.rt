@@ -136,12 +136,10 @@ pub fn put_expressions(
     ensures { em result out.new ≡ puts (text_of (lines_at (names_in tree.now columns.now n) filters.now starts.now)) (em at out.old) }
 {
     let mut to = at;
-    let mut j = 0;
-    while j < starts.len() {
+    for j in 0..starts.len() {
         let from = starts[j];
         let walked = tree_to_expression(tree, columns, n, filters, words, from, LINES, out, to);
         to = walked.at;
-        j += 1;
     }
     to
 }
@@ -151,9 +149,7 @@ pub fn put_numbers(numbers: &[u16], list: &mut [u16])
     requires { length numbers.now ≤ length list.old }
     ensures { list.new ≡ numbers.now ++ drop (length numbers.now) list.old }
 {
-    let mut j = 0;
-    while j < numbers.len() {
+    for j in 0..numbers.len() {
         list[j] = numbers[j];
-        j += 1;
     }
 }

@@ -7,8 +7,7 @@ use Rattle.text.specs.Text.{Bytes}
 use Rattle.text.specs.Word.{bytes}
 use Rattle.algebra.specs.Given.{empty_tree}
 use Rattle.algebra.proofs.Given.{tree_text, text-none, text-some, given-as-text, empty-reads}
-use Rattle.answers.specs.declared.Answer.{Answer}
-use Rattle.answers.specs.Outcome.{written, Answered}
+use Rattle.answers.specs.Outcome.{Answer, written, Answered}
 use Rattle.answers.specs.Both.{AnsweredBoth}
 use Rattle.answers.proofs.Given.{answered-none, answered-some}
 use Rattle.answers.proofs.Both.{answered-both}

@@ -14,7 +14,7 @@ ghost use Rattle.merging.specs.Push.{push_constants_outcome};
 ghost use Rattle.merging.specs.Without.{without_queries_outcome};
 ghost use Rattle.converting.specs.Namespaces.{namespaces_outcome};
 
-use answers::{number, size_of};
+use answers::{answer_of, many_of, number, size_of};
 use binding::bindings::bindings;
 use expressing::filters;
 use joining::patterns::merge_patterns;
@@ -156,9 +156,9 @@ pub extern "C" fn gandeuch_filters(
     ensures { ReportedBoth (filters_outcome tree.now filters.now) (filters_not_placed tree.now filters.now) out.old out.new list.old list.new result size.new many.new }
 {
     let listed = filters::filters(tree, filters, out, list);
-    let a = listed.answer;
+    let a = answer_of(listed);
     *size = size_of(a);
-    *many = listed.many;
+    *many = many_of(listed);
     number(a)
 }
 

@@ -1,5 +1,4 @@
 pub mod Cut
 pub mod Queries
 pub mod Heads
-pub mod Copied
 pub mod Parts

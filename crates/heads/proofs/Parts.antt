@@ -1,15 +1,14 @@
 -- A query as it is given: its head's text, and its tree's, which stands behind it or is that of an empty file. Assumes nothing.
 use Prim.Native.Nat.{ℕ, ◌-◌, ◌≤◌, ◌<◌}
 use mathlib.Core.Path.{◌≡◌, refl, sym, ap, subst, ◌∙◌}
-use mathlib.Core.List.{List, [], ◌∷◌, ◌++◌}
+use mathlib.Core.List.{[], ◌++◌}
 use native.Mathlib.Omega.{arith}
 use lib.ListN.{length, take, drop, length-drop}
 use lib.Seq.{take_all}
-use Rattle.text.specs.Text.{Bytes, Line, part, text_of, ended, lines_of, lines_from}
+use Rattle.text.specs.Text.{Bytes, part, text_of, ended, lines_of, lines_from}
 use Rattle.text.specs.Field.{decimal, digits}
 use Rattle.text.proofs.Texts.{lines-back, neat-ended}
 use Rattle.text.proofs.Places.{lines_start}
-use Rattle.algebra.specs.Tree.{Pattern}
 use Rattle.algebra.specs.Query.{Query}
 use Rattle.algebra.specs.Valid.{Valid, ValidQuery}
 use Rattle.algebra.specs.Layout.{put, put_triples, layout}

@@ -1,11 +1,10 @@
 -- A query that was read: its tree, and its text as a head line and the tree's text. Assumes nothing.
 use Prim.Native.Nat.{◌≤◌}
-use mathlib.Core.Path.{◌≡◌, sym, ap, ◌∙◌}
-use mathlib.Core.List.{[], ◌∷◌, ◌++◌}
+use mathlib.Core.Path.{◌≡◌, sym, ◌∙◌}
+use mathlib.Core.List.{[], ◌++◌}
 use lib.ListN.{length}
-use Rattle.text.specs.Text.{Bytes, ended, text_of, lines_of, lines_from}
-use Rattle.text.proofs.Texts.{lines-back, Ended, neat-ended}
-use Rattle.text.proofs.Places.{lines_start}
+use Rattle.text.specs.Text.{Bytes, ended, text_of}
+use Rattle.text.proofs.Texts.{Ended, neat-ended}
 use Rattle.algebra.specs.Tree.{Pattern}
 use Rattle.algebra.specs.Query.{Query}
 use Rattle.algebra.specs.Depth.{depth}
@@ -14,7 +13,7 @@ use Rattle.algebra.specs.Layout.{put, put_query, layout}
 use Rattle.algebra.specs.Bounded.{layout_query}
 use Rattle.algebra.specs.Reader.{reads}
 use Rattle.algebra.specs.Texts.{read_query}
-use Rattle.algebra.proofs.Neat.{neat, query-neat}
+use Rattle.algebra.proofs.Neat.{neat}
 use Rattle.algebra.proofs.Theorem.{query-exactly}
 use Rattle.algebra.specs.Tally.{bounds}
 use Rattle.scoping.specs.Numbering.{by_place}

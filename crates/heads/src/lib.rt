@@ -3,14 +3,14 @@
 
 ghost use Rattle.std.specs.Prelude.{◌≡◌, ◌++◌};
 ghost use Rattle.algebra.specs.Query.{Query};
-ghost use Rattle.emit.specs.bridge.Emit.{em, puts};
+ghost use Rattle.emit.specs.bridge.Writer.{Wrote};
 ghost use Rattle.answers.specs.Outcome.{written, Answered};
 ghost use Rattle.merging.specs.Merge.{is_select_or_ask, mergeable};
 ghost use Rattle.heads.specs.bridge.TreeAt.{HeadOf, Starts};
 
-use answers::Answer;
+use answers::{Answer, write_answer};
 use cursor::field_end;
-use emit::put_all;
+use emit::Writer;
 use reader::line_end;
 use text::equal;
 
@@ -60,30 +60,20 @@ pub fn is_mergeable(left: &[u8], right: &[u8]) -> bool
 pub fn copy(text: &[u8], out: &mut [u8]) -> Answer
     ensures { Answered (written text.now) out.old out.new result }
 {
-    if out.len() < text.len() {
-        return Answer::TooShort;
-    }
-    let size = put_all(out, 0, text);
-    Answer::Written(size)
+    write_answer(out, |w| w.put_all(text))
 }
 
 // A head and what stands behind it.
-fn put_behind(head: &[u8], tree: &[u8], out: &mut [u8]) -> usize
-    ensures { em result out.new ≡ puts (head.now ++ tree.now) (em 0 out.old) }
+fn put_behind(head: &[u8], tree: &[u8], w: &mut Writer)
+    ensures { Wrote w.old w.new (head.now ++ tree.now) }
 {
-    let a = put_all(out, 0, head);
-    put_all(out, a, tree)
+    w.put_all(head);
+    w.put_all(tree);
 }
 
 // A head and a tree's text, as they are.
 pub fn copy_behind(head: &[u8], tree: &[u8], out: &mut [u8]) -> Answer
     ensures { Answered (written (head.now ++ tree.now)) out.old out.new result }
 {
-    let mut none = [0u8; 0];
-    let size = put_behind(head, tree, &mut none);
-    if out.len() < size {
-        return Answer::TooShort;
-    }
-    let put = put_behind(head, tree, out);
-    Answer::Written(put)
+    write_answer(out, |w| put_behind(head, tree, w))
 }

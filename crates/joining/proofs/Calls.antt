@@ -21,12 +21,9 @@ use Rattle.algebra.specs.Reader.{Outcome as Reading, reads, refuses, malformed, 
 use Rattle.algebra.specs.Texts.{read_pairs}
 use Rattle.algebra.specs.Given.{read_given_tree, read_given_query}
 use Rattle.algebra.specs.Query as Query
-use Rattle.algebra.specs.declared.Answer.{Answer as Check}
-use Rattle.algebra.specs.declared.Answer.TheVariants as C
-use Rattle.answers.specs.Outcome.{Outcome, written, then, refused_unless, Reported, Answered}
-use Rattle.answers.specs.declared.Answer.{Answer}
+use Rattle.algebra.specs.bridge.Answers.{Answer as Check}
+use Rattle.answers.specs.Outcome.{Outcome, written, then, refused_unless, Reported, Answered, Answer}
 use Rattle.answers.proofs.Answers.{answered}
-use Rattle.answers.specs.declared.Answer.TheVariants.{Malformed, OverBound, NotMergeable, NotProject, NoPairs}
 use Rattle.merging.specs.Request.{Projection, as_project, made, read_joins, read_constants, join_positions, by_position, constants_in}
 use Rattle.merging.specs.Merge.{lists, is_select_or_ask, mergeable, merge_trees, merge_patterns_outcome, merge_queries_outcome, over}
 use Rattle.merging.specs.Without.{without_trees, without_queries_outcome}
@@ -39,15 +36,18 @@ use Rattle.heads.proofs.Queries.{over-layout}
 use Rattle.joining.specs.bridge.Form.{headless, read_form, head_of, may_merge, listed_behind, merge_with, merge_outcome, push_with}
 use Rattle.projects.specs.bridge.Joining.{KnownTerms, ListsRead, ListsChecked, pushed_behind, combined_behind, joined_behind}
 use Rattle.projects.proofs.Outcomes as O
+use Rattle.std.specs.Prelude.{Ok, Err}
+use Rattle.answers.specs.declared.Refusal.TheVariants.{Malformed, NoPairs, NotMergeable, NotProject, OverBound}
+use Rattle.algebra.specs.declared.Fault.TheVariants.{Malformed, OverBound}
 
 -- ---- push constants
 
 module _ (query constants out : Bytes) where
-  pub push-malformed : read_given_query query ≡ refuses malformed → Answered (push_constants_outcome query constants) out out Malformed
+  pub push-malformed : read_given_query query ≡ refuses malformed → Answered (push_constants_outcome query constants) out out (Err Malformed)
   unfolding push_constants_outcome Reported
   push-malformed e = rw e (refl, refl, refl)
 
-  pub push-over : read_given_query query ≡ refuses over_bound → Answered (push_constants_outcome query constants) out out OverBound
+  pub push-over : read_given_query query ≡ refuses over_bound → Answered (push_constants_outcome query constants) out out (Err OverBound)
   unfolding push_constants_outcome Reported
   push-over e = rw e (refl, refl, refl)
 
@@ -56,11 +56,11 @@ module _ (query constants out : Bytes) where
   push-read q e = rw e
 
 module _ (q : Query) (constants out : Bytes) where
-  pub terms-malformed : read_pairs Query.constants constants ≡ refuses malformed → Answered (push_with q constants) out out Malformed
+  pub terms-malformed : read_pairs Query.constants constants ≡ refuses malformed → Answered (push_with q constants) out out (Err Malformed)
   unfolding push_with read_constants Reported
   terms-malformed e = rw e (refl, refl, refl)
 
-  pub terms-over : read_pairs Query.constants constants ≡ refuses over_bound → Answered (push_with q constants) out out OverBound
+  pub terms-over : read_pairs Query.constants constants ≡ refuses over_bound → Answered (push_with q constants) out out (Err OverBound)
   unfolding push_with read_constants Reported
   terms-over e = rw e (refl, refl, refl)
 
@@ -135,11 +135,11 @@ of-less left right pairs = rw no-constants
     refused_unless 5 (mergeable a b) (of-without a.tree b.tree js (λ t. written (layout_query (over a t))) i)))
 
 module _ (less query : Bool) (left right pairs leftConstants rightConstants out : Bytes) where
-  pub left-malformed : read_form query left ≡ refuses malformed → Answered (merge_outcome less query left right pairs leftConstants rightConstants) out out Malformed
+  pub left-malformed : read_form query left ≡ refuses malformed → Answered (merge_outcome less query left right pairs leftConstants rightConstants) out out (Err Malformed)
   unfolding merge_outcome Reported
   left-malformed e = rw e (refl, refl, refl)
 
-  pub left_over : read_form query left ≡ refuses over_bound → Answered (merge_outcome less query left right pairs leftConstants rightConstants) out out OverBound
+  pub left_over : read_form query left ≡ refuses over_bound → Answered (merge_outcome less query left right pairs leftConstants rightConstants) out out (Err OverBound)
   unfolding merge_outcome Reported
   left_over e = rw e (refl, refl, refl)
 
@@ -148,11 +148,11 @@ module _ (less query : Bool) (left right pairs leftConstants rightConstants out 
   left-read a e = rw e
 
   module _ (a : Query) where
-    pub right-malformed : read_form query right ≡ refuses malformed → Answered (merge_with less query a right pairs leftConstants rightConstants) out out Malformed
+    pub right-malformed : read_form query right ≡ refuses malformed → Answered (merge_with less query a right pairs leftConstants rightConstants) out out (Err Malformed)
     unfolding merge_with Reported
     right-malformed e = rw e (refl, refl, refl)
 
-    pub right-over : read_form query right ≡ refuses over_bound → Answered (merge_with less query a right pairs leftConstants rightConstants) out out OverBound
+    pub right-over : read_form query right ≡ refuses over_bound → Answered (merge_with less query a right pairs leftConstants rightConstants) out out (Err OverBound)
     unfolding merge_with Reported
     right-over e = rw e (refl, refl, refl)
 
@@ -161,7 +161,7 @@ module _ (less query : Bool) (left right pairs leftConstants rightConstants out 
     unfolding merge_with
     right-read b e may is head h = rw (e, is, h)
 
-pub lists-good : (pairs a b : Bytes) (r : Check) (n : ℕ) → ListsChecked pairs a b r → r ≡ C.Good n → ListsRead pairs a b
+pub lists-good : (pairs a b : Bytes) (r : Check) (n : ℕ) → ListsChecked pairs a b r → r ≡ Ok n → ListsRead pairs a b
 unfolding ListsChecked
 lists-good pairs a b r n c e = subst (ListsChecked pairs a b) e c
 
@@ -170,17 +170,17 @@ module _ (less may : Bool) (head : Bytes) (p q : Pattern) (pairs leftConstants r
   abbrev outcome : Outcome
   outcome = listed_behind less may head p q pairs leftConstants rightConstants
 
-  pub lists-malformed : (out : Bytes) (r : Check) → ListsChecked pairs leftConstants rightConstants r → r ≡ C.Malformed → Answered outcome out out Malformed
+  pub lists-malformed : (out : Bytes) (r : Check) → ListsChecked pairs leftConstants rightConstants r → r ≡ (Err Malformed) → Answered outcome out out (Err Malformed)
   unfolding listed_behind ListsChecked Reported
   lists-malformed out r c e = rw (subst (ListsChecked pairs leftConstants rightConstants) e c _) (refl, refl, refl)
 
-  pub lists-over : (out : Bytes) (r : Check) → ListsChecked pairs leftConstants rightConstants r → r ≡ C.OverBound → Answered outcome out out OverBound
+  pub lists-over : (out : Bytes) (r : Check) → ListsChecked pairs leftConstants rightConstants r → r ≡ (Err OverBound) → Answered outcome out out (Err OverBound)
   unfolding listed_behind ListsChecked Reported
   lists-over out r c e = rw (subst (ListsChecked pairs leftConstants rightConstants) e c _) (refl, refl, refl)
 
   -- and the lists
   module _ (r : ListsRead pairs leftConstants rightConstants) where
-    pub not-mergeable : (out : Bytes) → not may ≡ true → Answered outcome out out NotMergeable
+    pub not-mergeable : (out : Bytes) → not may ≡ true → Answered outcome out out (Err NotMergeable)
     unfolding listed_behind Reported
     not-mergeable out h = rw (r.joins_read, r.left.read, r.right.read, not-true may h) (refl, refl, refl)
 
@@ -193,16 +193,16 @@ module _ (less may : Bool) (head : Bytes) (p q : Pattern) (pairs leftConstants r
       unfolding listed_behind
       merge-asks = rw (r.joins_read, r.left.read, r.right.read, not-false may ok)
 
-      pub left-no-project : (out : Bytes) → as_project p ≡ none → Answered outcome out out NotProject
-      left-no-project out z = answered behind _ out out NotProject merge-asks (O.left-no-project less head p q r.js r.left.list r.right.list out z)
+      pub left-no-project : (out : Bytes) → as_project p ≡ none → Answered outcome out out (Err NotProject)
+      left-no-project out z = answered behind _ out out (Err NotProject) merge-asks (O.left-no-project less head p q r.js r.left.list r.right.list out z)
 
-      pub right-no-project : (out : Bytes) (x : Projection) → as_project p ≡ some x → as_project q ≡ none → Answered outcome out out NotProject
-      right-no-project out x e z = answered behind _ out out NotProject merge-asks (O.right-no-project less head p q r.js r.left.list r.right.list out x e z)
+      pub right-no-project : (out : Bytes) (x : Projection) → as_project p ≡ some x → as_project q ≡ none → Answered outcome out out (Err NotProject)
+      right-no-project out x e z = answered behind _ out out (Err NotProject) merge-asks (O.right-no-project less head p q r.js r.left.list r.right.list out x e z)
 
       -- both trees are projects
       module _ (x y : Projection) (e : as_project p ≡ some x) (f : as_project q ≡ some y) where
-        pub no_pairs : (out : Bytes) → may_combine less (join_positions r.js) ≡ false → Answered outcome out out NoPairs
-        no_pairs out n = answered behind _ out out NoPairs merge-asks (O.no_pairs less head p q r.js r.left.list r.right.list out x y e f n)
+        pub no_pairs : (out : Bytes) → may_combine less (join_positions r.js) ≡ false → Answered outcome out out (Err NoPairs)
+        no_pairs out n = answered behind _ out out (Err NoPairs) merge-asks (O.no_pairs less head p q r.js r.left.list r.right.list out x y e f n)
 
         pub projects-answer : may_combine less (join_positions r.js) ≡ true → (out out' : Bytes) (a : Answer)
             → Answered (joined_behind less head x y r.js r.left.list r.right.list) out out' a → Answered outcome out out' a

@@ -15,8 +15,7 @@ use Rattle.algebra.specs.Reader.{Outcome as Reading, reads, refuses, malformed, 
 use Rattle.algebra.specs.Texts.{read_tree, read_query}
 use Rattle.algebra.specs.Given.{empty_tree, empty_text, read_given_query}
 use Rattle.algebra.proofs.Given.{tree_text, given-as-text, empty-reads}
-use Rattle.checking.specs.declared.check.Noting.{Noting}
-use Rattle.checking.specs.declared.check.Noting.TheVariants.{Good, Malformed, OverBound}
+use Rattle.checking.specs.bridge.Walks.{counts, Noting}
 use Rattle.reading.specs.bridge.Variables.{tree_names, query_names}
 use Rattle.reading.specs.bridge.Charted.{Charted, tree_start, query_start}
 use Rattle.reading.proofs.ChartSaid.{chart-good, chart-malformed, chart-over}
@@ -31,6 +30,8 @@ use Rattle.projects.specs.bridge.Joining.{StandsAt, HasRoom, HasNodes, half, res
 use Rattle.projects.proofs.Known.{tree-stands, query-stands, tree-count, query-count, good-tree, good-query, tree-nodes, query-nodes, tree-shaped, query-shaped, nodes-kept}
 use Rattle.projects.proofs.Halves.{shaped_in, half_room, half-nodes, room-left, nodes-left}
 use Rattle.joining.specs.bridge.Form.{headless, read_form, head_of, HeadIs, may_merge, StartsAt, stands_in, stands_from, RoomFor, HalvesFor, NotedTree, GoodForm, NotedForm}
+use Rattle.std.specs.Prelude.{Ok, Err}
+use Rattle.algebra.specs.declared.Fault.TheVariants.{Malformed, OverBound}
 
 -- ---- the functions of a form, by its two ways
 
@@ -78,7 +79,7 @@ module _ (s : Bytes) (from : ℕ) where
 said_same : {A : Type 0} (o : Reading A) (a b : A) → o ≡ reads a → o ≡ reads b → a ≡ b
 said_same o a b e f = cc
 
-module _ (s : Bytes) (a l h : List ℕ) (before after words b : List (List ℕ)) (r : Noting) (n k m : ℕ) (good : r ≡ Good n k m) where
+module _ (s : Bytes) (a l h : List ℕ) (before after words b : List (List ℕ)) (r : Noting) (n k m : ℕ) (good : r ≡ Ok (counts n k m)) where
   noted-tree : Charted tree_names tree_start s a l h before after words b (read_tree s) r → (p : Pattern) → read_tree s ≡ reads p → NotedTree s 0 a l before after words b n k m p
   noted-tree c p e = record {
     few = λ room. tree-count s a l h before after words b r n k m good room c;
@@ -122,45 +123,54 @@ empty-as-text = sym (given-as-text []) ∙ empty-reads
 module _ (s : Bytes) (from : ℕ) (a l h : List ℕ) (before after words b : List (List ℕ)) where
   tree-form : from ≡ 0 → (r : Noting) → Charted tree_names tree_start (tree_text s) a l h before after words b (read_tree (tree_text s)) r → NotedForm false s from a l before after words b r
   unfolding NotedForm
-  tree-form z (Good n k m) c =
-      let g = chart-good tree_names tree_start (tree_text s) a l h before after words b (Good n k m) (read_tree (tree_text s)) n k m c refl in
+  tree-form z (Ok d) c =
+      let n = d.names in
+      let k = d.spots in
+      let m = d.nodes in
+      let g = chart-good tree_names tree_start (tree_text s) a l h before after words b (Ok (counts n k m)) (read_tree (tree_text s)) n k m c refl in
       record {
         said = headless g.value;
         read = ap (made headless) (given-as-text s ∙ g.read);
         head = ap (λ (i : ℕ). take i s) z;
-        tree = subst (λ (i : ℕ). NotedTree (stands_in s i) (stands_from s i) a l before after words b n k m g.value) (sym z) (moved (tree_text s) (stands_in s 0) 0 (stands_from s 0) a l before after words b n k m g.value g.value (tree-in s) (tree-from s) refl (noted-tree (tree_text s) a l h before after words b (Good n k m) n k m refl c g.value g.read));
+        tree = subst (λ (i : ℕ). NotedTree (stands_in s i) (stands_from s i) a l before after words b n k m g.value) (sym z) (moved (tree_text s) (stands_in s 0) 0 (stands_from s 0) a l before after words b n k m g.value g.value (tree-in s) (tree-from s) refl (noted-tree (tree_text s) a l h before after words b (Ok (counts n k m)) n k m refl c g.value g.read));
       }
-  tree-form z Malformed c = ap (made headless) (given-as-text s ∙ chart-malformed tree_names tree_start (tree_text s) a l h before after words b Malformed (read_tree (tree_text s)) c refl)
-  tree-form z OverBound c = ap (made headless) (given-as-text s ∙ chart-over tree_names tree_start (tree_text s) a l h before after words b OverBound (read_tree (tree_text s)) c refl)
+  tree-form z (Err Malformed) c = ap (made headless) (given-as-text s ∙ chart-malformed tree_names tree_start (tree_text s) a l h before after words b (Err Malformed) (read_tree (tree_text s)) c refl)
+  tree-form z (Err OverBound) c = ap (made headless) (given-as-text s ∙ chart-over tree_names tree_start (tree_text s) a l h before after words b (Err OverBound) (read_tree (tree_text s)) c refl)
 
   query-form : Starts s from → from < length s → (r : Noting) → Charted query_names query_start s a l h before after words b (read_query s) r → NotedForm true s from a l before after words b r
   unfolding NotedForm
-  query-form st more (Good n k m) c =
-      let g = chart-good query_names query_start s a l h before after words b (Good n k m) (read_query s) n k m c refl in
+  query-form st more (Ok d) c =
+      let n = d.names in
+      let k = d.spots in
+      let m = d.nodes in
+      let g = chart-good query_names query_start s a l h before after words b (Ok (counts n k m)) (read_query s) n k m c refl in
       let read = st.same more ∙ g.read in
       let at = st.given g.value read in
       record {
         said = g.value;
         read = read;
         head = at.head;
-        tree = moved s (stands_in s from) from (stands_from s from) a l before after words b n k m g.value.tree g.value.tree (stands_here s empty_text s from more refl) (place_here s from more) refl (noted-query s a l h before after words b (Good n k m) n k m refl c g.value g.read from st.high (at.stands more).1);
+        tree = moved s (stands_in s from) from (stands_from s from) a l before after words b n k m g.value.tree g.value.tree (stands_here s empty_text s from more refl) (place_here s from more) refl (noted-query s a l h before after words b (Ok (counts n k m)) n k m refl c g.value g.read from st.high (at.stands more).1);
       }
-  query-form st more Malformed c = st.same more ∙ chart-malformed query_names query_start s a l h before after words b Malformed (read_query s) c refl
-  query-form st more OverBound c = st.same more ∙ chart-over query_names query_start s a l h before after words b OverBound (read_query s) c refl
+  query-form st more (Err Malformed) c = st.same more ∙ chart-malformed query_names query_start s a l h before after words b (Err Malformed) (read_query s) c refl
+  query-form st more (Err OverBound) c = st.same more ∙ chart-over query_names query_start s a l h before after words b (Err OverBound) (read_query s) c refl
 
   alone-form : Starts s from → length s ≤ from → (q : Query) → read_given_query s ≡ reads q → (r : Noting) → Charted tree_names tree_start empty_text a l h before after words b (read_tree empty_text) r → NotedForm true s from a l before after words b r
   unfolding NotedForm
-  alone-form st last q e (Good n k m) c =
+  alone-form st last q e (Ok d) c =
+      let n = d.names in
+      let k = d.spots in
+      let m = d.nodes in
       let at = st.given q e in
       let high = st.high in
       record {
         said = q;
         read = e;
         head = at.head;
-        tree = moved empty_text (stands_in s from) 0 (stands_from s from) a l before after words b n k m empty_tree q.tree (stands-there s empty_text empty_text from last refl) (place-there s from last) (sym (at.alone (omega (arith, high, last)))) (noted-tree empty_text a l h before after words b (Good n k m) n k m refl c empty_tree empty-as-text);
+        tree = moved empty_text (stands_in s from) 0 (stands_from s from) a l before after words b n k m empty_tree q.tree (stands-there s empty_text empty_text from last refl) (place-there s from last) (sym (at.alone (omega (arith, high, last)))) (noted-tree empty_text a l h before after words b (Ok (counts n k m)) n k m refl c empty_tree empty-as-text);
       }
-  alone-form st last q e Malformed c = let w = chart-malformed tree_names tree_start empty_text a l h before after words b Malformed (read_tree empty_text) c refl in let t = empty-as-text in let z : ◌≡◌ {A = ℕ} 0 1 = cc in absurd (omega arith)
-  alone-form st last q e OverBound c = let w = chart-over tree_names tree_start empty_text a l h before after words b OverBound (read_tree empty_text) c refl in let t = empty-as-text in let z : ◌≡◌ {A = ℕ} 0 1 = cc in absurd (omega arith)
+  alone-form st last q e (Err Malformed) c = let w = chart-malformed tree_names tree_start empty_text a l h before after words b (Err Malformed) (read_tree empty_text) c refl in let t = empty-as-text in let z : ◌≡◌ {A = ℕ} 0 1 = cc in absurd (omega arith)
+  alone-form st last q e (Err OverBound) c = let w = chart-over tree_names tree_start empty_text a l h before after words b (Err OverBound) (read_tree empty_text) c refl in let t = empty-as-text in let z : ◌≡◌ {A = ℕ} 0 1 = cc in absurd (omega arith)
 
 -- ---- the ways of a check, where the form is told by a test
 
@@ -192,24 +202,24 @@ pub stands-empty : (s t : Bytes) (from : ℕ) → t ≡ stands_in s from → len
 stands-empty s t from is last = is ∙ ap (λ (b : Bool). cond b s empty_text) (le-ltb from (length s) last)
 
 module _ (s : Bytes) (from : ℕ) (a l : List ℕ) (before after words b : List (List ℕ)) where
-  pub form-malformed : read_given_query s ≡ refuses malformed → NotedForm true s from a l before after words b Malformed
+  pub form-malformed : read_given_query s ≡ refuses malformed → NotedForm true s from a l before after words b (Err Malformed)
   unfolding NotedForm
   form-malformed e = e
 
-  pub form-over : read_given_query s ≡ refuses over_bound → NotedForm true s from a l before after words b OverBound
+  pub form-over : read_given_query s ≡ refuses over_bound → NotedForm true s from a l before after words b (Err OverBound)
   unfolding NotedForm
   form-over e = e
 
   module _ (query : Bool) (r : Noting) (c : NotedForm query s from a l before after words b r) where
-    pub as-malformed : r ≡ Malformed → read_form query s ≡ refuses malformed
+    pub as-malformed : r ≡ Err Malformed → read_form query s ≡ refuses malformed
     unfolding NotedForm
     as-malformed e = subst (NotedForm query s from a l before after words b) e c
 
-    pub as-over : r ≡ OverBound → read_form query s ≡ refuses over_bound
+    pub as-over : r ≡ Err OverBound → read_form query s ≡ refuses over_bound
     unfolding NotedForm
     as-over e = subst (NotedForm query s from a l before after words b) e c
 
-    pub as-good : (n k m : ℕ) → r ≡ Good n k m → GoodForm query s from a l before after words b n k m
+    pub as-good : (n k m : ℕ) → r ≡ Ok (counts n k m) → GoodForm query s from a l before after words b n k m
     unfolding NotedForm
     as-good n k m e = subst (NotedForm query s from a l before after words b) e c
 

@@ -7,8 +7,8 @@ ghost use Rattle.names.specs.bridge.Names.{starts_of, sizes_of};
 ghost use Rattle.words.specs.bridge.Words.{Worded};
 ghost use Rattle.joining.specs.bridge.Form.{HeadIs, may_merge, StartsAt, stands_in, stands_from, NotedForm};
 
-use algebra::Answer as Check;
-use checking::check::Noting;
+use algebra::Fault;
+use checking::check::Counted;
 use heads::{is_mergeable, tree_start};
 use lines::fields::{Node, Spot};
 use names::Entry;
@@ -55,15 +55,12 @@ fn note_alone(
     hints: &mut [u16; 2048],
     spots: &mut [Spot],
     nodes: &mut [Node],
-) -> Noting
+) -> Result<Counted, Fault>
     requires { Worded words.now × StartsAt true query.now from × (length query.now ≤ from) × (stands.now ≡ empty_text) }
     ensures { NotedForm true query.now from (starts_of table.new) (sizes_of table.new) spots.old spots.new words.now nodes.new result }
 {
-    match check_query(query, words, table, hints) {
-        Check::Good(_) => note_tree(stands, words, table, hints, spots, nodes),
-        Check::Malformed => Noting::Malformed,
-        Check::OverBound => Noting::OverBound,
-    }
+    check_query(query, words, table, hints)?;
+    note_tree(stands, words, table, hints, spots, nodes)
 }
 
 // The check of a text, with the names, the variables and the lines of its tree, which stands in a text.
@@ -77,7 +74,7 @@ pub fn note_form(
     hints: &mut [u16; 2048],
     spots: &mut [Spot],
     nodes: &mut [Node],
-) -> Noting
+) -> Result<Counted, Fault>
     requires { Worded words.now × StartsAt query text.now from × (stands.now ≡ stands_in text.now from) }
     ensures { NotedForm query text.now from (starts_of table.new) (sizes_of table.new) spots.old spots.new words.now nodes.new result }
 {

@@ -10,12 +10,11 @@ ghost use Rattle.merging.specs.bridge.Combined.{may_combine};
 ghost use Rattle.projects.specs.bridge.Joining.{StandsAt, rest, BothShaped, ListsRead, TermsChecked, ListsChecked};
 ghost use Rattle.words.specs.bridge.Words.{Worded};
 ghost use Rattle.descending.specs.bridge.Renamed.{Shaped};
-ghost use Rattle.joining.specs.bridge.Form.{HeadIs, listed_behind, merge_with, merge_outcome, RoomFor, HalvesFor};
+ghost use Rattle.joining.specs.bridge.Form.{HeadIs, listed_behind, merge_with, merge_outcome, RoomFor, HalvesFor, RoomInHalf};
 
 use crate::forms::{may_merge, new_tables, note_form, place_of, start_of, text_of};
-use algebra::{Answer as Check, EMPTY_TREE};
-use answers::Answer;
-use checking::check::Noting;
+use algebra::{EMPTY_TREE, Fault};
+use answers::{Answer, Refusal};
 use lines::fields::{Node, Spot};
 use lists::{check_constants, check_joins};
 use names::Entry;
@@ -33,35 +32,23 @@ pub struct Form {
 }
 
 // The check of two constant lists, in the specification's order.
-fn check_terms(left_constants: &[u8], right_constants: &[u8]) -> Check
+fn check_terms(left_constants: &[u8], right_constants: &[u8]) -> Result<usize, Fault>
     ensures { TermsChecked left_constants.now right_constants.now result }
 {
-    match check_constants(left_constants) {
-        Check::Good(_) => check_constants(right_constants),
-        Check::Malformed => Check::Malformed,
-        Check::OverBound => Check::OverBound,
-    }
+    check_constants(left_constants)?;
+    check_constants(right_constants)
 }
 
 // The check of the three lists, in the specification's order.
-pub fn check_lists(pairs: &[u8], left_constants: &[u8], right_constants: &[u8]) -> Check
+pub fn check_lists(
+    pairs: &[u8],
+    left_constants: &[u8],
+    right_constants: &[u8],
+) -> Result<usize, Fault>
     ensures { ListsChecked pairs.now left_constants.now right_constants.now result }
 {
-    match check_joins(pairs) {
-        Check::Good(_) => check_terms(left_constants, right_constants),
-        Check::Malformed => Check::Malformed,
-        Check::OverBound => Check::OverBound,
-    }
-}
-
-// The longer of two lengths.
-fn longer(a: usize, b: usize) -> usize
-    ensures { (a ≤ result) × (b ≤ result) }
-{
-    if a < b {
-        return b;
-    }
-    a
+    check_joins(pairs)?;
+    check_terms(left_constants, right_constants)
 }
 
 // Two trees that were checked, and whether the heads that they stand behind let them be merged.
@@ -101,17 +88,17 @@ fn merge_checked(
     ensures { (p q : Pattern) → StandsAt 0 left.now both.texts.left tables.now (take both.texts.spots spots.old) p → StandsAt 1 right.now both.texts.right tables.now (rest both.texts.spots spots.old) q → Answered (listed_behind both.texts.minus both.mergeable head.now p q pairs.now left_constants.now right_constants.now) out.old out.new result }
 {
     if !both.mergeable {
-        return Answer::NotMergeable;
+        return Err(Refusal::NotMergeable);
     }
     let texts = both.texts;
     if !is_project(left, texts.left.from) {
-        return Answer::NotProject;
+        return Err(Refusal::NotProject);
     }
     if !is_project(right, texts.right.from) {
-        return Answer::NotProject;
+        return Err(Refusal::NotProject);
     }
     if lacks_pairs(texts.minus, pairs) {
-        return Answer::NoPairs;
+        return Err(Refusal::NoPairs);
     }
     merge_projects(
         words,
@@ -147,24 +134,21 @@ fn merge_listed(
     requires { ((p : Pattern) × StandsAt 0 left.now both.texts.left tables.now (take both.texts.spots spots.old) p) × ((q : Pattern) × StandsAt 1 right.now both.texts.right tables.now (rest both.texts.spots spots.old) q) × Worded words.now × BothShaped words.now nodes.now both.texts.nodes spots.old both.texts.spots }
     ensures { (p q : Pattern) → StandsAt 0 left.now both.texts.left tables.now (take both.texts.spots spots.old) p → StandsAt 1 right.now both.texts.right tables.now (rest both.texts.spots spots.old) q → Answered (listed_behind both.texts.minus both.mergeable head.now p q pairs.now left_constants.now right_constants.now) out.old out.new result }
 {
-    match check_lists(pairs, left_constants, right_constants) {
-        Check::Good(_) => merge_checked(
-            words,
-            head,
-            left,
-            right,
-            both,
-            tables,
-            nodes,
-            spots,
-            pairs,
-            left_constants,
-            right_constants,
-            out,
-        ),
-        Check::Malformed => Answer::Malformed,
-        Check::OverBound => Answer::OverBound,
-    }
+    check_lists(pairs, left_constants, right_constants)?;
+    merge_checked(
+        words,
+        head,
+        left,
+        right,
+        both,
+        tables,
+        nodes,
+        spots,
+        pairs,
+        left_constants,
+        right_constants,
+        out,
+    )
 }
 
 // A left tree that was checked, how many spots and nodes it has, the form of both texts, and whether a minus stands in
@@ -203,7 +187,7 @@ fn merge_right(
     let k = noted.spots;
     let m = noted.nodes;
     let mut hints = [0u16; 2048];
-    match note_form(
+    let right_noted = note_form(
         noted.query,
         words,
         right,
@@ -213,39 +197,37 @@ fn merge_right(
         &mut hints,
         &mut spots[k..],
         &mut nodes[m..],
-    ) {
-        Noting::Good(n, more_spots, more_nodes) => {
-            let mergeable = may_merge(noted.query, head, piece(right, 0, start));
-            let from = place_of(right, start);
-            let i = k + more_spots;
-            let j = m + more_nodes;
-            merge_listed(
-                words,
-                head,
-                left,
-                stands,
-                Both {
-                    texts: Texts {
-                        left: standing,
-                        right: Standing { from, n },
-                        spots: k,
-                        nodes: m,
-                        minus: noted.minus,
-                    },
-                    mergeable,
+    )?;
+    let mergeable = may_merge(noted.query, head, piece(right, 0, start));
+    let from = place_of(right, start);
+    let i = k + right_noted.spots;
+    let j = m + right_noted.nodes;
+    merge_listed(
+        words,
+        head,
+        left,
+        stands,
+        Both {
+            texts: Texts {
+                left: standing,
+                right: Standing {
+                    from,
+                    n: right_noted.names,
                 },
-                tables,
-                &nodes[..j],
-                &mut spots[..i],
-                pairs,
-                left_constants,
-                right_constants,
-                out,
-            )
-        }
-        Noting::Malformed => Answer::Malformed,
-        Noting::OverBound => Answer::OverBound,
-    }
+                spots: k,
+                nodes: m,
+                minus: noted.minus,
+            },
+            mergeable,
+        },
+        tables,
+        &nodes[..j],
+        &mut spots[..i],
+        pairs,
+        left_constants,
+        right_constants,
+        out,
+    )
 }
 
 // The same for any two texts, with room for their variables: half of it is the left text's, and the right text has what that leaves. The
@@ -272,7 +254,7 @@ fn merge_left(
     let j = nodes.len() / 2;
     let mut tables = new_tables();
     let mut hints = [0u16; 2048];
-    match note_form(
+    let noted = note_form(
         form.query,
         &words,
         left,
@@ -282,37 +264,36 @@ fn merge_left(
         &mut hints,
         &mut spots[..i],
         &mut nodes[..j],
-    ) {
-        Noting::Good(n, k, m) => {
-            let from = place_of(left, start);
-            merge_right(
-                &words,
-                piece(left, 0, start),
-                stands,
-                right,
-                Noted {
-                    query: form.query,
-                    minus: form.minus,
-                    standing: Standing { from, n },
-                    spots: k,
-                    nodes: m,
-                },
-                &mut tables,
-                nodes,
-                spots,
-                pairs,
-                left_constants,
-                right_constants,
-                out,
-            )
-        }
-        Noting::Malformed => Answer::Malformed,
-        Noting::OverBound => Answer::OverBound,
-    }
+    )?;
+    let from = place_of(left, start);
+    merge_right(
+        &words,
+        piece(left, 0, start),
+        stands,
+        right,
+        Noted {
+            query: form.query,
+            minus: form.minus,
+            standing: Standing {
+                from,
+                n: noted.names,
+            },
+            spots: noted.spots,
+            nodes: noted.nodes,
+        },
+        &mut tables,
+        nodes,
+        spots,
+        pairs,
+        left_constants,
+        right_constants,
+        out,
+    )
 }
 
-// The same for texts of 1,536 bytes at most: room for their variables is cleared first, so there is as much as pays.
-fn merge_small(
+// The same with so many nodes and spots, which are cleared first: half of them are a text's. Each size has a frame of its own.
+#[inline(never)]
+fn merge_in<const NODES: usize, const SPOTS: usize>(
     form: Form,
     left: &[u8],
     right: &[u8],
@@ -321,11 +302,11 @@ fn merge_small(
     right_constants: &[u8],
     out: &mut [u8],
 ) -> Answer
-    requires { (length left.now ≤ 1536) × (length right.now ≤ 1536) }
+    requires { (NODES ≤ 4096) × (SPOTS ≤ 10924) × (28 ≤ SPOTS) × (28 ≤ NODES) × RoomInHalf left.now NODES SPOTS × RoomInHalf right.now NODES SPOTS }
     ensures { Answered (merge_outcome form.minus form.query left.now right.now pairs.now left_constants.now right_constants.now) out.old out.new result }
 {
-    let mut nodes = [[0u32; 3]; 1024];
-    let mut spots = [[0u16; 3]; 1024];
+    let mut nodes = [[0u32; 3]; NODES];
+    let mut spots = [[0u16; 3]; SPOTS];
     merge_left(
         form,
         left,
@@ -339,62 +320,7 @@ fn merge_small(
     )
 }
 
-// The same for texts of 6,144 bytes at most.
-fn merge_middle(
-    form: Form,
-    left: &[u8],
-    right: &[u8],
-    pairs: &[u8],
-    left_constants: &[u8],
-    right_constants: &[u8],
-    out: &mut [u8],
-) -> Answer
-    requires { (length left.now ≤ 6144) × (length right.now ≤ 6144) }
-    ensures { Answered (merge_outcome form.minus form.query left.now right.now pairs.now left_constants.now right_constants.now) out.old out.new result }
-{
-    let mut nodes = [[0u32; 3]; 4096];
-    let mut spots = [[0u16; 3]; 4096];
-    merge_left(
-        form,
-        left,
-        right,
-        &mut nodes,
-        &mut spots,
-        pairs,
-        left_constants,
-        right_constants,
-        out,
-    )
-}
-
-// The same for any texts.
-fn merge_large(
-    form: Form,
-    left: &[u8],
-    right: &[u8],
-    pairs: &[u8],
-    left_constants: &[u8],
-    right_constants: &[u8],
-    out: &mut [u8],
-) -> Answer
-    ensures { Answered (merge_outcome form.minus form.query left.now right.now pairs.now left_constants.now right_constants.now) out.old out.new result }
-{
-    let mut nodes = [[0u32; 3]; 4096];
-    let mut spots = [[0u16; 3]; 10924];
-    merge_left(
-        form,
-        left,
-        right,
-        &mut nodes,
-        &mut spots,
-        pairs,
-        left_constants,
-        right_constants,
-        out,
-    )
-}
-
-// The same with as much room as the longer text asks for.
+// The same with as many nodes and spots as pays for the longer text.
 pub fn merge_texts(
     form: Form,
     left: &[u8],
@@ -406,9 +332,8 @@ pub fn merge_texts(
 ) -> Answer
     ensures { Answered (merge_outcome form.minus form.query left.now right.now pairs.now left_constants.now right_constants.now) out.old out.new result }
 {
-    let most = longer(left.len(), right.len());
-    if most <= 1536 {
-        return merge_small(
+    match left.len().max(right.len()) {
+        0..=1536 => merge_in::<1024, 1024>(
             form,
             left,
             right,
@@ -416,10 +341,8 @@ pub fn merge_texts(
             left_constants,
             right_constants,
             out,
-        );
-    }
-    if most <= 6144 {
-        return merge_middle(
+        ),
+        1537..=6144 => merge_in::<4096, 4096>(
             form,
             left,
             right,
@@ -427,15 +350,15 @@ pub fn merge_texts(
             left_constants,
             right_constants,
             out,
-        );
+        ),
+        _ => merge_in::<4096, 10924>(
+            form,
+            left,
+            right,
+            pairs,
+            left_constants,
+            right_constants,
+            out,
+        ),
     }
-    merge_large(
-        form,
-        left,
-        right,
-        pairs,
-        left_constants,
-        right_constants,
-        out,
-    )
 }

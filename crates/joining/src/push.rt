@@ -6,15 +6,14 @@ ghost use Rattle.heads.specs.bridge.TreeAt.{HeadOf};
 ghost use Rattle.sides.specs.bridge.Side.{Stands};
 ghost use Rattle.projects.specs.bridge.Joining.{KnownTerms};
 ghost use Rattle.joining.specs.bridge.Form.{RoomFor, push_with};
-ghost use Rattle.std.specs.Prelude.{length};
+ghost use Rattle.std.specs.Prelude.{ℕ, ◌≤◌, ◌*◌, length};
 ghost use Rattle.names.specs.bridge.Names.{starts_of, sizes_of};
 ghost use Rattle.words.specs.bridge.Words.{Worded};
 ghost use Rattle.descending.specs.bridge.Renamed.{Shaped};
 
 use crate::forms::{note_form, place_of, start_of, text_of};
-use algebra::{Answer as Check, EMPTY_TREE};
+use algebra::EMPTY_TREE;
 use answers::Answer;
-use checking::check::Noting;
 use heads::{copy_behind, is_select_or_ask};
 use lines::fields::{Node, Spot};
 use lists::check_constants;
@@ -66,13 +65,10 @@ fn push_by(
     requires { ((q : Query) × Stands text.now standing.from (starts_of table.now) (sizes_of table.now) standing.n spots.old q.tree × HeadOf head.now q) × Worded words.now × Shaped words.now nodes.now (length nodes.now) (length spots.old) }
     ensures { (q : Query) → Stands text.now standing.from (starts_of table.now) (sizes_of table.now) standing.n spots.old q.tree → HeadOf head.now q → Answered (push_with q constants.now) out.old out.new result }
 {
-    match check_constants(constants) {
-        Check::Good(_) => push_of(
-            words, head, text, standing, table, nodes, spots, constants, out,
-        ),
-        Check::Malformed => Answer::Malformed,
-        Check::OverBound => Answer::OverBound,
-    }
+    check_constants(constants)?;
+    push_of(
+        words, head, text, standing, table, nodes, spots, constants, out,
+    )
 }
 
 // The same for any query, with room for its variables.
@@ -92,44 +88,49 @@ fn push_with(
     let stands = text_of(query, start, &empty);
     let mut table = new_table();
     let mut hints = [0u16; 2048];
-    match note_form(
+    let noted = note_form(
         true, words, query, start, stands, &mut table, &mut hints, spots, nodes,
-    ) {
-        Noting::Good(n, k, m) => {
-            let from = place_of(query, start);
-            push_by(
-                words,
-                piece(query, 0, start),
-                stands,
-                Standing { from, n },
-                &table,
-                &nodes[..m],
-                &mut spots[..k],
-                constants,
-                out,
-            )
-        }
-        Noting::Malformed => Answer::Malformed,
-        Noting::OverBound => Answer::OverBound,
-    }
+    )?;
+    let from = place_of(query, start);
+    push_by(
+        words,
+        piece(query, 0, start),
+        stands,
+        Standing {
+            from,
+            n: noted.names,
+        },
+        &table,
+        &nodes[..noted.nodes],
+        &mut spots[..noted.spots],
+        constants,
+        out,
+    )
 }
 
-// push constants: query and constants to query. There are as many spots as pays: they are cleared first.
-pub fn push_constants(query: &[u8], constants: &[u8], out: &mut [u8]) -> Answer
+// The same with so many nodes and spots, which are cleared first. Each size has a frame of its own.
+#[inline(never)]
+fn push_in<const NODES: usize, const SPOTS: usize>(
+    query: &[u8],
+    constants: &[u8],
+    out: &mut [u8],
+) -> Answer
+    requires { (NODES ≤ 2048) × (SPOTS ≤ 5462) × (14 ≤ SPOTS) × (14 ≤ NODES) × (length query.now ≤ 16384 → length query.now ≤ 3 * SPOTS) × ((m : ℕ) → 3 * m ≤ length query.now → m ≤ 2048 → m ≤ NODES) }
     ensures { Answered (push_constants_outcome query.now constants.now) out.old out.new result }
 {
     let words = all_words();
-    if query.len() <= 1536 {
-        let mut nodes = [[0u32; 3]; 512];
-        let mut spots = [[0u16; 3]; 512];
-        return push_with(&words, query, &mut nodes, &mut spots, constants, out);
-    }
-    if query.len() <= 6144 {
-        let mut nodes = [[0u32; 3]; 2048];
-        let mut spots = [[0u16; 3]; 2048];
-        return push_with(&words, query, &mut nodes, &mut spots, constants, out);
-    }
-    let mut nodes = [[0u32; 3]; 2048];
-    let mut spots = [[0u16; 3]; 5462];
+    let mut nodes = [[0u32; 3]; NODES];
+    let mut spots = [[0u16; 3]; SPOTS];
     push_with(&words, query, &mut nodes, &mut spots, constants, out)
+}
+
+// push constants: query and constants to query, with as many nodes and spots as pays.
+pub fn push_constants(query: &[u8], constants: &[u8], out: &mut [u8]) -> Answer
+    ensures { Answered (push_constants_outcome query.now constants.now) out.old out.new result }
+{
+    match query.len() {
+        0..=1536 => push_in::<512, 512>(query, constants, out),
+        1537..=6144 => push_in::<2048, 2048>(query, constants, out),
+        _ => push_in::<2048, 5462>(query, constants, out),
+    }
 }

@@ -25,3 +25,4 @@ pub mod AlikeWithout
 pub mod AlikeReported
 pub mod Theorem
 pub mod AlikeWorked
+pub mod ReadWhole

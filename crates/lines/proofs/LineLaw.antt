@@ -1,5 +1,5 @@
 -- What a line asks for, or how it is refused: one law a way out, and how the line is counted. Assumes nothing.
-use Prim.Native.Nat.{ℕ, zero, suc, ◌+◌, ◌≤◌, ◌<◌, pred, max}
+use Prim.Native.Nat.{ℕ, zero, suc, ◌≤◌, ◌<◌, pred, max}
 use mathlib.Core.Path.{◌≡◌, refl, ◌∙◌}
 use mathlib.Core.List.{List, [], ◌∷◌, ◌++◌}
 use mathlib.Core.Bool.{Bool, true, false, cond, ◌&&◌}

@@ -1,5 +1,5 @@
 -- A line by its word and its fields: the spots that were noted are those of the walk, and it asks for what the walk goes on with. Assumes nothing.
-use Prim.Native.Nat.{ℕ, zero, suc, ◌+◌, ◌-◌, ◌/◌, ◌%◌, ◌≤◌, ◌<◌}
+use Prim.Native.Nat.{ℕ, zero, suc, ◌+◌, ◌/◌, ◌%◌, ◌≤◌, ◌<◌}
 use mathlib.Core.Path.{◌≡◌, refl, sym, ◌∙◌, ap, ap₂, subst}
 use mathlib.Core.List.{List, [], ◌∷◌, ◌++◌, append-nil}
 use mathlib.Core.Bool.{Bool, true, false, cond, not, ◌&&◌, ◌||◌, false≢true}
@@ -21,11 +21,8 @@ use Rattle.scoping.specs.bridge.Places.{Mark}
 use Rattle.scoping.specs.bridge.Walk.{State, state, number_in, hides, beneath, whole}
 use Rattle.scoping.specs.bridge.Spots.{Spot, spots_in, fields_size, Node, node, Group, noted, Trace, trace, line_spots, line_nodes, spot_line}
 use Rattle.words.specs.declared.Row.{Row as Code}
-use Rattle.words.specs.declared.Found.{Found}
-use Rattle.words.specs.declared.Found.TheVariants.{Is}
-use Rattle.words.specs.bridge.Code.{one_slot, slots_in, mapped, sort_at, row_of, row_found, sorts_in, counting, counts_in, in_tree, Tidy, flag_of, Flags}
+use Rattle.words.specs.bridge.Code.{Found, one_slot, slots_in, mapped, sort_at, row_of, row_found, sorts_in, counting, counts_in, in_tree, Tidy, flag_of, Flags}
 use Rattle.lines.specs.declared.line.Asked.{Asked}
-use Rattle.lines.specs.declared.line.Line.TheVariants.{Asks, Malformed, OverBound}
 use Rattle.lines.specs.bridge.Below.{amount_in}
 use Rattle.lines.specs.bridge.Line.{and_then, Took, took, take_field, Fields, fields, take_slots, take_tail, take_line}
 use Rattle.lines.specs.bridge.Line as W
@@ -40,6 +37,8 @@ use Rattle.lines.proofs.SlotLaw.{slots-more, under-others}
 use Rattle.lines.proofs.StoreLaw.{keeps-at, keeps_cut}
 use Rattle.lines.proofs.SpotsLaw.{choice-count, left-size, behind, found-end}
 use Rattle.lines.proofs.WalkLaw.{beneath-same, groups-same, whole-line}
+use Rattle.std.specs.Prelude.{Some, Ok, Err}
+use Rattle.algebra.specs.declared.Fault.TheVariants.{Malformed, OverBound}
 
 -- ---- what the word means for names
 
@@ -248,7 +247,7 @@ long-word parts w r n e = absurd (false≢true n)
 -- ---- the line
 
 module _ (s : Bytes) (c : Cursor) (e : ℕ) (d : Cursor) (i : InLine s c) (low : c.at ≤ c.end) (here : Next s c e d) (sort mark : ℕ) (f : Found) (is : row_found f ≡ row_for (sort_at sort) (field s c e d i here))
-    (flags : Flags (field s c e d i here) f) (tidy : Tidy sort f) (row : Code) (q : f ≡ Is row) (width : ℕ) (b : Cursor) (x y k : ℕ)
+    (flags : Flags (field s c e d i here) f) (tidy : Tidy sort f) (row : Code) (q : f ≡ Some row) (width : ℕ) (b : Cursor) (x y k : ℕ)
     (says : Says d (take_line (row_of row) width (left_at s d)) (row_of row).tail b x y k) (z : b.at ≡ d.end + 1)
     (a l : List ℕ) (n : ℕ) (p : List (List ℕ)) (j : ℕ) (a' l' : List ℕ) (n' : ℕ) (p' : List (List ℕ)) (j' r : ℕ)
     (adds : b.at ≡ d.end + 1 → row.behind ≤ 3 → Adds s (store a l n p j) d.at (store a' l' n' p' j') b.at (found (mark_at mark) (row_of row).slots s d) (found (mark_at mark) [] s b))
@@ -350,7 +349,7 @@ module _ (s : Bytes) (c : Cursor) (e : ℕ) (d : Cursor) (i : InLine s c) (low :
     head = head-row;
   }
 
-  pub line-notes : sort ≤ 7 → LineNotes s a l n p j a' l' p' c sort mark (Asks answer)
+  pub line-notes : sort ≤ 7 → LineNotes s a l n p j a' l' p' c sort mark (Ok answer)
   unfolding LineNotes
   line-notes h xs kp = go (eqb row.flag 2) refl
     where
@@ -376,10 +375,10 @@ module _ (s : Bytes) (c : Cursor) (e : ℕ) (d : Cursor) (i : InLine s c) (low :
       go false t = (xs ++ step.0, subst (λ (v : ℕ). Keeps s (store a' l' n' p' v) (c.end + 1) (xs ++ step.0)) (sym (counted ∙ rw t)) kb, λ trees ls ns. walk_is h xs (xs ++ step.0) ns (put_is h xs (xs ++ step.0) (ap (λ (v : List Spot). xs ++ v) got ∙ rw t) ns) trees ls)
 
 -- a line that is refused has no spots to tell
-pub none-wrong : (s : Bytes) (a l : List ℕ) (n : ℕ) (p : List (List ℕ)) (k : ℕ) (a' l' : List ℕ) (p' : List (List ℕ)) (c : Cursor) (sort mark : ℕ) → LineNotes s a l n p k a' l' p' c sort mark Malformed
+pub none-wrong : (s : Bytes) (a l : List ℕ) (n : ℕ) (p : List (List ℕ)) (k : ℕ) (a' l' : List ℕ) (p' : List (List ℕ)) (c : Cursor) (sort mark : ℕ) → LineNotes s a l n p k a' l' p' c sort mark (Err Malformed)
 unfolding LineNotes
 none-wrong s a l n p k a' l' p' c sort mark = tt
 
-pub none_over : (s : Bytes) (a l : List ℕ) (n : ℕ) (p : List (List ℕ)) (k : ℕ) (a' l' : List ℕ) (p' : List (List ℕ)) (c : Cursor) (sort mark : ℕ) → LineNotes s a l n p k a' l' p' c sort mark OverBound
+pub none_over : (s : Bytes) (a l : List ℕ) (n : ℕ) (p : List (List ℕ)) (k : ℕ) (a' l' : List ℕ) (p' : List (List ℕ)) (c : Cursor) (sort mark : ℕ) → LineNotes s a l n p k a' l' p' c sort mark (Err OverBound)
 unfolding LineNotes
 none_over s a l n p k a' l' p' c sort mark = tt

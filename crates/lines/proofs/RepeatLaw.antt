@@ -7,9 +7,7 @@ use mathlib.Core.Option.{Option, none, some}
 use native.Mathlib.Omega.{arith}
 use Rattle.text.specs.Text.{Bytes}
 use Rattle.text.specs.Field.{Kind, lexical, number_of, fits}
-use Rattle.text.specs.declared.Number.{Number}
-use Rattle.text.specs.declared.Number.TheVariants.{Is, Not}
-use Rattle.text.specs.bridge.Code.{number_in, kind_at}
+use Rattle.text.specs.bridge.Code.{Number, number_in, kind_at}
 use Rattle.cursor.specs.declared.Cursor.{Cursor}
 use Rattle.cursor.proofs.Laws.{left-none, Next}
 use Rattle.algebra.specs.Reader.{kept}
@@ -18,6 +16,7 @@ use Rattle.words.specs.bridge.Code.{mapped, extra_of, extra_found}
 use Rattle.lines.specs.bridge.Line.{and_then, Took, took, take_field, Fields, fields, take_times, take_value, take_values}
 use Rattle.lines.specs.bridge.Steps.{InLine, left_at, Along, Follows, rest_of, rest_in}
 use Rattle.lines.proofs.StepLaw.{field, left_is, step_follows}
+use Rattle.std.specs.Prelude.{Some, None}
 
 -- ---- where a step left the cursor
 
@@ -72,10 +71,10 @@ follows_both s c d r (some l) g z f h = go (g l) (subst (λ l. Follows s d (g l)
 -- ---- numbers
 
 module _ (s : Bytes) (c : Cursor) (e : ℕ) (d : Cursor) (line : InLine s c) (here : Next s c e d) (r : Number) (is : number_in r ≡ number_of (field s c e d line here)) where
-  pub count-taken : (v : ℕ) → r ≡ Is v → take_field count (left_at s c) ≡ some (took (left_at s d) [] v)
+  pub count-taken : (v : ℕ) → r ≡ Some v → take_field count (left_at s c) ≡ some (took (left_at s d) [] v)
   count-taken v q = rw (left_is s c e d line here, ← is, q)
 
-  pub count-refused : r ≡ Not → take_field count (left_at s c) ≡ none
+  pub count-refused : r ≡ None → take_field count (left_at s c) ≡ none
   count-refused q = rw (left_is s c e d line here, ← is, q)
 
 -- ---- values

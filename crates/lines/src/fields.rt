@@ -5,8 +5,8 @@ ghost use Rattle.algebra.specs.bridge.Table.{text, count};
 ghost use Rattle.lines.specs.bridge.Line.{take_field, take_times, take_value, take_values};
 ghost use Rattle.lines.specs.bridge.Steps.{InLine, left_at, Follows, rest_of, rest_in, number_taken};
 
-use cursor::{Cursor, Field};
-use text::{Number, is_kind, number_of};
+use cursor::Cursor;
+use text::{is_kind, number_of};
 use words::extra_kind;
 
 // A cursor and the number in a field.
@@ -16,7 +16,8 @@ pub struct Taken {
     pub number: usize,
 }
 
-// Where a field of a variable starts, its name's entry in the table, and its mark.
+// Where a field of a variable starts, its name's entry in the table, and its mark. Arrays of spots and nodes are lent, with their numbers
+// beside them, and no Vec: a call takes nothing from the heap.
 pub type Spot = [u16; 3];
 
 // A line that was noted: 65,536 times its word's number in the table of words and how many spots were noted before it; and its first two numbers.
@@ -28,18 +29,14 @@ pub fn text_field(s: &[u8], c: Cursor, kind: u8) -> Cursor
     ensures { Follows s.now c (rest_of (take_field (text (kind_at kind)) (left_at s.now c))) result }
 {
     let at = c.at;
-    let field = c.next_field(s);
-    match field {
-        Field::At(e, next) => {
-            if is_kind(kind, &s[at..e]) {
-                return next;
-            }
-            return c.failed();
-        }
-        Field::None => {
-            return c.failed();
-        }
+    let Some(field) = c.next_field(s) else {
+        return c.failed();
+    };
+    let to = field.end;
+    if is_kind(kind, &s[at..to]) {
+        return field.behind;
     }
+    c.failed()
 }
 
 // A field that is a number of lines to come.
@@ -48,31 +45,22 @@ pub fn count_field(s: &[u8], c: Cursor) -> Taken
     ensures { Follows s.now c (rest_of (take_field count (left_at s.now c))) result.cursor × (number_taken (take_field count (left_at s.now c)) ≡ result.number) × (result.number < 4294967296) }
 {
     let at = c.at;
-    let field = c.next_field(s);
-    match field {
-        Field::At(e, next) => {
-            let number = number_of(&s[at..e]);
-            match number {
-                Number::Is(v) => {
-                    return Taken {
-                        cursor: next,
-                        number: v as usize,
-                    };
-                }
-                Number::Not => {
-                    return Taken {
-                        cursor: c.failed(),
-                        number: 0,
-                    };
-                }
-            }
-        }
-        Field::None => {
-            return Taken {
-                cursor: c.failed(),
-                number: 0,
-            };
-        }
+    let Some(field) = c.next_field(s) else {
+        return Taken {
+            cursor: c.failed(),
+            number: 0,
+        };
+    };
+    let to = field.end;
+    match number_of(&s[at..to]) {
+        Some(v) => Taken {
+            cursor: field.behind,
+            number: v as usize,
+        },
+        None => Taken {
+            cursor: c.failed(),
+            number: 0,
+        },
     }
 }
 
@@ -82,20 +70,16 @@ pub fn value_field(s: &[u8], c: Cursor) -> Cursor
     ensures { Follows s.now c (take_value (left_at s.now c)) result }
 {
     let at = c.at;
-    let field = c.next_field(s);
-    match field {
-        Field::At(e, next) => {
-            let kind = extra_kind(&s[at..e]);
-            if kind == 0 {
-                return c.failed();
-            }
-            let behind = text_field(s, next, 10);
-            return text_field(s, behind, kind);
-        }
-        Field::None => {
-            return c.failed();
-        }
+    let Some(field) = c.next_field(s) else {
+        return c.failed();
+    };
+    let to = field.end;
+    let kind = extra_kind(&s[at..to]);
+    if kind == 0 {
+        return c.failed();
     }
+    let behind = text_field(s, field.behind, 10);
+    text_field(s, behind, kind)
 }
 
 // So many fields that count nothing.
@@ -104,13 +88,11 @@ pub fn text_fields(s: &[u8], c: Cursor, kind: u8, times: usize) -> Cursor
     ensures { Follows s.now c (rest_in (take_times times (text (kind_at kind)) (left_at s.now c))) result }
 {
     let mut d = c;
-    let mut k = times;
-    while 0 < k {
+    for done in 0..times {
         d = text_field(s, d, kind);
         if d.end + 1 < d.at {
             return d;
         }
-        k -= 1;
     }
     d
 }
@@ -121,13 +103,11 @@ pub fn value_fields(s: &[u8], c: Cursor, times: usize) -> Cursor
     ensures { Follows s.now c (rest_in (take_values times (left_at s.now c))) result }
 {
     let mut d = c;
-    let mut k = times;
-    while 0 < k {
+    for done in 0..times {
         d = value_field(s, d);
         if d.end + 1 < d.at {
             return d;
         }
-        k -= 1;
     }
     d
 }
@@ -139,16 +119,9 @@ pub fn fields_left(s: &[u8], c: Cursor) -> usize
 {
     let mut d = c;
     let mut k = 0;
-    loop {
-        let field = d.next_field(s);
-        match field {
-            Field::At(_, next) => {
-                d = next;
-                k += 1;
-            }
-            Field::None => {
-                return k;
-            }
-        }
+    while let Some(field) = d.next_field(s) {
+        d = field.behind;
+        k += 1;
     }
+    k
 }

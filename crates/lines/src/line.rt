@@ -14,11 +14,11 @@ use crate::fields::Spot;
 use crate::slots::{slots, tail};
 use crate::sorts::opens_level;
 use crate::wanted::Wanted;
-use algebra::COLUMNS;
+use algebra::{COLUMNS, Fault};
 use cursor::Cursor;
 use names::Entry;
 use words::table::{WordRow, row_at, word_by};
-use words::{Found, Row, word_at};
+use words::{Row, word_at};
 
 // The fields of a whole line behind its word. They are all taken exactly if the cursor stands one past the line's end.
 #[derive(Clone, Copy)]
@@ -92,13 +92,6 @@ pub struct Asked {
     pub spots: usize,
 }
 
-#[derive(Clone, Copy)]
-pub enum Line {
-    Asks(Asked),
-    Malformed,
-    OverBound,
-}
-
 // A line that is wanted, after so many others: its word, its fields, and then the bounds.
 pub fn read_line(
     s: &[u8],
@@ -111,7 +104,7 @@ pub fn read_line(
     n: usize,
     spots: &mut [Spot],
     k: usize,
-) -> Line
+) -> Result<Asked, Fault>
     requires { InLine s.now c × (c.at ≤ c.end) × (w.sort ≤ 11) × Worded words.now }
     ensures line_is { (m : Tally) → m.lines ≡ lines → m.wide ≤ bounds.columns → HoldsIn s.now table.old hints.old n m.names → LineIs s.now (starts_of table.new) (sizes_of table.new) hints.new c w.sort w.level w.width m result }
     ensures small { Small words.now c w.sort w.level lines result }
@@ -119,40 +112,35 @@ pub fn read_line(
 {
     let word = word_at(s, c.at, c.end);
     let number = word_by(words, w.sort, word.key);
-    let found = row_at(words, number);
-    match found {
-        Found::Is(row) => {
-            let f = fields(s, c.behind(word.end), row, w, table, hints, n, spots, k);
-            let d = f.cursor;
-            let j = spots_behind(row.flag, k, f.spots);
-            if d.at != d.end + 1 {
-                return Line::Malformed;
-            }
-            if 2048 <= lines {
-                return Line::OverBound;
-            }
-            if COLUMNS < f.columns {
-                return Line::OverBound;
-            }
-            if 1024 < f.names {
-                return Line::OverBound;
-            }
-            if w.level == 0 {
-                if opens_level(w.sort) {
-                    return Line::OverBound;
-                }
-            }
-            return Line::Asks(Asked {
-                number,
-                row,
-                first: f.first,
-                second: f.second,
-                names: f.names,
-                spots: j,
-            });
-        }
-        Found::None => {
-            return Line::Malformed;
+    let Some(row) = row_at(words, number) else {
+        return Err(Fault::Malformed);
+    };
+    let f = fields(s, c.behind(word.end), row, w, table, hints, n, spots, k);
+    let d = f.cursor;
+    let j = spots_behind(row.flag, k, f.spots);
+    if d.at != d.end + 1 {
+        return Err(Fault::Malformed);
+    }
+    if 2048 <= lines {
+        return Err(Fault::OverBound);
+    }
+    if COLUMNS < f.columns {
+        return Err(Fault::OverBound);
+    }
+    if 1024 < f.names {
+        return Err(Fault::OverBound);
+    }
+    if w.level == 0 {
+        if opens_level(w.sort) {
+            return Err(Fault::OverBound);
         }
     }
+    Ok(Asked {
+        number,
+        row,
+        first: f.first,
+        second: f.second,
+        names: f.names,
+        spots: j,
+    })
 }

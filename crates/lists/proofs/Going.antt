@@ -10,12 +10,13 @@ use Rattle.text.specs.Text.{Bytes, lines_from}
 use Rattle.algebra.specs.Query.{PairList}
 use Rattle.algebra.specs.Reader.{read_text}
 use Rattle.algebra.specs.Texts.{read_pairs}
-use Rattle.algebra.specs.declared.Answer.{Answer}
-use Rattle.algebra.specs.declared.Answer.TheVariants.{Good, OverBound}
+use Rattle.algebra.specs.bridge.Answers.{Answer}
 use Rattle.algebra.specs.Tally.{bounds}
 use Rattle.lists.specs.bridge.Pairs.{Stands, pairs_in, Enough, PairsChecked}
 use Rattle.text.proofs.Places.{lines_start, lines_end}
 use Rattle.lists.proofs.Reading.{told, told-start, told-end}
+use Rattle.std.specs.Prelude.{Ok, Err}
+use Rattle.algebra.specs.declared.Fault.TheVariants.{OverBound}
 
 -- the check's promise, for each list that its kinds stand for
 abbrev pub Done : Bytes → ℕ → ℕ → Bool → List (List ℕ) → Answer → Type 0
@@ -31,7 +32,7 @@ pub record Going (s : Bytes) (first second : ℕ) (apart : Bool) (keys : List (L
   pub so : (κ : PairList) → Stands κ first second apart → read_pairs κ s ≡ told κ (bounds.entries - n) (pairs_in s keys n) (lines_from s at)
 
 -- a text over the bound on bytes
-pub too_long : (s : Bytes) (first second : ℕ) (apart : Bool) (keys : List (List ℕ)) → 16384 < length s → Done s first second apart keys OverBound
+pub too_long : (s : Bytes) (first second : ℕ) (apart : Bool) (keys : List (List ℕ)) → 16384 < length s → Done s first second apart keys (Err OverBound)
 unfolding PairsChecked read_pairs read_text
 too_long s first second apart keys k κ st = rw (lt-ltb 16384 (length s) k)
 
@@ -59,6 +60,6 @@ unfolding Enough
 enough-short s keys e k n h l = omega arith
 
 -- no line is left
-pub done_end : (s : Bytes) (first second : ℕ) (apart : Bool) (keys : List (List ℕ)) (at n : ℕ) → Going s first second apart keys at n → length s ≤ at → Done s first second apart keys (Good n)
+pub done_end : (s : Bytes) (first second : ℕ) (apart : Bool) (keys : List (List ℕ)) (at n : ℕ) → Going s first second apart keys at n → length s ≤ at → Done s first second apart keys (Ok n)
 unfolding PairsChecked
 done_end s first second apart keys at n g e κ st = record { room = g.room; few = g.most; read = g.so κ st ∙ rw (lines_end s at e) (told-end κ (bounds.entries - n) (pairs_in s keys n)) }

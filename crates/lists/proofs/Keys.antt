@@ -14,17 +14,23 @@ use Rattle.algebra.specs.Query.{Pair}
 use Rattle.algebra.specs.Valid.{mem}
 use Rattle.lists.specs.bridge.Pairs.{pair_at, entry_of, pairs_in, firsts, fresh}
 
+-- the pair at a place is what the entry there tells, of all entries
+entry-at : (s : Bytes) (es : List (List ℕ)) (i : ℕ) → i < length es → drop i (map (pair_at s) es) ≡ pair_at s (get_or es i []) ∷ drop (i + 1) (map (pair_at s) es)
+entry-at s es i l =
+    let long : i < length (map (pair_at s) es) = rw (length-map es (pair_at s)) l in
+    rw (add-one, ← get_or-map (pair_at s) es i []) (drop-cons (map (pair_at s) es) i (pair_at s []) long)
+
 module _ (s : Bytes) (keys : List (List ℕ)) (n : ℕ) where
   pub pairs-long : n ≤ length keys → length (pairs_in s keys n) ≡ n
   unfolding pairs_in
   pairs-long h = length-map (take n keys) (pair_at s) ∙ length-take-le n keys h
 
-  -- the pair at a place is what the entry there tells
+  -- and of the first n
   pub pair-at : (i : ℕ) → n ≤ length keys → i < n → drop i (pairs_in s keys n) ≡ pair_at s (get_or keys i []) ∷ drop (i + 1) (pairs_in s keys n)
   unfolding pairs_in
   pair-at i h l =
-      let long : i < length (map (pair_at s) (take n keys)) = rw (length-map (take n keys) (pair_at s), length-take-le n keys h) l in
-      rw (add-one, ← get_or-take n keys i [] l, ← get_or-map (pair_at s) (take n keys) i []) (drop-cons (map (pair_at s) (take n keys)) i (pair_at s []) long)
+      let long : i < length (take n keys) = rw (length-take-le n keys h) l in
+      rw (← get_or-take n keys i [] l) (entry-at s (take n keys) i long)
 
   -- one more
   pub pairs-more : (from to end : ℕ) → n < length keys
@@ -59,22 +65,22 @@ fresh-any apart f ns e = rw (not-true apart e)
 abbrev pub Left : Bytes → List Pair → ℕ → Type 0
 Left f xs i = mem f (firsts (drop i xs)) ≡ mem f (firsts xs)
 
-module _ (s f : Bytes) (keys : List (List ℕ)) (n i : ℕ) (room : n ≤ length keys) (left : Left f (pairs_in s keys n) i) where
-  module _ (l : i < n) (b : Bool) (e : b ≡ same f (pair_at s (get_or keys i [])).first) where
-    step : mem f (firsts (drop i (pairs_in s keys n))) ≡ (b || mem f (firsts (drop (i + 1) (pairs_in s keys n))))
+module _ (s f : Bytes) (es : List (List ℕ)) (i : ℕ) (left : Left f (map (pair_at s) es) i) where
+  module _ (l : i < length es) (b : Bool) (e : b ≡ same f (pair_at s (get_or es i [])).first) where
+    step : mem f (firsts (drop i (map (pair_at s) es))) ≡ (b || mem f (firsts (drop (i + 1) (map (pair_at s) es))))
     unfolding mem
-    step = rw (pair-at s keys n i room l, e)
+    step = rw (entry-at s es i l, e)
 
     -- it is here
-    pub found_here : (apart : Bool) → not apart ≡ false → b ≡ true → false ≡ fresh apart f (firsts (pairs_in s keys n))
+    pub found_here : (apart : Bool) → not apart ≡ false → b ≡ true → false ≡ fresh apart f (firsts (map (pair_at s) es))
     unfolding fresh
     found_here apart must h = rw (not-false apart must, ← left, step, h)
 
-    pub not-here : b ≡ false → Left f (pairs_in s keys n) (i + 1)
+    pub not-here : b ≡ false → Left f (map (pair_at s) es) (i + 1)
     not-here h = sym (rw h at step) ∙ left
 
-  pub found_nowhere : (apart : Bool) → not apart ≡ false → n ≤ i → true ≡ fresh apart f (firsts (pairs_in s keys n))
+  pub found_nowhere : (apart : Bool) → not apart ≡ false → length es ≤ i → true ≡ fresh apart f (firsts (map (pair_at s) es))
   unfolding fresh mem
   found_nowhere apart must h =
-      let past : length (pairs_in s keys n) ≤ i = let z = pairs-long s keys n room in omega arith in
-      rw (not-false apart must, ← left, drop_of_length-le (pairs_in s keys n) past)
+      let past : length (map (pair_at s) es) ≤ i = rw (length-map es (pair_at s)) h in
+      rw (not-false apart must, ← left, drop_of_length-le (map (pair_at s) es) past)

@@ -11,18 +11,17 @@ use Rattle.text.specs.bridge.Code.{kind_at}
 use Rattle.text.proofs.Texts.{AllClean}
 use Rattle.algebra.specs.Query.{PairList, Pair, first_kind, second_kind, unique}
 use Rattle.algebra.specs.Texts.{read_pairs}
-use Rattle.algebra.specs.declared.Answer.TheVariants.{Malformed, OverBound}
 use Rattle.algebra.specs.Tally.{bounds}
-use Rattle.cursor.specs.bridge.Cursor.{left}
+use Rattle.cursor.specs.bridge.Cursor.{left, Reading, field}
 use Rattle.cursor.specs.declared.Cursor.{Cursor}
-use Rattle.cursor.specs.declared.Field.{Field}
-use Rattle.cursor.specs.declared.Field.TheVariants.{At, None}
 use Rattle.lists.specs.bridge.Pairs.{Stands, is_pair, Finds, firsts, fresh, entry_of, pairs_in, Enough, PairsChecked}
 use Rattle.text.proofs.Places.{lines-open}
 use Rattle.lists.proofs.Lines.{line-next, line_clean}
 use Rattle.lists.proofs.Keys.{pairs-long, pairs-more}
 use Rattle.lists.proofs.Reading.{told, told-bad, told-twice, told_over, told-next}
 use Rattle.lists.proofs.Going.{Done, Going}
+use Rattle.std.specs.Prelude.{Some, None, Err}
+use Rattle.algebra.specs.declared.Fault.TheVariants.{Malformed, OverBound}
 
 module _ (s : Bytes) (first second : ℕ) (apart : Bool) (keys : List (List ℕ)) (at n : ℕ) (g : Going s first second apart keys at n) where
   abbrev before : List Pair
@@ -30,11 +29,11 @@ module _ (s : Bytes) (first second : ℕ) (apart : Bool) (keys : List (List ℕ)
 
   module _ (c : Cursor) (same : c.at ≡ at) (f : First 10 s at (length s) c.end) where
     -- the line is not ended
-    pub done-open : (keys' : List (List ℕ)) → at < length s → c.end ≡ length s → Done s first second apart keys' Malformed
+    pub done-open : (keys' : List (List ℕ)) → at < length s → c.end ≡ length s → Done s first second apart keys' (Err Malformed)
     unfolding is_pair PairsChecked
     done-open keys' k e κ st = g.so κ st ∙ rw (lines-open s at c.end k f e) (told-bad κ before [] (bounds.entries - n) [] tt refl)
 
-    module _ (x : Field) (finds : Finds s (kind_at first) (kind_at second) c x) (ended : c.end ≡ length s → ⊥) where
+    module _ (x : Reading) (finds : Finds s (kind_at first) (kind_at second) c x) (ended : c.end ≡ length s → ⊥) where
       less : c.end < length s
       less = let q = f.high in omega arith
 
@@ -48,13 +47,13 @@ module _ (s : Bytes) (first second : ℕ) (apart : Bool) (keys : List (List ℕ)
       neat = rw same (line_clean s at c.end f)
 
       -- it is not two fields of the kinds
-      pub done-bad : (keys' : List (List ℕ)) → x ≡ None → Done s first second apart keys' Malformed
+      pub done-bad : (keys' : List (List ℕ)) → x ≡ None → Done s first second apart keys' (Err Malformed)
       unfolding Finds PairsChecked
       done-bad keys' e κ st =
           let q : is_pair (kind_at first) (kind_at second) (left s c.at c.end) ≡ false = rw e at finds in
           line κ st ∙ told-bad κ before rest (bounds.entries - n) (left s c.at c.end) neat (rw (st.firsts, st.seconds) q)
 
-      module _ (to : ℕ) (d : Cursor) (is : x ≡ At to d) where
+      module _ (to : ℕ) (d : Cursor) (is : x ≡ Some (field to d)) where
         -- its two fields
         abbrev one : Bytes
         one = part c.at to s
@@ -62,7 +61,7 @@ module _ (s : Bytes) (first second : ℕ) (apart : Bool) (keys : List (List ℕ)
         abbrev other : Bytes
         other = part (to + 1) c.end s
 
-        two : Finds s (kind_at first) (kind_at second) c (At to d)
+        two : Finds s (kind_at first) (kind_at second) c (Some (field to d))
         two = rw is at finds
 
         -- where its first field ends, and the next line starts
@@ -90,7 +89,7 @@ module _ (s : Bytes) (first second : ℕ) (apart : Bool) (keys : List (List ℕ)
           entry κ st = line κ st ∙ ap (λ k. told κ (bounds.entries - n) before (k ∷ rest)) two.3
 
           -- its first field is there already
-          pub done-twice : (keys' : List (List ℕ)) → not b ≡ true → Done s first second apart keys' Malformed
+          pub done-twice : (keys' : List (List ℕ)) → not b ≡ true → Done s first second apart keys' (Err Malformed)
           unfolding PairsChecked
           done-twice keys' e κ st = entry κ st ∙ told-twice κ before rest (bounds.entries - n) one (other ∷ []) (sym (is-new κ st) ∙ not-true b e)
 
@@ -104,7 +103,7 @@ module _ (s : Bytes) (first second : ℕ) (apart : Bool) (keys : List (List ℕ)
             paired-so κ st = rw (st.firsts, st.seconds) (ap (is_pair (kind_at first) (kind_at second)) (sym two.3) ∙ two.4)
 
             -- it is an entry too many
-            pub done-over : (keys' : List (List ℕ)) → n ≡ bounds.entries → Done s first second apart keys' OverBound
+            pub done-over : (keys' : List (List ℕ)) → n ≡ bounds.entries → Done s first second apart keys' (Err OverBound)
             unfolding PairsChecked
             done-over keys' k κ st =
                 let z : bounds.entries - n ≡ 0 = omega arith in

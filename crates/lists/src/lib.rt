@@ -7,7 +7,7 @@ ghost use Rattle.text.specs.bridge.Code.{kind_at};
 ghost use Rattle.algebra.specs.Query.{PairList, joins, constants, mapping};
 ghost use Rattle.lists.specs.bridge.Pairs.{Stands, Finds, firsts, fresh, entry_of, pairs_in, Enough, PairsChecked};
 
-use algebra::{Answer, ENTRIES};
+use algebra::{ENTRIES, Fault};
 use cursor::{Cursor, Field};
 use text::{equal, is_kind, piece};
 
@@ -15,28 +15,30 @@ use text::{equal, is_kind, piece};
 pub type Entry = [u16; 4];
 
 // A line of two fields of these kinds: the end of the first, and the cursor behind the line.
-fn pair_at(text: &[u8], c: Cursor, first: u8, second: u8) -> Field
+fn pair_at(text: &[u8], c: Cursor, first: u8, second: u8) -> Option<Field>
     requires { (c.at ≤ c.end) × (c.end < length text.now) }
     ensures { Finds text.now (kind_at first) (kind_at second) c result }
 {
     let from = c.at;
-    let Field::At(to, d) = c.next_field(text) else {
-        return Field::None;
-    };
+    let one = c.next_field(text)?;
+    let to = one.end;
     if !is_kind(first, &text[from..to]) {
-        return Field::None;
+        return None;
     }
+    let d = one.behind;
     let at = d.at;
-    let Field::At(end, behind) = d.next_field(text) else {
-        return Field::None;
-    };
+    let two = d.next_field(text)?;
+    let end = two.end;
     if !is_kind(second, &text[at..end]) {
-        return Field::None;
+        return None;
     }
     if end != c.end {
-        return Field::None;
+        return None;
     }
-    Field::At(to, behind)
+    Some(Field {
+        end: to,
+        behind: two.behind,
+    })
 }
 
 // The field that two numbers of an entry tell.
@@ -72,19 +74,16 @@ fn is_fresh(text: &[u8], from: usize, to: usize, unique: bool, keys: &[Entry], n
         return true;
     }
     let field = &text[from..to];
-    let mut i = 0;
-    while i < n {
-        let e = keys[i];
+    for e in &keys[..n] {
         if is_same(field, field_at(text, e[0], e[1])) {
             return false;
         }
-        i += 1;
     }
     true
 }
 
 // Keeps a pair whose fields stand from `from` to `to`, and behind that up to `end`.
-fn keep(keys: &mut [Entry], n: usize, from: usize, to: usize, end: usize)
+pub fn keep(keys: &mut [Entry], n: usize, from: usize, to: usize, end: usize)
     requires { (n < length keys.old) × (from ≤ to) × (to < end) × (end ≤ 16384) }
     ensures { keys.new ≡ set keys.old n (entry_of from to end) }
 {
@@ -99,38 +98,44 @@ fn keep(keys: &mut [Entry], n: usize, from: usize, to: usize, end: usize)
 
 // A list of lines of two fields of these kinds, the first of which may not be repeated if `unique`: each has at least two bytes,
 // so that no list has more entries than half its bytes.
-fn check_pairs(text: &[u8], first: u8, second: u8, unique: bool, keys: &mut [Entry]) -> Answer
+fn check_pairs(
+    text: &[u8],
+    first: u8,
+    second: u8,
+    unique: bool,
+    keys: &mut [Entry],
+) -> Result<usize, Fault>
     requires { Enough text.now keys.old }
     ensures { (κ : PairList) → Stands κ first second unique → PairsChecked κ text.now keys.new result }
 {
     if 16384 < text.len() {
-        return Answer::OverBound;
+        return Err(Fault::OverBound);
     }
     let mut c = Cursor::new(0);
     let mut n: usize = 0;
     while c.at < text.len() {
         let l = c.next_line(text);
         if l.end == text.len() {
-            return Answer::Malformed;
+            return Err(Fault::Malformed);
         }
-        let Field::At(to, d) = pair_at(text, l, first, second) else {
-            return Answer::Malformed;
+        let Some(pair) = pair_at(text, l, first, second) else {
+            return Err(Fault::Malformed);
         };
-        if !is_fresh(text, l.at, to, unique, keys, n) {
-            return Answer::Malformed;
+        if !is_fresh(text, l.at, pair.end, unique, keys, n) {
+            return Err(Fault::Malformed);
         }
         if n == ENTRIES {
-            return Answer::OverBound;
+            return Err(Fault::OverBound);
         }
-        keep(keys, n, l.at, to, l.end);
+        keep(keys, n, l.at, pair.end, l.end);
         n += 1;
-        c = d;
+        c = pair.behind;
     }
-    Answer::Good(n)
+    Ok(n)
 }
 
 // The same where nobody needs the entries: as many as pays, since they are cleared first.
-fn check_alone(text: &[u8], first: u8, second: u8, unique: bool) -> Answer
+fn check_alone(text: &[u8], first: u8, second: u8, unique: bool) -> Result<usize, Fault>
     ensures { (keys : List (List ℕ)) × ((κ : PairList) → Stands κ first second unique → PairsChecked κ text.now keys result) }
 {
     if text.len() <= 128 {
@@ -142,21 +147,21 @@ fn check_alone(text: &[u8], first: u8, second: u8, unique: bool) -> Answer
 }
 
 // A join list: lines of a left and a right position.
-pub fn check_joins(text: &[u8]) -> Answer
+pub fn check_joins(text: &[u8]) -> Result<usize, Fault>
     ensures { (keys : List (List ℕ)) × PairsChecked joins text.now keys result }
 {
     check_alone(text, 6, 6, false)
 }
 
 // A constant list: lines of a position, which is not repeated, and a term.
-pub fn check_constants(text: &[u8]) -> Answer
+pub fn check_constants(text: &[u8]) -> Result<usize, Fault>
     ensures { (keys : List (List ℕ)) × PairsChecked constants text.now keys result }
 {
     check_alone(text, 6, 4, true)
 }
 
 // A mapping: lines of a name, which is not repeated, and the name that it becomes.
-pub fn check_mapping(text: &[u8], keys: &mut [Entry]) -> Answer
+pub fn check_mapping(text: &[u8], keys: &mut [Entry]) -> Result<usize, Fault>
     requires { Enough text.now keys.old }
     ensures { PairsChecked mapping text.now keys.new result }
 {

@@ -2,6 +2,7 @@
 #![tactic(auto)]
 
 use answering::{answer, call_number, write_answer};
+use answers::answer_of;
 use filling::read_full;
 use std::io;
 
@@ -11,5 +12,5 @@ fn main(rt: HostRuntime) -> io::Result<()> {
     let mut out = [0u8; 65536];
     let mut list = [0u16; 0];
     let listed = answer(call_number(b"merge"), &input[..n], &mut out, &mut list);
-    write_answer(&rt, listed.answer, &mut out)
+    write_answer(&rt, answer_of(listed), &mut out)
 }

@@ -14,7 +14,7 @@ use text::{equal, piece};
 // An entry of the table: a name's start and size.
 pub type Entry = [u16; 2];
 
-// The columns of one project, each where it stands.
+// The columns of one project, each where it stands. No Vec: a call takes nothing from the heap.
 pub type Columns = [Entry; COLUMNS];
 
 // A number of the table as a place.
@@ -30,7 +30,7 @@ fn byte(x: u8) -> usize
     x as usize
 }
 
-// A table without names.
+// A table without names. No map: a call takes nothing from the heap, and a text has 1,024 names at most.
 pub fn new_table() -> [Entry; 1024]
     ensures { result ≡ replicate 1024 (replicate 2 0) }
 {
@@ -79,10 +79,8 @@ fn hash_rest(f: &[u8], from: usize, hash: usize) -> usize
     ensures { (result ≡ hash_of hash (drop from f.now)) × (result < 4294967296) }
 {
     let mut h = hash;
-    let mut i = from;
-    while i < f.len() {
+    for i in from..f.len() {
         h = ((h + byte(f[i])) * 16777619) % 4294967296;
-        i += 1;
     }
     h
 }
@@ -129,14 +127,12 @@ fn scan(f: &[u8], s: &[u8], table: &[Entry; 1024], n: usize) -> usize
     requires { n ≤ 1024 }
     ensures { (result ≤ n) × (result < n → same f.now (name_in s.now table.now result) ≡ true) × (result ≡ n → mem f.now (names_in s.now table.now n) ≡ false) }
 {
-    let mut i = 0;
-    while i < n {
+    for i in 0..n {
         if is_name(f, s, table, i) {
             return i;
         }
-        i += 1;
     }
-    i
+    n
 }
 
 // A hint leads to this name among the first n.
@@ -163,8 +159,7 @@ fn probe(f: &[u8], s: &[u8], table: &[Entry; 1024], hints: &[u16; 2048], n: usiz
     ensures free { result.entry ≡ n → Free hints.now (place_of f.now) result.at }
 {
     let mut p = place(f);
-    let mut left: usize = 2048;
-    while 0 < left {
+    for tried in 0..2048usize {
         let hint = wide(hints[p]);
         if hint == 0 {
             return Seen { entry: n, at: p };
@@ -176,7 +171,6 @@ fn probe(f: &[u8], s: &[u8], table: &[Entry; 1024], hints: &[u16; 2048], n: usiz
             };
         }
         p = after(p);
-        left -= 1;
     }
     let e = scan(f, s, table, n);
     Seen { entry: e, at: 2048 }

@@ -8,7 +8,6 @@ use lib.ListN.{length, length-append}
 use Rattle.text.specs.Text.{Bytes}
 use Rattle.text.specs.Field.{digits, decimal}
 use Rattle.text.proofs.Numbers.{digits-small, digits-big}
-use Rattle.emit.specs.bridge.Emit.{Em, puts}
 use Rattle.scoping.specs.Label.{generated}
 
 -- any number of digits that is enough
@@ -47,9 +46,10 @@ decimal-hundreds n h =
     ∙ append_assoc (decimal (n / 10 / 10)) ((n / 10 % 10 + 48) ∷ []) ((n % 10 + 48) ∷ [])
     ∙ (λ i. decimal (a i) ++ ((b i + 48) ∷ (c i + 48) ∷ []))
 
-pub generated-puts : (prefix n : ℕ) (e : Em) → puts (generated prefix n) e ≡ puts (decimal n) (puts (prefix ∷ []) (puts (63 ∷ []) e))
-unfolding puts generated
-generated-puts prefix n e = refl
+-- a generated name is `?`, its letter and its number
+pub generated-is : (prefix n : ℕ) → (63 ∷ []) ++ (prefix ∷ []) ++ decimal n ≡ generated prefix n
+unfolding generated
+generated-is prefix n = refl
 
 -- ---- how long they are
 

@@ -16,8 +16,9 @@ use Rattle.algebra.specs.Valid.{mem}
 use Rattle.names.specs.bridge.Names.{name_at, listing, starts_of, sizes_of}
 use Rattle.names.proofs.Columns.{column-length, column-at, column-set}
 use Rattle.names.proofs.Laws.{listing-at, listing-long}
-use Rattle.emit.specs.bridge.Emit.{Em, em, last, puts}
-use Rattle.emit.proofs.Laws.{puts-append, puts-at}
+use Rattle.emit.specs.declared.Writer.{Writer}
+use Rattle.emit.specs.bridge.Writer.{Wrote}
+use Rattle.emit.proofs.Writing.{wrote-then, wrote-as}
 use Rattle.scoping.specs.Sets.{index_of}
 use Rattle.scoping.specs.Label.{label, generated}
 use Rattle.scoping.specs.Standardize.{or_self}
@@ -49,7 +50,7 @@ spelled-piece [] a b h = absurd (h refl)
 spelled-piece (x ∷ names) a b h = refl
 
 -- it has at most 12 bytes
-named-short : (n b : ℕ) → n < 65536 → length (named n b) ≤ 12
+pub named-short : (n b : ℕ) → n < 65536 → length (named n b) ≤ 12
 unfolding generated
 named-short n b h = go (dec_lt b 512)
   where
@@ -58,19 +59,12 @@ named-short n b h = go (dec_lt b 512)
     go (no l) = let e = ap length (named-labelled n b (omega arith)) in let d = digits-five n h in omega (arith, e, d, length-append (generated (b % 256) n) label)
 
 -- as it is written
-module _ (n w b at : ℕ) (out : Bytes) (e₁ : Em) (is : w ≡ n) (small : w < 65536) (low : at ≤ last) where
-  ends : (r : ℕ) (out' : Bytes) → em r out' ≡ puts (named n b) (em at out) → r ≤ at + 12
-  ends r out' q = let m = ap (λ (x : Em). x.at) q ∙ puts-at (named n b) (em at out) low in let s = named-short n b (omega arith) in omega arith
+module _ (n w b : ℕ) (is : w ≡ n) where
+  pub put-plain : {u v : Writer} → b < 512 → Wrote u v (generated (b % 256) w) → Wrote u v (named n b)
+  put-plain h p = wrote-as (ap (λ (k : ℕ). generated (b % 256) k) is ∙ sym (named-plain n b h)) p
 
-  pub put-plain : (r : ℕ) (out' : Bytes) → b < 512 → em r out' ≡ puts (generated (b % 256) w) (em at out) → (em r out' ≡ puts (named n b) (em at out)) × (r ≤ at + 12)
-  put-plain r out' h q = let z = q ∙ ap (λ (k : ℕ). puts (generated (b % 256) k) (em at out)) is ∙ ap (λ (f : Bytes). puts f (em at out)) (sym (named-plain n b h)) in (z, ends r out' z)
-
-  pub put-labelled : 512 ≤ b → e₁ ≡ puts (generated (b % 256) w) (em at out) → (r : ℕ) (out' : Bytes) → em r out' ≡ puts label e₁ → (em r out' ≡ puts (named n b) (em at out)) × (r ≤ at + 12)
-  put-labelled h q r out' p =
-      let z =
-      p ∙ ap (puts label) (q ∙ ap (λ (k : ℕ). puts (generated (b % 256) k) (em at out)) is)
-      ∙ sym (ap (λ (f : Bytes). puts f (em at out)) (named-labelled n b h) ∙ puts-append (generated (b % 256) n) label (em at out)) in
-      (z, ends r out' z)
+  pub put-labelled : {u v x : Writer} → 512 ≤ b → Wrote u v (generated (b % 256) w) → Wrote v x label → Wrote u x (named n b)
+  put-labelled h p q = wrote-as (ap (λ (k : ℕ). generated (b % 256) k ++ label) is ∙ sym (named-labelled n b h)) (wrote-then p q)
 
 -- ---- what was found for a name
 

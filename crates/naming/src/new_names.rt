@@ -51,12 +51,10 @@ fn set_new_names(
     requires { (n ≤ 1024) × StoredIn text.now listed.now hints.now marks.now m × Apart (book_of text.now listed.now marks.now m) × (length news.old ≡ 1024) }
     ensures { Standard (book_of text.now listed.now marks.now m) (names_in text.now table.now n) n (starts_of news.new) (sizes_of news.new) (sizes_of news.old) }
 {
-    let mut k = 0;
-    while k < n {
+    for k in 0..n {
         let e = table[k];
         let f = piece(text, wide(e[0]), wide(e[1]));
         news[k] = find_push(f, text, listed, hints, marks, m);
-        k += 1;
     }
 }
 

@@ -1,12 +1,12 @@
 // Numbers of the table, and generated names as they are kept and written.
-ghost use Rattle.std.specs.Prelude.{◌≡◌, ◌+◌, ◌/◌, ◌%◌, ◌≤◌, ◌<◌, [], ◌∷◌, get_or};
+ghost use Rattle.std.specs.Prelude.{◌≡◌, ◌+◌, ◌/◌, ◌%◌, ◌≤◌, ◌<◌, [], ◌∷◌, length, get_or};
 ghost use Rattle.text.specs.Field.{decimal};
-ghost use Rattle.emit.specs.bridge.Emit.{em, puts};
+ghost use Rattle.emit.specs.bridge.Writer.{Wrote};
 ghost use Rattle.scoping.specs.Label.{generated};
 ghost use Rattle.naming.specs.bridge.New.{named};
 
 use crate::label::LABEL;
-use emit::{put, put_all};
+use emit::Writer;
 use names::Entry;
 
 // What is added to the letter of a generated name, without and with Label behind it.
@@ -21,53 +21,55 @@ pub fn wide(x: u16) -> usize
 }
 
 // Two digits.
-fn put_pair(out: &mut [u8], at: usize, n: usize) -> usize
+fn put_pair(w: &mut Writer, n: usize)
     requires { n < 100 }
-    ensures { em result out.new ≡ puts ((n / 10 + 48) ∷ (n % 10 + 48) ∷ []) (em at out.old) }
+    ensures { Wrote w.old w.new ((n / 10 + 48) ∷ (n % 10 + 48) ∷ []) }
 {
-    let a = put(out, at, (n / 10) as u8 + 48);
-    put(out, a, (n % 10) as u8 + 48)
+    w.put((n / 10) as u8 + 48);
+    w.put((n % 10) as u8 + 48);
 }
 
 // A number below 100 in base ten.
-fn put_small(out: &mut [u8], at: usize, n: usize) -> usize
+fn put_small(w: &mut Writer, n: usize)
     requires { n < 100 }
-    ensures { em result out.new ≡ puts (decimal n) (em at out.old) }
+    ensures { Wrote w.old w.new (decimal n) }
 {
     if n < 10 {
-        return put(out, at, n as u8 + 48);
+        w.put(n as u8 + 48);
+        return;
     }
-    put_pair(out, at, n)
+    put_pair(w, n);
 }
 
 // A number in base ten, two digits at a time.
-pub fn put_decimal(out: &mut [u8], at: usize, n: usize) -> usize
-    ensures { em result out.new ≡ puts (decimal n) (em at out.old) }
+pub fn put_decimal(w: &mut Writer, n: usize)
+    ensures { Wrote w.old w.new (decimal n) }
 {
     if n < 100 {
-        return put_small(out, at, n);
+        put_small(w, n);
+        return;
     }
-    let next = put_decimal(out, at, n / 100);
-    put_pair(out, next, n % 100)
+    put_decimal(w, n / 100);
+    put_pair(w, n % 100);
 }
 
 // A generated name: `?`, a prefix byte, a number.
-pub fn put_generated(out: &mut [u8], at: usize, prefix: u8, n: usize) -> usize
-    ensures { em result out.new ≡ puts (generated prefix n) (em at out.old) }
+pub fn put_generated(w: &mut Writer, prefix: u8, n: usize)
+    ensures { Wrote w.old w.new (generated prefix n) }
 {
-    let a = put(out, at, 63);
-    let b = put(out, a, prefix);
-    put_decimal(out, b, n)
+    w.put(63);
+    w.put(prefix);
+    put_decimal(w, n);
 }
 
 // A generated name by its two numbers.
-pub fn put_name(out: &mut [u8], at: usize, e: Entry) -> usize
-    ensures out_after { em result out.new ≡ puts (named (get_or e 0 0) (get_or e 1 0)) (em at out.old) }
-    ensures short { result ≤ at + 12 }
+pub fn put_name(w: &mut Writer, e: Entry)
+    ensures wrote { Wrote w.old w.new (named (get_or e 0 0) (get_or e 1 0)) }
+    ensures short { length (named (get_or e 0 0) (get_or e 1 0)) ≤ 12 }
 {
-    let a = put_generated(out, at, (e[1] % 256) as u8, wide(e[0]));
+    put_generated(w, (e[1] % 256) as u8, wide(e[0]));
     if e[1] < LABELLED {
-        return a;
+        return;
     }
-    put_all(out, a, &LABEL)
+    w.put_all(&LABEL);
 }

@@ -92,8 +92,7 @@ pub fn push_joins(
     ensures { (book_of text.now listed.new marks.new result ≡ pushes 106 0 (names_at text.now (starts_of table.now) (sizes_of table.now) joins.now m 0) []) × StoredIn text.now listed.new hints.new marks.new result }
 {
     let mut d = 0;
-    let mut i = 0;
-    while i < m {
+    for i in 0..m {
         let k = wide(joins[i]);
         let next = Pass {
             prefix: b'j',
@@ -101,7 +100,6 @@ pub fn push_joins(
             count: i,
         };
         d = push(text, table, k, next, listed, hints, marks);
-        i += 1;
     }
     d
 }
@@ -149,10 +147,8 @@ fn push_flagged(
     ensures { (book_of text.now listed.new marks.new result.m ≡ pushes first.prefix first.count (chosen base flags.now (names_in text.now table.now n)) (book_of text.now listed.old marks.old first.m)) × (result.prefix ≡ first.prefix) × (result.count ≡ first.count + length (chosen base flags.now (names_in text.now table.now n))) × (result.count ≤ first.count + n) × Room (book_of text.now listed.new marks.new result.m) (names_in text.now table.now n) × StoredIn text.now listed.new hints.new marks.new result.m }
 {
     let mut p = first;
-    let mut k = 0;
-    while k < n {
+    for k in 0..n {
         p = push_one(text, table, k, flags[base + k], p, listed, hints, marks);
-        k += 1;
     }
     p
 }

@@ -1,8 +1,8 @@
 -- The call negate, from the place of the inner pattern to the bytes. Assumes nothing.
-use Prim.Native.Nat.{ℕ, ◌-◌, ◌≤◌, ◌<◌}
+use Prim.Native.Nat.{ℕ, ◌-◌}
 use mathlib.Core.Path.{◌≡◌, refl, sym, ap, ◌∙◌}
 use mathlib.Core.Bool.{Bool, true, false, cond, not}
-use mathlib.Core.List.{List, [], ◌++◌}
+use mathlib.Core.List.{List, [], ◌++◌, append_assoc}
 use mathlib.Core.Option.{none}
 use native.Mathlib.Omega.{arith}
 use lib.ListN.{length, take, drop, length-drop}
@@ -17,11 +17,8 @@ use Rattle.algebra.specs.Layout.{put_triples, put_arity, put, layout}
 use Rattle.algebra.specs.Bounded.{layout_query}
 use Rattle.algebra.specs.Reader.{reads, refuses, malformed, over_bound}
 use Rattle.algebra.specs.Given.{read_given_query}
-use Rattle.emit.specs.bridge.Emit.{em, last, puts}
-use Rattle.emit.proofs.Laws.{puts-append}
-use Rattle.answers.specs.declared.Answer.TheVariants.{Written, Malformed, OverBound, TooShort}
-use Rattle.answers.specs.Outcome.{written, Reported, Answered}
-use Rattle.answers.proofs.Answers.{too_short, all-written, answered}
+use Rattle.answers.specs.Outcome.{Answer, written, Reported, Answered}
+use Rattle.answers.proofs.Answers.{answered}
 use Rattle.merging.specs.Merge.{is_select_or_ask, over}
 use Rattle.merging.specs.Negate.{negate_project_pattern, negate_query, negate_outcome}
 use Rattle.heads.specs.bridge.TreeAt.{Parts}
@@ -34,6 +31,8 @@ use Rattle.negating.specs.bridge.Negated.{not_exists, negated_at}
 use Rattle.negating.proofs.Found.{not_found}
 use Rattle.negating.proofs.TreeLines.{behind}
 use Rattle.negating.proofs.Placed.{placed, not-placed, inner-text, modified-text}
+use Rattle.std.specs.Prelude.{Err}
+use Rattle.answers.specs.declared.Refusal.TheVariants.{Malformed, OverBound}
 
 -- the new inner pattern's text
 not-exists-text : (q : Pattern) (t : List Line) → text_of (put (filter (bgp []) (apply NOT (econs (exists q) eend))) t) ≡ not_exists ++ text_of (put q t)
@@ -75,12 +74,8 @@ module _ (head tree : Bytes) (q : Query) (e : Parts head tree q) where
       unfolding negate_query
       negated = rw (sym is ∙ not-false b yes) (ap written negated-layout)
 
-      module _ (out : Bytes) (need : ℕ) (tiny tiny' : Bytes) (measure : em need tiny' ≡ puts (head ++ negated_at inner tree) (em 0 tiny)) where
-        pub negate-short : length out < need → Answered (written (layout_query (negate_query q))) out out TooShort
-        negate-short h = answered _ _ out out TooShort negated (too_short _ out need tiny tiny' measure h)
-
-        pub negate-written : (size : ℕ) (out' : Bytes) → need ≤ length out → length out < last → em size out' ≡ puts (head ++ negated_at inner tree) (em 0 out) → Answered (written (layout_query (negate_query q))) out out' (Written size)
-        negate-written size out' i j k = answered _ _ out out' (Written size) negated (all-written _ out need tiny tiny' measure size out' i j k)
+      pub negate-answered : (out out' : Bytes) (r : Answer) → Answered (written (head ++ negated_at inner tree)) out out' r → Answered (written (layout_query (negate_query q))) out out' r
+      negate-answered out out' r a = answered _ _ out out' r negated a
 
 -- a query that is read
 pub negate-read : (s : Bytes) (q : Query) → read_given_query s ≡ reads q → negate_outcome s ≡ written (layout_query (negate_query q))
@@ -88,21 +83,19 @@ unfolding negate_outcome
 negate-read s q e = rw e
 
 -- a query that is refused
-pub negate-malformed : (s out : Bytes) → read_given_query s ≡ refuses malformed → Answered (negate_outcome s) out out Malformed
+pub negate-malformed : (s out : Bytes) → read_given_query s ≡ refuses malformed → Answered (negate_outcome s) out out (Err Malformed)
 unfolding negate_outcome Reported
 negate-malformed s out e = rw e (refl, refl, refl)
 
-pub negate-over : (s out : Bytes) → read_given_query s ≡ refuses over_bound → Answered (negate_outcome s) out out OverBound
+pub negate-over : (s out : Bytes) → read_given_query s ≡ refuses over_bound → Answered (negate_outcome s) out out (Err OverBound)
 unfolding negate_outcome Reported
 negate-over s out e = rw e (refl, refl, refl)
 
 -- the head, what stands before the place, the new lines, what stands from it on
-pub negated-put : (head s : Bytes) (inner d a b r : ℕ) (o x y z w : Bytes) → em d x ≡ puts head (em 0 o) → em a y ≡ puts (take inner s) (em d x) → em b z ≡ puts not_exists (em a y) → em r w ≡ puts (part inner (length s) s) (em b z)
-    → em r w ≡ puts (head ++ negated_at inner s) (em 0 o)
+pub negated-put : (head s : Bytes) (inner : ℕ) → head ++ take inner s ++ not_exists ++ part inner (length s) s ≡ head ++ negated_at inner s
 unfolding negated_at
-negated-put head s inner d a b r o x y z w h p q e =
+negated-put head s inner =
     let k : part inner (length s) s ≡ drop inner s = take_all (length s - inner) (drop inner s) (simp length-drop (omega arith)) in
-    e
-    ∙ ap (λ (l : Bytes). puts l (em b z)) k
-    ∙ ap (puts (drop inner s)) (q ∙ ap (puts not_exists) (p ∙ ap (puts (take inner s)) h))
-    ∙ sym (puts-append head (take inner s ++ (not_exists ++ drop inner s)) (em 0 o) ∙ puts-append (take inner s) (not_exists ++ drop inner s) (puts head (em 0 o)) ∙ puts-append not_exists (drop inner s) (puts (take inner s) (puts head (em 0 o))))
+    ap (λ (l : Bytes). head ++ take inner s ++ not_exists ++ l) k
+    ∙ append_assoc (head ++ take inner s) not_exists (drop inner s)
+    ∙ append_assoc head (take inner s) (not_exists ++ drop inner s)

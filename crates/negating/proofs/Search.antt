@@ -19,8 +19,8 @@ use Rattle.reader.specs.bridge.Lines.{LineEnd}
 use Rattle.reader.proofs.Laws.{nothing-here}
 use Rattle.walking.proofs.Laws.{line-split}
 use Rattle.negating.specs.declared.Outermost.{Outermost}
-use Rattle.negating.specs.declared.Outermost.TheVariants.{At, None}
-use Rattle.negating.specs.bridge.Lines.{passed, is_passed, from_project, Projects, Finds}
+use Rattle.negating.specs.bridge.Lines.{Search, passed, is_passed, from_project, Projects, Finds}
+use Rattle.std.specs.Prelude.{Some, None}
 
 -- behind the last line
 pub past_end : (s : Bytes) (at : ℕ) → length s ≤ at → from_project (lines_from s at) ≡ none
@@ -75,8 +75,8 @@ module _ (s : Bytes) (at end : ℕ) (l : LineEnd s at end) where
         goes_on h = rw (this-line, other, passes ∙ not-false c h)
 
 -- what an answer says
-pub says_at : (s : Bytes) (from : ℕ) (r : Outermost) (line inner : ℕ) → Finds s from r → r ≡ At line inner → Projects s from line inner
-says_at s from r line inner f e = subst (Finds s from) e f
+pub says_at : (s : Bytes) (from : ℕ) (r : Search) (o : Outermost) → Finds s from r → r ≡ Some o → Projects s from o.line o.inner
+says_at s from r o f e = subst (Finds s from) e f
 
-pub says_none : (s : Bytes) (from : ℕ) (r : Outermost) → Finds s from r → r ≡ None → from_project (lines_from s from) ≡ none
+pub says_none : (s : Bytes) (from : ℕ) (r : Search) → Finds s from r → r ≡ None → from_project (lines_from s from) ≡ none
 says_none s from r f e = subst (Finds s from) e f

@@ -6,7 +6,7 @@ ghost use Rattle.algebra.specs.Query.{Query};
 ghost use Rattle.algebra.specs.Reader.{reads};
 ghost use Rattle.algebra.specs.Bounded.{layout_query};
 ghost use Rattle.algebra.specs.Given.{read_given_query};
-ghost use Rattle.emit.specs.bridge.Emit.{em, puts};
+ghost use Rattle.emit.specs.bridge.Writer.{Wrote};
 ghost use Rattle.answers.specs.Outcome.{written, Answered};
 ghost use Rattle.heads.specs.bridge.TreeAt.{Parts};
 ghost use Rattle.merging.specs.Negate.{negate_query, negate_outcome};
@@ -14,10 +14,10 @@ ghost use Rattle.words.specs.bridge.Key.{key_in};
 ghost use Rattle.negating.specs.bridge.Lines.{passed, Finds};
 ghost use Rattle.negating.specs.bridge.Negated.{negated_at};
 
-use algebra::{Answer as Check, EMPTY_TREE};
-use answers::Answer;
+use algebra::EMPTY_TREE;
+use answers::{Answer, write_answer};
 use cursor::Cursor;
-use emit::put_all;
+use emit::Writer;
 use heads::{copy_behind, is_select_or_ask, tree_start};
 use reading::check_query;
 use words::table::all_words;
@@ -38,47 +38,50 @@ fn is_passed(key: u64) -> bool
     }
 }
 
-// Where the outermost projection's line and its inner pattern start, or that there is none.
+// Where the outermost projection's line and its inner pattern start.
 #[derive(Clone, Copy)]
-pub enum Outermost {
-    At(usize, usize),
-    None,
+pub struct Outermost {
+    pub line: usize,
+    pub inner: usize,
 }
 
-// The outermost projection of the tree that starts here.
-pub fn outermost_projection(text: &[u8], from: usize) -> Outermost
+// The outermost projection of the tree that starts here, if there is one.
+pub fn outermost_projection(text: &[u8], from: usize) -> Option<Outermost>
     ensures { Finds text.now from result }
 {
     let mut c = Cursor::new(0).moved_to(from);
     while c.at < text.len() {
         let line = c.next_line(text);
         if line.end == text.len() {
-            return Outermost::None;
+            return None;
         }
         let w = word_at(text, c.at, line.end);
         let next = line.line_done();
         if w.key == keys::PROJECT {
-            return Outermost::At(c.at, next.at);
+            return Some(Outermost {
+                line: c.at,
+                inner: next.at,
+            });
         }
         if !is_passed(w.key) {
-            return Outermost::None;
+            return None;
         }
         c = next;
     }
-    Outermost::None
+    None
 }
 
 const NOT_EXISTS: [u8; 24] = *b"filter\nbgp\t0\nnot\nexists\n";
 
 // A head, and behind it a tree with its projection's inner pattern asked not to exist.
-fn put_negated(head: &[u8], tree: &[u8], inner: usize, out: &mut [u8]) -> usize
+fn put_negated(head: &[u8], tree: &[u8], inner: usize, w: &mut Writer)
     requires { inner ≤ length tree.now }
-    ensures { em result out.new ≡ puts (head.now ++ negated_at inner tree.now) (em 0 out.old) }
+    ensures { Wrote w.old w.new (head.now ++ negated_at inner tree.now) }
 {
-    let a = put_all(out, 0, head);
-    let b = put_all(out, a, &tree[..inner]);
-    let c = put_all(out, b, &NOT_EXISTS);
-    put_all(out, c, &tree[inner..])
+    w.put_all(head);
+    w.put_all(&tree[..inner]);
+    w.put_all(&NOT_EXISTS);
+    w.put_all(&tree[inner..]);
 }
 
 // negate_query, for the two parts of a query that was checked.
@@ -89,16 +92,11 @@ fn negate_of(head: &[u8], tree: &[u8], out: &mut [u8]) -> Answer
     if !is_select_or_ask(head) {
         return copy_behind(head, tree, out);
     }
-    let Outermost::At(_, inner) = outermost_projection(tree, 0) else {
+    let Some(outermost) = outermost_projection(tree, 0) else {
         return copy_behind(head, tree, out);
     };
-    let mut none = [0u8; 0];
-    let size = put_negated(head, tree, inner, &mut none);
-    if out.len() < size {
-        return Answer::TooShort;
-    }
-    let put = put_negated(head, tree, inner, out);
-    Answer::Written(put)
+    let inner = outermost.inner;
+    write_answer(out, |w| put_negated(head, tree, inner, w))
 }
 
 // The same for a query that was checked: its tree stands behind its head, or is that of an empty file.
@@ -120,9 +118,6 @@ pub fn negate(query: &[u8], out: &mut [u8]) -> Answer
     let words = all_words();
     let mut table = [[0u16; 2]; 1024];
     let mut hints = [0u16; 2048];
-    match check_query(query, &words, &mut table, &mut hints) {
-        Check::Good(_) => negate_given(query, out),
-        Check::Malformed => Answer::Malformed,
-        Check::OverBound => Answer::OverBound,
-    }
+    check_query(query, &words, &mut table, &mut hints)?;
+    negate_given(query, out)
 }

@@ -3,14 +3,14 @@
 // 7 namespace table.
 #![tactic(auto)]
 
-ghost use Rattle.std.specs.Prelude.{◌<◌, IfOk};
+ghost use Rattle.std.specs.Prelude.{◌<◌, IfOk, IfSome};
 ghost use Rattle.words.specs.bridge.Words.{Worded};
 
-use algebra::{Answer, EMPTY_TREE, ENTRIES, number};
+use algebra::{EMPTY_TREE, ENTRIES, Fault, number};
 use lists::{check_constants, check_joins, check_mapping};
 use names::clear;
 use reading::{check_filters, check_query, check_sets, check_tree};
-use records::{LIMIT, NONE, read_record};
+use records::{Entry, LIMIT, read_record};
 use starts::table_number;
 use std::fs::File;
 use std::io;
@@ -24,7 +24,7 @@ fn check_given(
     words: &[WordRow; 56],
     table: &mut [[u16; 2]; 1024],
     hints: &mut [u16; 2048],
-) -> Answer
+) -> Result<usize, Fault>
     requires { Worded words.now }
 {
     if text.len() == 0 {
@@ -33,10 +33,10 @@ fn check_given(
     check_tree(text, words, table, hints)
 }
 
-// Where the next record starts, and where the output goes on.
+// Where the next record starts, if one can, and where the output goes on.
 #[derive(Clone, Copy)]
 struct Step {
-    at: u64,
+    next: Option<u64>,
     to: usize,
 }
 
@@ -46,7 +46,7 @@ fn check(
     words: &[WordRow; 56],
     table: &mut [[u16; 2]; 1024],
     hints: &mut [u16; 2048],
-) -> Answer
+) -> Result<usize, Fault>
     requires { Worded words.now }
 {
     clear(table);
@@ -87,10 +87,8 @@ fn put(out: &mut [u8; 65536], to: usize, b: u8) -> usize {
 
 fn put_all(out: &mut [u8; 65536], from: usize, s: &[u8]) -> usize {
     let mut to = from;
-    let mut i = 0;
-    while i < s.len() {
-        to = put(out, to, s[i]);
-        i += 1;
+    for b in s {
+        to = put(out, to, *b);
     }
     to
 }
@@ -145,22 +143,26 @@ fn turn<F: Read + Seek>(
     to: usize,
 ) -> io::Result<Step>
     requires { (at < 1099511627776) × Worded words.now }
-    ensures { IfOk result (λ step. at < step.at) }
+    ensures { IfOk result (λ step. IfSome step.next (λ place. at < place)) }
 {
-    let r = read_record(file, at, window)?;
-    let next = r.next;
-    if r.kind == NONE {
-        return Ok(Step { at: next, to });
-    }
+    let r = match read_record(file, at, window)? {
+        Entry::Record(r) => r,
+        Entry::Bad => {
+            let to = put_bad_record(rt, out, to)?;
+            return Ok(Step { next: None, to });
+        }
+        Entry::End => return Ok(Step { next: None, to }),
+    };
+    let next = Some(r.next);
     if 7 < r.kind {
         let to = put_bad_record(rt, out, to)?;
-        return Ok(Step { at: next, to });
+        return Ok(Step { next, to });
     }
     let text = piece(window, r.text, r.text_size);
     let n = number_of(r.kind, text, words, table, hints);
     let label = piece(window, r.label, r.label_size);
     let to = put_line(rt, out, to, label, n)?;
-    Ok(Step { at: next, to })
+    Ok(Step { next, to })
 }
 
 fn run<F: Read + Seek>(
@@ -177,9 +179,12 @@ fn run<F: Read + Seek>(
     let mut at: u64 = 0;
     let mut to: usize = 0;
     while at < LIMIT {
-        let s = turn(rt, file, at, window, words, table, hints, out, to)?;
-        at = s.at;
-        to = s.to;
+        let step = turn(rt, file, at, window, words, table, hints, out, to)?;
+        to = step.to;
+        let Some(next) = step.next else {
+            break;
+        };
+        at = next;
     }
     rt.write_all(piece(out, 0, to))
 }

@@ -14,9 +14,7 @@ use Rattle.text.specs.Word.{bytes}
 use Rattle.text.proofs.Basics.{same-eq}
 use Rattle.algebra.specs.bridge.Table.{Row, parts, row_in, row_for}
 use Rattle.words.specs.declared.Row.{Row as Code}
-use Rattle.words.specs.declared.Found.{Found}
-use Rattle.words.specs.declared.Found.TheVariants.{Is, None}
-use Rattle.words.specs.bridge.Code.{groups_in, row_found}
+use Rattle.words.specs.bridge.Code.{Found, groups_in, row_found}
 use Rattle.words.specs.bridge.Key.{key_of, Keyed}
 use Rattle.words.proofs.ByKey.{small, tells, same_key, is_word, other_key}
 use Rattle.cursor.specs.bridge.Cursor.{left}
@@ -31,6 +29,7 @@ use Rattle.filtering.specs.bridge.Copying.{amounts, below}
 use Rattle.placing.specs.declared.field.Field.{Field}
 use Rattle.placing.specs.bridge.Fields.{FieldIs}
 use Rattle.operators.specs.bridge.Heads.{Heads}
+use Rattle.std.specs.Prelude.{Some, None}
 
 -- ---- a value's form
 
@@ -179,7 +178,7 @@ module _ (f : Bytes) (fs : List Bytes) where
     unfolding amounts
     no-parts i = ap (λ (o : Option Row). amounts (below o) (Numbers fs)) (sym (ap row_found i) ∙ e) ∙ parts-asked
 
-    pub parts_are : (c : Code) → t ≡ Is c → (r : ℕ) → r ≡ amounts (groups_in 3 c.below) (Numbers fs) → r ≡ parts_below (f ∷ fs)
+    pub parts_are : (c : Code) → t ≡ Some c → (r : ℕ) → r ≡ amounts (groups_in 3 c.below) (Numbers fs) → r ≡ parts_below (f ∷ fs)
     parts_are c i r h = h ∙ ap (λ (o : Option Row). amounts (below o) (Numbers fs)) (sym (ap row_found i) ∙ e) ∙ parts-asked
 
 -- ---- always true

@@ -22,7 +22,7 @@ use placing::field::{field_at, position_of};
 use placing::term::{form_of, put_term};
 use text::equal;
 use words::table::{WordRow, row_at, word_by};
-use words::{Found, keys, word_at};
+use words::{keys, word_at};
 
 const TERM: [u8; 5] = *b"term\t";
 
@@ -212,7 +212,7 @@ pub fn parts_below(filters: &[u8], words: &[WordRow; 56], key: u64, first: usize
     requires { (end < length filters.now) × Worded words.now }
     ensures { (f : Bytes) → Keyed f key → result ≡ parts_below (f ∷ left filters.now first end) }
 {
-    let Found::Is(row) = row_at(words, word_by(words, 11, key)) else {
+    let Some(row) = row_at(words, word_by(words, 11, key)) else {
         return 0;
     };
     lines_asked(filters, row.below, first, end)

@@ -11,9 +11,7 @@ use Rattle.text.proofs.Texts.{Ended, glue-split, ended-glue}
 use Rattle.text.proofs.Places.{lines_next, lines-open, lines_end}
 use Rattle.algebra.specs.bridge.Table.{Sort, Below, Row, always, given, more, table, row_in}
 use Rattle.words.specs.declared.Row.{Row as Code}
-use Rattle.words.specs.declared.Found.{Found}
-use Rattle.words.specs.declared.Found.TheVariants.{Is, None}
-use Rattle.words.specs.bridge.Code.{sort_at, group_of, slots_in, groups_in, row_of, row_found, no_code}
+use Rattle.words.specs.bridge.Code.{Found, sort_at, group_of, slots_in, groups_in, row_of, row_found, no_code}
 use Rattle.cursor.specs.bridge.Cursor.{left, awaiting_many}
 use Rattle.cursor.specs.declared.Cursor.{Cursor}
 use Rattle.text.proofs.Parts.{part_join, part-line}
@@ -23,11 +21,12 @@ use Rattle.reader.specs.bridge.Lines.{LineEnd}
 use Rattle.filtering.specs.bridge.Copying.{plus, amounts, below, to_come, copying}
 use Rattle.filtering.proofs.Copying.{plus-is}
 use Rattle.placing.specs.bridge.Ends.{EndsAt}
+use Rattle.std.specs.Prelude.{Some, None}
 
 -- ---- the row of a word
 
 module _ (o : Option Row) (t : Found) (e : row_found t ≡ o) where
-  pub row_is : (c : Code) → t ≡ Is c → row_of c ≡ row_or o
+  pub row_is : (c : Code) → t ≡ Some c → row_of c ≡ row_or o
   row_is c i = ap row_or (sym (ap row_found i) ∙ e)
 
   pub row-none : t ≡ None → row_of no_code ≡ row_or o

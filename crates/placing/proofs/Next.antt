@@ -5,12 +5,11 @@ use native.Mathlib.Omega.{arith}
 use lib.ListN.{length}
 use Rattle.text.specs.Text.{Bytes, First}
 use Rattle.text.specs.Field.{number_of}
-use Rattle.text.specs.bridge.Code.{number_in}
-use Rattle.text.specs.declared.Number.{Number}
-use Rattle.text.specs.declared.Number.TheVariants.{Is, Not}
+use Rattle.text.specs.bridge.Code.{number_in, Number}
 use Rattle.cursor.proofs.Laws.{left-none, left-next}
 use Rattle.merging.specs.Request.{or_zero, position}
 use Rattle.placing.specs.bridge.Fields.{FieldIs}
+use Rattle.std.specs.Prelude.{Some, None}
 
 pub field-none : (s : Bytes) (at end : ℕ) → end < at → at ≤ end + 1 → FieldIs s at end (record { to = at; next = at })
 field-none s at end h k =
@@ -45,10 +44,10 @@ field-here s at end e h k f =
 
 -- a field's position
 module _ (f : Bytes) (r : Number) (e : number_in r ≡ number_of f) where
-  pub position-is : (v : ℕ) → r ≡ Is v → v ≡ position f
+  pub position-is : (v : ℕ) → r ≡ Some v → v ≡ position f
   unfolding position
   position-is v h = ap or_zero (sym (ap number_in h) ∙ e)
 
-  pub position-not : r ≡ Not → 0 ≡ position f
+  pub position-not : r ≡ None → 0 ≡ position f
   unfolding position
   position-not h = ap or_zero (sym (ap number_in h) ∙ e)

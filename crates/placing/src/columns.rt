@@ -4,7 +4,7 @@ ghost use Rattle.algebra.specs.Tally.{bounds};
 ghost use Rattle.names.specs.bridge.Names.{names_in};
 ghost use Rattle.placing.specs.bridge.Fields.{columns_on};
 
-use cursor::{Cursor, Field, field_end};
+use cursor::{Cursor, field_end};
 use names::{Columns, wide};
 use text::piece;
 
@@ -22,15 +22,13 @@ pub fn read_columns(tree: &[u8], line: usize, columns: &mut Columns) -> usize
         return n;
     }
     let mut c = l.behind(field_end(tree, line, l.end));
-    loop {
+    while let Some(field) = c.next_field(tree) {
         let from = c.at;
-        let Field::At(to, behind) = c.next_field(tree) else {
-            return n;
-        };
-        columns[n] = [from as u16, (to - from) as u16];
+        columns[n] = [from as u16, (field.end - from) as u16];
         n += 1;
-        c = behind;
+        c = field.behind;
     }
+    n
 }
 
 // The column at a position, a part of the tree's text; nothing where there is none.

@@ -18,14 +18,14 @@ use cursor::Cursor;
 use lines::below::amount;
 use walking::line::count_at;
 use words::table::{WordRow, any_word, row_at};
-use words::{Found, Row, keys, word_at};
+use words::{Row, keys, word_at};
 
 // The row of a word by its key, whatever its sort; one without lines below where it is none.
 fn row_of(words: &[WordRow; 56], key: u64) -> Row
     requires { Worded words.now }
     ensures { (f : Bytes) → Keyed f key → row_of result ≡ row_or (row_in table f) }
 {
-    let Found::Is(row) = row_at(words, any_word(words, key)) else {
+    let Some(row) = row_at(words, any_word(words, key)) else {
         return Row {
             fields: 0,
             behind: 0,

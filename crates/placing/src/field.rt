@@ -4,7 +4,7 @@ ghost use Rattle.merging.specs.Request.{position};
 ghost use Rattle.placing.specs.bridge.Fields.{FieldIs};
 
 use cursor::field_end;
-use text::{Number, number_of};
+use text::number_of;
 
 // Where a field ends, and where the next one starts.
 #[derive(Clone, Copy)]
@@ -30,7 +30,7 @@ pub fn position_of(field: &[u8]) -> usize
     ensures { (result ≡ position field.now) × (result < 4294967296) }
 {
     match number_of(field) {
-        Number::Is(v) => v as usize,
-        Number::Not => 0,
+        Some(v) => v as usize,
+        None => 0,
     }
 }

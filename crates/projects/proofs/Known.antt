@@ -16,8 +16,7 @@ use Rattle.algebra.specs.Bounded.{IsPairs, layout_pairs}
 use Rattle.algebra.specs.Tally.{Tally, bounds, start, headed, tally, tally_query, noted}
 use Rattle.algebra.specs.Reader.{reads}
 use Rattle.algebra.specs.Texts.{read_tree, read_query, read_pairs}
-use Rattle.algebra.specs.declared.Answer.{Answer as Check}
-use Rattle.algebra.specs.declared.Answer.TheVariants as C
+use Rattle.algebra.specs.bridge.Answers.{Answer as Check}
 use Rattle.algebra.proofs.Neat.{neat, pairs-neat}
 use Rattle.algebra.proofs.Theorem.{tree-exactly, query-exactly, pairs-exactly}
 use Rattle.algebra.proofs.Grow.{In, counts, in_bounds, grow}
@@ -37,8 +36,7 @@ use Rattle.lines.specs.bridge.Noded.{node_at, nodes_of, Noded, Roomy}
 use Rattle.lines.specs.bridge.Spotted.{spot_at, spots_of, Noted}
 use Rattle.descending.specs.bridge.Renamed.{Shaped}
 use Rattle.walking.proofs.Noted.{shaped-tree}
-use Rattle.checking.specs.declared.check.Noting.{Noting}
-use Rattle.checking.specs.declared.check.Noting.TheVariants.{Good}
+use Rattle.checking.specs.bridge.Walks.{counts as noted_counts, Noting}
 use Rattle.merging.specs.Request.{Projection, tree, made, read_joins, read_constants, join_positions, by_position, constants_in}
 use Rattle.merging.proofs.Lists.{positions-different}
 use Rattle.heads.specs.bridge.TreeAt.{head_line, TreeAt}
@@ -47,6 +45,7 @@ use Rattle.columns.specs.bridge.Listed.{Listed}
 use Rattle.sides.specs.bridge.Side.{Stands}
 use Rattle.projects.specs.bridge.Joining.{KnownTree, KnownText, HasRoom, HasNodes, KnownTerms}
 use Rattle.projects.proofs.Picks.{positions-are}
+use Rattle.std.specs.Prelude.{Ok}
 
 -- ---- trees
 
@@ -145,7 +144,7 @@ pub nodes-kept : (s : Bytes) (b c : List (List ℕ)) → length c ≡ length b �
 nodes-kept s b c e h short m g l = let r = h short m g l in omega (arith, e, r)
 
 -- a text that was checked, with room for its variables
-module _ (s : Bytes) (a l h : List ℕ) (before after words b : List (List ℕ)) (r : Noting) (n k m : ℕ) (good : r ≡ Good n k m) (room : HasRoom s before) where
+module _ (s : Bytes) (a l h : List ℕ) (before after words b : List (List ℕ)) (r : Noting) (n k m : ℕ) (good : r ≡ Ok (noted_counts n k m)) (room : HasRoom s before) where
   module _ (said : Charted tree_names tree_start s a l h before after words b (read_tree s) r) where
     abbrev of_tree : Good-chart tree_names tree_start s a l h before after words b r (read_tree s) n k m
     of_tree = chart-good tree_names tree_start s a l h before after words b r (read_tree s) n k m said good
@@ -238,7 +237,7 @@ module _ (κ : PairList) (s : Bytes) (xs : List Pair) (e : read_pairs κ s ≡ r
     short = subst (λ (b : Bytes). length b ≤ 16384) is-pairs.0 is-pairs.2.bytes;
   }
 
-pub good-terms : (s : Bytes) (keys : List (List ℕ)) (r : Check) (n : ℕ) → PairsChecked constants s keys r → r ≡ C.Good n → KnownTerms s
+pub good-terms : (s : Bytes) (keys : List (List ℕ)) (r : Check) (n : ℕ) → PairsChecked constants s keys r → r ≡ Ok n → KnownTerms s
 unfolding read_constants
 good-terms s keys r n c q =
     let xs = pairs_in s keys n in
@@ -255,7 +254,7 @@ pub record KnownJoins (s : Bytes) : Type 0 where
   pub listed : Listed s list
   pub read : read_joins s ≡ reads (join_positions list)
 
-pub good-joins : (s : Bytes) (keys : List (List ℕ)) (r : Check) (n : ℕ) → PairsChecked joins s keys r → r ≡ C.Good n → KnownJoins s
+pub good-joins : (s : Bytes) (keys : List (List ℕ)) (r : Check) (n : ℕ) → PairsChecked joins s keys r → r ≡ Ok n → KnownJoins s
 unfolding read_joins
 good-joins s keys r n c q = let read = (said-good joins s keys r c n q).read in record { list = pairs_in s keys n; listed = pairs-listed joins s (pairs_in s keys n) read; read = ap (made join_positions) read }
 

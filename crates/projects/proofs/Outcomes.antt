@@ -15,18 +15,14 @@ use Rattle.algebra.specs.Query.{Pair, joins, constants}
 use Rattle.algebra.specs.Layout.{put, layout}
 use Rattle.algebra.specs.Reader.{refuses, malformed, over_bound}
 use Rattle.algebra.specs.Texts.{read_pairs}
-use Rattle.algebra.specs.declared.Answer.{Answer as Check}
-use Rattle.algebra.specs.declared.Answer.TheVariants as C
+use Rattle.algebra.specs.bridge.Answers.{Answer as Check}
 use Rattle.answers.specs.Outcome.{written, Reported, Answered, refused_unless}
-use Rattle.answers.specs.declared.Answer.TheVariants.{Outside, NotProject, Repeated, NoPairs}
 use Rattle.lists.specs.bridge.Pairs.{PairsChecked}
 use Rattle.lists.proofs.Said.{said-malformed, said-over}
 use Rattle.scoping.specs.Sets.{all}
 use Rattle.scoping.specs.Premises.{inside, different_positions}
 use Rattle.merging.specs.Sides.{Constant}
 use Rattle.merging.specs.Request.{Projection, tree, as_project, read_joins, read_constants, join_positions, by_position, constants_in, positions, request, all_inside}
-use Rattle.merging.specs.Merge.{lists}
-use Rattle.merging.specs.Without.{is_joined}
 use Rattle.merging.specs.bridge.Twice.{none_twice}
 use Rattle.merging.specs.bridge.Combined.{combined, may_combine, combine_trees}
 use Rattle.merging.proofs.Given.{project-of}
@@ -39,46 +35,49 @@ use Rattle.projects.specs.bridge.Joining.{KnownTerms, TermsChecked, ListsChecked
 use Rattle.projects.proofs.Picks.{positions-are}
 use Rattle.projects.proofs.Merged.{lefts-are, rights-are}
 use Rattle.projects.proofs.Known.{good-terms, KnownJoins}
+use Rattle.std.specs.Prelude.{Ok, Err}
+use Rattle.algebra.specs.declared.Fault.TheVariants.{Malformed, OverBound}
+use Rattle.answers.specs.declared.Refusal.TheVariants.{NoPairs, NotProject, Outside, Repeated}
 
 -- ---- the checks of lists
 
 module _ (a b : Bytes) where
-  pub terms-malformed : read_pairs constants a ≡ refuses malformed → TermsChecked a b C.Malformed
+  pub terms-malformed : read_pairs constants a ≡ refuses malformed → TermsChecked a b (Err Malformed)
   unfolding TermsChecked read_constants
   terms-malformed e k = rw e
 
-  pub terms-over : read_pairs constants a ≡ refuses over_bound → TermsChecked a b C.OverBound
+  pub terms-over : read_pairs constants a ≡ refuses over_bound → TermsChecked a b (Err OverBound)
   unfolding TermsChecked read_constants
   terms-over e k = rw e
 
-  second-malformed : KnownTerms a → read_pairs constants b ≡ refuses malformed → TermsChecked a b C.Malformed
+  second-malformed : KnownTerms a → read_pairs constants b ≡ refuses malformed → TermsChecked a b (Err Malformed)
   unfolding TermsChecked read_constants
   second-malformed t e k = rw (t.read, e)
 
-  second-over : KnownTerms a → read_pairs constants b ≡ refuses over_bound → TermsChecked a b C.OverBound
+  second-over : KnownTerms a → read_pairs constants b ≡ refuses over_bound → TermsChecked a b (Err OverBound)
   unfolding TermsChecked read_constants
   second-over t e k = rw (t.read, e)
 
   pub terms-second : (keys : List (List ℕ)) (r : Check) → KnownTerms a → PairsChecked constants b keys r → TermsChecked a b r
   unfolding TermsChecked
-  terms-second keys (C.Good n) t c = (t, good-terms b keys (C.Good n) n c refl)
-  terms-second keys C.Malformed t c = second-malformed t (said-malformed constants b keys C.Malformed c refl)
-  terms-second keys C.OverBound t c = second-over t (said-over constants b keys C.OverBound c refl)
+  terms-second keys (Ok n) t c = (t, good-terms b keys (Ok n) n c refl)
+  terms-second keys (Err Malformed) t c = second-malformed t (said-malformed constants b keys (Err Malformed) c refl)
+  terms-second keys (Err OverBound) t c = second-over t (said-over constants b keys (Err OverBound) c refl)
 
   module _ (pairs : Bytes) where
-    pub lists-malformed : read_pairs joins pairs ≡ refuses malformed → ListsChecked pairs a b C.Malformed
+    pub lists-malformed : read_pairs joins pairs ≡ refuses malformed → ListsChecked pairs a b (Err Malformed)
     unfolding ListsChecked read_joins
     lists-malformed e k = rw e
 
-    pub lists-over : read_pairs joins pairs ≡ refuses over_bound → ListsChecked pairs a b C.OverBound
+    pub lists-over : read_pairs joins pairs ≡ refuses over_bound → ListsChecked pairs a b (Err OverBound)
     unfolding ListsChecked read_joins
     lists-over e k = rw e
 
     pub lists-rest : (r : Check) → KnownJoins pairs → TermsChecked a b r → ListsChecked pairs a b r
     unfolding ListsChecked TermsChecked
-    lists-rest (C.Good n) j t = record { js = j.list; joins = j.listed; joins_read = j.read; left = t.0; right = t.1 }
-    lists-rest C.Malformed j t = λ k. rw j.read (t (k (join_positions j.list)))
-    lists-rest C.OverBound j t = λ k. rw j.read (t (k (join_positions j.list)))
+    lists-rest (Ok n) j t = record { js = j.list; joins = j.listed; joins_read = j.read; left = t.0; right = t.1 }
+    lists-rest (Err Malformed) j t = λ k. rw j.read (t (k (join_positions j.list)))
+    lists-rest (Err OverBound) j t = λ k. rw j.read (t (k (join_positions j.list)))
 
 -- ---- positions
 
@@ -115,26 +114,26 @@ unfolding none_twice
 none-twice-is js = ap₂ (λ (a b : List ℕ). different_positions a && different_positions b) (lefts-are js) (rights-are js)
 
 module _ (less : Bool) (head : Bytes) (x y : Projection) (js ks ls : List Pair) where
-  refused-three : (out : Bytes) → all_inside (request x y (join_positions js) (by_position (constants_in ks)) (by_position (constants_in ls))) ≡ false → Answered (joined_behind less head x y js ks ls) out out Outside
+  refused-three : (out : Bytes) → all_inside (request x y (join_positions js) (by_position (constants_in ks)) (by_position (constants_in ls))) ≡ false → Answered (joined_behind less head x y js ks ls) out out (Err Outside)
   unfolding Reported
   refused-three out e = rw e (refl, refl, refl)
 
-  pub left-outside : (out : Bytes) → (inside x.columns (positions_in false js) && inside x.columns (positions_in false ks)) ≡ false → Answered (joined_behind less head x y js ks ls) out out Outside
+  pub left-outside : (out : Bytes) → (inside x.columns (positions_in false js) && inside x.columns (positions_in false ks)) ≡ false → Answered (joined_behind less head x y js ks ls) out out (Err Outside)
   left-outside out e = refused-three out (all-inside-is x y js ks ls ∙ no-left (inside x.columns (positions_in false js)) (inside y.columns (positions_in true js)) (inside x.columns (positions_in false ks)) (inside y.columns (positions_in false ls)) e)
 
-  pub right-outside : (out : Bytes) → (inside y.columns (positions_in true js) && inside y.columns (positions_in false ls)) ≡ false → Answered (joined_behind less head x y js ks ls) out out Outside
+  pub right-outside : (out : Bytes) → (inside y.columns (positions_in true js) && inside y.columns (positions_in false ls)) ≡ false → Answered (joined_behind less head x y js ks ls) out out (Err Outside)
   right-outside out e = refused-three out (all-inside-is x y js ks ls ∙ no-right (inside x.columns (positions_in false js)) (inside y.columns (positions_in true js)) (inside x.columns (positions_in false ks)) (inside y.columns (positions_in false ls)) e)
 
   -- 10, where nothing is outside
   module _ (a : inside x.columns (positions_in false js) ≡ true) (b : inside y.columns (positions_in true js) ≡ true) (c : inside x.columns (positions_in false ks) ≡ true) (d : inside y.columns (positions_in false ls) ≡ true) where
-    repeated : (out : Bytes) → (different_positions (positions_in false js) && different_positions (positions_in true js)) ≡ false → Answered (joined_behind less head x y js ks ls) out out Repeated
+    repeated : (out : Bytes) → (different_positions (positions_in false js) && different_positions (positions_in true js)) ≡ false → Answered (joined_behind less head x y js ks ls) out out (Err Repeated)
     unfolding Reported
     repeated out e = rw (all-inside-is x y js ks ls ∙ ap₂ ◌&&◌ (ap₂ ◌&&◌ a b) (ap₂ ◌&&◌ c d), none-twice-is js ∙ e) (refl, refl, refl)
 
-    pub left-repeated : (out : Bytes) → different_positions (positions_in false js) ≡ false → Answered (joined_behind less head x y js ks ls) out out Repeated
+    pub left-repeated : (out : Bytes) → different_positions (positions_in false js) ≡ false → Answered (joined_behind less head x y js ks ls) out out (Err Repeated)
     left-repeated out e = repeated out (first-false (different_positions (positions_in false js)) (different_positions (positions_in true js)) e)
 
-    pub right-repeated : (out : Bytes) → different_positions (positions_in true js) ≡ false → Answered (joined_behind less head x y js ks ls) out out Repeated
+    pub right-repeated : (out : Bytes) → different_positions (positions_in true js) ≡ false → Answered (joined_behind less head x y js ks ls) out out (Err Repeated)
     right-repeated out e = repeated out (neither (different_positions (positions_in false js)) (different_positions (positions_in true js)) e)
 
   pub joined_is : inside x.columns (positions_in false js) ≡ true → inside y.columns (positions_in true js) ≡ true → inside x.columns (positions_in false ks) ≡ true → inside y.columns (positions_in false ls) ≡ true
@@ -164,15 +163,15 @@ module _ (s : Bytes) (from : ℕ) (p : Pattern) (lines : lines_from s from ≡ p
       go (some x) q z = (x, q, project-of p x q)
 
 module _ (less : Bool) (head : Bytes) (p q : Pattern) (js ks ls : List Pair) where
-  pub left-no-project : (out : Bytes) → as_project p ≡ none → Answered (combined_behind less head p q js ks ls) out out NotProject
+  pub left-no-project : (out : Bytes) → as_project p ≡ none → Answered (combined_behind less head p q js ks ls) out out (Err NotProject)
   unfolding Reported combine_trees
   left-no-project out e = rw e (refl, refl, refl)
 
-  pub right-no-project : (out : Bytes) (x : Projection) → as_project p ≡ some x → as_project q ≡ none → Answered (combined_behind less head p q js ks ls) out out NotProject
+  pub right-no-project : (out : Bytes) (x : Projection) → as_project p ≡ some x → as_project q ≡ none → Answered (combined_behind less head p q js ks ls) out out (Err NotProject)
   unfolding Reported combine_trees
   right-no-project out x e f = rw (e, f) (refl, refl, refl)
 
-  pub no_pairs : (out : Bytes) (x y : Projection) → as_project p ≡ some x → as_project q ≡ some y → may_combine less (join_positions js) ≡ false → Answered (combined_behind less head p q js ks ls) out out NoPairs
+  pub no_pairs : (out : Bytes) (x y : Projection) → as_project p ≡ some x → as_project q ≡ some y → may_combine less (join_positions js) ≡ false → Answered (combined_behind less head p q js ks ls) out out (Err NoPairs)
   unfolding Reported combine_trees
   no_pairs out x y e f n = rw (e, f, n) (refl, refl, refl)
 

@@ -1,5 +1,5 @@
 -- A pass of a push or a merge: the head and the sides, written one after the other, are the tree's text; measured first, then written. Assumes nothing.
-use Prim.Native.Nat.{ℕ, ◌≤◌, ◌<◌}
+use Prim.Native.Nat.{ℕ, ◌≤◌}
 use mathlib.Core.Path.{◌≡◌, refl, sym, ap, ◌∙◌}
 use mathlib.Core.List.{List, [], ◌∷◌, ◌++◌, map}
 use mathlib.Core.Bool.{true, false}
@@ -10,10 +10,10 @@ use Rattle.text.specs.Word.{bytes}
 use Rattle.algebra.specs.Query.{Pair}
 use Rattle.algebra.specs.Layout.{layout}
 use Rattle.algebra.specs.Tally.{bounds}
-use Rattle.emit.specs.bridge.Emit.{Em, em, last, puts}
-use Rattle.answers.specs.Outcome.{written, Answered}
-use Rattle.answers.specs.declared.Answer.TheVariants.{TooShort, Written}
-use Rattle.answers.proofs.Answers.{answered, too_short, all-written}
+use Rattle.emit.specs.declared.Writer.{Writer}
+use Rattle.emit.specs.bridge.Writer.{Wrote, Left, state}
+use Rattle.answers.specs.Outcome.{Answer, written, Answered}
+use Rattle.answers.proofs.Answers.{answered}
 use Rattle.scoping.specs.Label.{prefix_l, prefix_r, prefix_v}
 use Rattle.merging.specs.Request.{Projection}
 use Rattle.merging.proofs.Lists.{map-length}
@@ -40,19 +40,17 @@ module _ (text : Bytes) (table spots : List (List ℕ)) (constants : Bytes) (new
   columns-are : columns ≡ map (new_names prefix_v false x []) x.columns
   columns-are = side-columns _ _ _ _ _ _ _ _ _ _ _ _ _ _ _ _ _ _ d
 
-  pub push-pass : (e e₁ e₂ : Em) → ((t : List Line) → puts (text_of t) e₁ ≡ puts (head ++ text_of ((bytes "project" ∷ picked 0 (mask_value f.outline.constant) columns) ∷ t)) e) → SideWritten text table spots constants news f e₁ e₂ → e₂ ≡ puts (head ++ layout (pushed_tree x ks)) e
-  push-pass e e₁ e₂ h w =
-      pass-one head e e₁ e₂ (λ t. (bytes "project" ∷ picked 0 (mask_value f.outline.constant) columns) ∷ t) _ _ (pushed_tree x ks) h (w prefix_v false x [] ks d)
-      (side-is text false constants x [] ks _ _ _ _ d.found.is prefix_v columns columns-are (side-ones _ _ _ _ _ _ _ _ _ _ _ _ _ _ _ _ _ _ d) (d.found.stands.narrow x refl) d.found.terms.different d.found.terms_inside)
-      (pushed-lines text constants x ks _ _ _ _ d.found.is columns columns-are)
+  pub push-pass : {u u₁ u₂ : Writer} → ((t : List Line) → Left u u₁ (head ++ text_of ((bytes "project" ∷ picked 0 (mask_value f.outline.constant) columns) ∷ t)) (text_of t)) → SideWritten text table spots constants news f u₁ u₂ → Wrote u u₂ (head ++ layout (pushed_tree x ks))
+  push-pass {u} {u₁} {u₂} h w = record {
+    same = (w prefix_v false x [] ks d []).same ∙ (h []).same;
+    puts =
+        pass-one head (state u) (state u₁) (state u₂) (λ t. (bytes "project" ∷ picked 0 (mask_value f.outline.constant) columns) ∷ t) _ _ (pushed_tree x ks) (λ t. (h t).puts) (λ t. (w prefix_v false x [] ks d t).puts)
+        (side-is text false constants x [] ks _ _ _ _ d.found.is prefix_v columns columns-are (side-ones _ _ _ _ _ _ _ _ _ _ _ _ _ _ _ _ _ _ d) (d.found.stands.narrow x refl) d.found.terms.different d.found.terms_inside)
+        (pushed-lines text constants x ks _ _ _ _ d.found.is columns columns-are);
+  }
 
-  -- measured on one buffer, written on another
-  module _ (none none' out : Bytes) (size : ℕ) (m : em size none' ≡ puts (head ++ layout (pushed_tree x ks)) (em 0 none)) where
-    pub push-short : length out < size → Answered (pushed_behind head x ks) out out TooShort
-    push-short k = answered _ _ out out TooShort (pushed-is head x ks d.found.terms_inside) (too_short (head ++ layout (pushed_tree x ks)) out size none none' m k)
-
-    pub push-put : (put : ℕ) (out' : Bytes) → em put out' ≡ puts (head ++ layout (pushed_tree x ks)) (em 0 out) → size ≤ length out → length out < last → Answered (pushed_behind head x ks) out out' (Written put)
-    push-put put out' w k j = answered _ _ out out' (Written put) (pushed-is head x ks d.found.terms_inside) (all-written (head ++ layout (pushed_tree x ks)) out size none none' m put out' k j w)
+  pub push-answered : (out out' : Bytes) (r : Answer) → Answered (written (head ++ layout (pushed_tree x ks))) out out' r → Answered (pushed_behind head x ks) out out' r
+  push-answered out out' r a = answered _ _ out out' r (pushed-is head x ks d.found.terms_inside) a
 
 -- ---- two sides: a merge
 
@@ -85,26 +83,24 @@ module _ (left right : Bytes) (p : FoundPair) (tables : List (List (List ℕ))) 
       let w = gone-width (mask_value p.right.outline.constant) (picked 1 (mask_value p.left.outline.joined) lcolumns) rcolumns gone p.right.outline.columns e rcolumns-long in
       record { left_room = side-room _ _ _ _ _ _ _ _ _ _ _ _ _ _ _ _ _ _ ld; left = side-width _ _ _ _ _ _ _ _ _ _ _ _ _ _ _ _ _ _ ld; right_room = w.0; right = w.1 }
 
-  pub merge-pass : (gone : ℕ) → gone ≡ gone_mask p.left.outline lcolumns p.right.outline rcolumns → (head : Bytes) (e e₁ e₂ e₃ : Em)
-      → ((t : List Line) → puts (text_of t) e₁ ≡ puts (head ++ text_of ((bytes "project" ∷ head_columns p.minus (picked 0 (mask_value p.left.outline.constant) lcolumns) (picked 0 gone rcolumns)) ∷ (head_word p.minus ∷ []) ∷ t)) e)
-      → SideWritten left (get_or tables 0 []) (take p.spots spots) leftConstants (get_or news 0 []) p.left e₁ e₂ → SideWritten right (get_or tables 1 []) (rest p.spots spots) rightConstants (get_or news 1 []) p.right e₂ e₃
-      → e₃ ≡ puts (head ++ layout (combined_tree p.minus x y js ks ls)) e
-  merge-pass gone gone-is head e e₁ e₂ e₃ h w v =
-      pass-two head e e₁ e₂ e₃
-      (λ t. (bytes "project" ∷ head_columns p.minus (picked 0 (mask_value p.left.outline.constant) lcolumns) (picked 0 gone rcolumns)) ∷ (head_word p.minus ∷ []) ∷ t)
-      _ _ _ _ (combined_tree p.minus x y js ks ls) h (w prefix_l false x js ks ld) (v prefix_r true y js ls rd)
-      (side-is left false leftConstants x js ks _ _ _ _ ld.found.is prefix_l lcolumns lcolumns-are (side-ones _ _ _ _ _ _ _ _ _ _ _ _ _ _ _ _ _ _ ld) (ld.found.stands.narrow x refl) ld.found.terms.different ld.found.terms_inside)
-      (side-is right true rightConstants y js ls _ _ _ _ rd.found.is prefix_r rcolumns rcolumns-are (side-ones _ _ _ _ _ _ _ _ _ _ _ _ _ _ _ _ _ _ rd) (rd.found.stands.narrow y refl) rd.found.terms.different rd.found.terms_inside)
-      (combined-lines left right leftConstants rightConstants x y js ks ls _ _ _ _ _ _ _ _ ld.found.is rd.found.is lcolumns rcolumns lcolumns-are rcolumns-are ld.found.joins-inside gone gone-is p.minus [])
+  pub merge-pass : {u u₁ u₂ u₃ : Writer} (gone : ℕ) → gone ≡ gone_mask p.left.outline lcolumns p.right.outline rcolumns → (head : Bytes)
+      → ((t : List Line) → Left u u₁ (head ++ text_of ((bytes "project" ∷ head_columns p.minus (picked 0 (mask_value p.left.outline.constant) lcolumns) (picked 0 gone rcolumns)) ∷ (head_word p.minus ∷ []) ∷ t)) (text_of t))
+      → SideWritten left (get_or tables 0 []) (take p.spots spots) leftConstants (get_or news 0 []) p.left u₁ u₂ → SideWritten right (get_or tables 1 []) (rest p.spots spots) rightConstants (get_or news 1 []) p.right u₂ u₃
+      → Wrote u u₃ (head ++ layout (combined_tree p.minus x y js ks ls))
+  merge-pass {u} {u₁} {u₂} {u₃} gone gone-is head h w v = record {
+    same = (v prefix_r true y js ls rd []).same ∙ (w prefix_l false x js ks ld []).same ∙ (h []).same;
+    puts =
+        pass-two head (state u) (state u₁) (state u₂) (state u₃)
+        (λ t. (bytes "project" ∷ head_columns p.minus (picked 0 (mask_value p.left.outline.constant) lcolumns) (picked 0 gone rcolumns)) ∷ (head_word p.minus ∷ []) ∷ t)
+        _ _ _ _ (combined_tree p.minus x y js ks ls) (λ t. (h t).puts) (λ t. (w prefix_l false x js ks ld t).puts) (λ t. (v prefix_r true y js ls rd t).puts)
+        (side-is left false leftConstants x js ks _ _ _ _ ld.found.is prefix_l lcolumns lcolumns-are (side-ones _ _ _ _ _ _ _ _ _ _ _ _ _ _ _ _ _ _ ld) (ld.found.stands.narrow x refl) ld.found.terms.different ld.found.terms_inside)
+        (side-is right true rightConstants y js ls _ _ _ _ rd.found.is prefix_r rcolumns rcolumns-are (side-ones _ _ _ _ _ _ _ _ _ _ _ _ _ _ _ _ _ _ rd) (rd.found.stands.narrow y refl) rd.found.terms.different rd.found.terms_inside)
+        (combined-lines left right leftConstants rightConstants x y js ks ls _ _ _ _ _ _ _ _ ld.found.is rd.found.is lcolumns rcolumns lcolumns-are rcolumns-are ld.found.joins-inside gone gone-is p.minus []);
+  }
 
   module _ (head : Bytes) where
     asked-for : joined_behind p.minus head x y js ks ls ≡ written (head ++ layout (combined_tree p.minus x y js ks ls))
     asked-for = joined_is p.minus head x y js ks ls ld.found.joins-inside rd.found.joins-inside ld.found.terms_inside rd.found.terms_inside ld.joins-once rd.joins-once
 
-    -- measured on one buffer, written on another
-    module _ (none none' out : Bytes) (size : ℕ) (m : em size none' ≡ puts (head ++ layout (combined_tree p.minus x y js ks ls)) (em 0 none)) where
-      pub merge-short : length out < size → Answered (joined_behind p.minus head x y js ks ls) out out TooShort
-      merge-short k = answered _ _ out out TooShort asked-for (too_short (head ++ layout (combined_tree p.minus x y js ks ls)) out size none none' m k)
-
-      pub merge-put : (put : ℕ) (out' : Bytes) → em put out' ≡ puts (head ++ layout (combined_tree p.minus x y js ks ls)) (em 0 out) → size ≤ length out → length out < last → Answered (joined_behind p.minus head x y js ks ls) out out' (Written put)
-      merge-put put out' w k j = answered _ _ out out' (Written put) asked-for (all-written (head ++ layout (combined_tree p.minus x y js ks ls)) out size none none' m put out' k j w)
+    pub merge-answered : (out out' : Bytes) (r : Answer) → Answered (written (head ++ layout (combined_tree p.minus x y js ks ls))) out out' r → Answered (joined_behind p.minus head x y js ks ls) out out' r
+    merge-answered out out' r a = answered _ _ out out' r asked-for a

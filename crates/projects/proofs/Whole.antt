@@ -3,30 +3,26 @@ use Prim.Native.Nat.{ℕ}
 use mathlib.Core.Path.{◌≡◌, refl, sym, ap, ◌∙◌}
 use mathlib.Core.List.{List, [], ◌∷◌, ◌++◌, map, append_assoc}
 use mathlib.Core.Bool.{Bool, true, false, ◌&&◌}
-use Rattle.text.specs.Text.{Bytes, Line, ended, text_of}
+use Rattle.text.specs.Text.{Bytes, Line, ended, text_of, split, lines_in, lines_of}
 use Rattle.text.specs.Word.{bytes}
 use Rattle.algebra.specs.Tree.{Pattern}
 use Rattle.algebra.specs.Query.{Pair}
-use Rattle.algebra.specs.Layout.{put, layout}
+use Rattle.algebra.specs.Layout.{put, layout, put_pairs}
 use Rattle.emit.specs.bridge.Emit.{Em, puts}
 use Rattle.emit.proofs.Laws.{puts-append, puts-nil}
 use Rattle.walking.specs.bridge.Walk.{tabbed}
 use Rattle.walking.proofs.Written.{puts-ended}
-use Rattle.merging.specs.Request.{Projection}
+use Rattle.merging.specs.Request.{Projection, by_position, constants_in}
 use Rattle.sides.specs.declared.side.Outline.{Outline}
 use Rattle.scoping.specs.Premises.{inside}
 use Rattle.mask.specs.bridge.Words.{mask_value}
 use Rattle.columns.specs.bridge.Listed.{Listed, positions_in}
 use Rattle.sides.specs.bridge.Side.{new_names, OutlineIs}
-use Rattle.text.specs.Text.{split, lines_in, lines_of}
 use native.Mathlib.Omega.{arith}
-use Rattle.algebra.specs.Layout.{put_pairs}
 use Rattle.answers.specs.Outcome.{written, Reported, Answered}
-use Rattle.answers.specs.declared.Answer.TheVariants.{Outside as AnswerOutside}
 use Rattle.scoping.specs.Label.{prefix_v}
 use Rattle.scoping.specs.Sets.{all}
 use Rattle.merging.specs.Sides.{renamed_pattern}
-use Rattle.merging.specs.Request.{by_position, constants_in}
 use Rattle.merging.specs.Push.{only_side}
 use Rattle.merging.proofs.Lines.{push-lines}
 use Rattle.columns.specs.bridge.Columns.{picked}
@@ -34,6 +30,8 @@ use Rattle.projects.specs.bridge.Pair.{head_columns, head_word}
 use Rattle.projects.specs.bridge.Joining.{Lists, ListsRead, pushed_tree, pushed_behind}
 use Rattle.projects.proofs.SideLines.{side, side-free}
 use Rattle.projects.proofs.Outcomes.{inside-sorted}
+use Rattle.std.specs.Prelude.{Err}
+use Rattle.answers.specs.declared.Refusal.TheVariants.{Outside}
 
 -- ---- the line of columns
 
@@ -106,7 +104,7 @@ module _ (text constants : Bytes) (x : Projection) (ks : List Pair) (joins at li
   pushed-lines = ap (λ (fs : List Bytes). (bytes "project" ∷ fs) ∷ put (renamed_pattern (only_side x (by_position (constants_in ks)))) []) (side-free text false constants x [] ks joins at lines o is prefix_v cs named) ∙ sym (push-lines x (by_position (constants_in ks)) [])
 
 module _ (head : Bytes) (x : Projection) (ks : List Pair) where
-  pub pushed-outside : (out : Bytes) → (inside x.columns (positions_in false []) && inside x.columns (positions_in false ks)) ≡ false → Answered (pushed_behind head x ks) out out AnswerOutside
+  pub pushed-outside : (out : Bytes) → (inside x.columns (positions_in false []) && inside x.columns (positions_in false ks)) ≡ false → Answered (pushed_behind head x ks) out out (Err Outside)
   unfolding Reported inside all
   pushed-outside out e = rw (inside-sorted x.columns ks ∙ e) (refl, refl, refl)
 

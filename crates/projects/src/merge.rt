@@ -4,7 +4,7 @@
 ghost use Rattle.std.specs.Prelude.{◌≡◌, ◌≤◌, List, [], ◌∷◌, ◌++◌, true, false, length, get_or, take};
 ghost use Rattle.text.specs.Text.{Line, text_of};
 ghost use Rattle.text.specs.Word.{bytes};
-ghost use Rattle.emit.specs.bridge.Emit.{em, puts};
+ghost use Rattle.emit.specs.bridge.Writer.{Left};
 ghost use Rattle.algebra.specs.Query.{Pair};
 ghost use Rattle.algebra.specs.Layout.{layout};
 ghost use Rattle.algebra.specs.Tally.{bounds};
@@ -15,12 +15,12 @@ ghost use Rattle.mask.specs.bridge.Words.{mask_value};
 ghost use Rattle.columns.specs.bridge.Columns.{picked};
 ghost use Rattle.sides.specs.bridge.Side.{IsFound};
 ghost use Rattle.projects.specs.bridge.Joining.{StandsAt, combined_tree, Lists, joined_behind, ListsRead, rest, BothShaped};
-ghost use Rattle.projects.specs.bridge.Pair.{left_columns, right_columns, LeftNamed, RightNamed, gone_mask, HeaderFits, head_columns, head_word};
+ghost use Rattle.projects.specs.bridge.Pair.{left_columns, right_columns, LeftNamed, RightNamed, MergeWritten, gone_mask, HeaderFits, head_columns, head_word};
 ghost use Rattle.words.specs.bridge.Words.{Worded};
 
-use answers::Answer;
+use answers::{Answer, Refusal, write_answer};
 use columns::columns::{joined_mask, put_columns, width};
-use emit::put_all;
+use emit::Writer;
 use lines::fields::{Node, Spot};
 use mask::Mask;
 use names::Entry;
@@ -95,17 +95,17 @@ fn put_head(
     tables: &[[Entry; 1024]; 2],
     spots: &[Spot],
     news: &[[Entry; 1024]; 2],
-    out: &mut [u8],
-) -> usize
+    w: &mut Writer,
+)
     requires { Inside 1024 (take pair.spots spots.now) pair.left.outline.columns × Inside 1024 (rest pair.spots spots.now) pair.right.outline.columns × (pair.spots ≤ length spots.now) × HeaderFits pair.left.outline (left_columns left.now pair tables.now spots.now news.now) (mask_value gone) pair.right.outline (right_columns right.now pair tables.now spots.now news.now) }
-    ensures { (t : List Line) → puts (text_of t) (em result out.new) ≡ puts (head.now ++ text_of ((bytes "project" ∷ head_columns pair.minus (picked 0 (mask_value pair.left.outline.constant) (left_columns left.now pair tables.now spots.now news.now)) (picked 0 (mask_value gone) (right_columns right.now pair tables.now spots.now news.now))) ∷ (head_word pair.minus ∷ []) ∷ t)) (em 0 out.old) }
+    ensures { (t : List Line) → Left w.old w.new (head.now ++ text_of ((bytes "project" ∷ head_columns pair.minus (picked 0 (mask_value pair.left.outline.constant) (left_columns left.now pair tables.now spots.now news.now)) (picked 0 (mask_value gone) (right_columns right.now pair tables.now spots.now news.now))) ∷ (head_word pair.minus ∷ []) ∷ t)) (text_of t) }
 {
     let k = pair.spots;
     let l = pair.left.outline;
     let columns = pair.right.outline.columns;
-    let a = put_all(out, 0, head);
-    let b = put_all(out, a, &PROJECT);
-    let c = put_columns(
+    w.put_all(head);
+    w.put_all(&PROJECT);
+    put_columns(
         left,
         &tables[0],
         &news[0],
@@ -114,13 +114,13 @@ fn put_head(
         l.constant,
         0,
         width(l.columns, l.constant),
-        out,
-        b,
+        w,
     );
     if pair.minus {
-        return put_all(out, c, &MINUS);
+        w.put_all(&MINUS);
+        return;
     }
-    let d = put_columns(
+    put_columns(
         right,
         &tables[1],
         &news[1],
@@ -129,13 +129,12 @@ fn put_head(
         gone,
         0,
         width(columns, gone),
-        out,
-        c,
+        w,
     );
-    put_all(out, d, &JOIN)
+    w.put_all(&JOIN);
 }
 
-// The merged tree behind a head: measured on a buffer without room, written on one that has it.
+// The merged tree behind a head.
 fn put_merged(
     head: &[u8],
     left: &[u8],
@@ -147,22 +146,21 @@ fn put_merged(
     news: &[[Entry; 1024]; 2],
     left_constants: &[u8],
     right_constants: &[u8],
-    out: &mut [u8],
-) -> usize
+    w: &mut Writer,
+)
     requires { ((x : Projection) × (y : Projection) × (js : List Pair) × (ks : List Pair) × (ls : List Pair) × LeftNamed left.now left_constants.now pair tables.now spots.now news.now x js ks × RightNamed right.now right_constants.now pair tables.now spots.now news.now y js ls) × (mask_value gone ≡ gone_mask pair.left.outline (left_columns left.now pair tables.now spots.now news.now) pair.right.outline (right_columns right.now pair tables.now spots.now news.now)) × (pair.spots ≤ length spots.now) }
-    ensures { (x y : Projection) (js ks ls : List Pair) → LeftNamed left.now left_constants.now pair tables.now spots.now news.now x js ks → RightNamed right.now right_constants.now pair tables.now spots.now news.now y js ls → em result out.new ≡ puts (head.now ++ layout (combined_tree pair.minus x y js ks ls)) (em 0 out.old) }
+    ensures { MergeWritten head.now left.now right.now left_constants.now right_constants.now pair tables.now spots.now news.now w.old w.new }
 {
     let k = pair.spots;
-    let a = put_head(head, left, right, pair, gone, tables, spots, news, out);
-    let b = put_side(
+    put_head(head, left, right, pair, gone, tables, spots, news, w);
+    put_side(
         left,
         &tables[0],
         &spots[..k],
         &news[0],
         left_constants,
         pair.left,
-        out,
-        a,
+        w,
     );
     put_side(
         right,
@@ -171,9 +169,8 @@ fn put_merged(
         &news[1],
         right_constants,
         pair.right,
-        out,
-        b,
-    )
+        w,
+    );
 }
 
 // Two sides that are ready, merged: 6 unless there is room for the merged tree.
@@ -192,38 +189,22 @@ fn merge_ready(
     requires { ((x : Projection) × (y : Projection) × (js : List Pair) × (ks : List Pair) × (ls : List Pair) × LeftNamed left.now left_constants.now pair tables.now spots.now news.now x js ks × RightNamed right.now right_constants.now pair tables.now spots.now news.now y js ls) × (pair.spots ≤ length spots.now) }
     ensures { (x y : Projection) (js ks ls : List Pair) → LeftNamed left.now left_constants.now pair tables.now spots.now news.now x js ks → RightNamed right.now right_constants.now pair tables.now spots.now news.now y js ls → Answered (joined_behind pair.minus head.now x y js ks ls) out.old out.new result }
 {
-    let mut none = [0u8; 0];
     let gone = gone_of(left, right, pair, tables, spots, news);
-    let size = put_merged(
-        head,
-        left,
-        right,
-        pair,
-        gone,
-        tables,
-        spots,
-        news,
-        left_constants,
-        right_constants,
-        &mut none,
-    );
-    if out.len() < size {
-        return Answer::TooShort;
-    }
-    let put = put_merged(
-        head,
-        left,
-        right,
-        pair,
-        gone,
-        tables,
-        spots,
-        news,
-        left_constants,
-        right_constants,
-        out,
-    );
-    Answer::Written(put)
+    write_answer(out, |w| {
+        put_merged(
+            head,
+            left,
+            right,
+            pair,
+            gone,
+            tables,
+            spots,
+            news,
+            left_constants,
+            right_constants,
+            w,
+        )
+    })
 }
 
 // Two sides that were found: each gets its names, 10 if a position stands twice on its side, then both are merged.
@@ -256,7 +237,7 @@ fn merge_found(
         pair.left,
         &mut news[0],
     ) {
-        return Answer::Repeated;
+        return Err(Refusal::Repeated);
     }
     if !name_found(
         words,
@@ -268,7 +249,7 @@ fn merge_found(
         pair.right,
         &mut news[1],
     ) {
-        return Answer::Repeated;
+        return Err(Refusal::Repeated);
     }
     merge_ready(
         head,
@@ -305,11 +286,11 @@ pub fn merge_projects(
 {
     let l = find_side(left, texts.left, pairs, false, left_constants);
     if !l.outline.inside {
-        return Answer::Outside;
+        return Err(Refusal::Outside);
     }
     let r = find_side(right, texts.right, pairs, true, right_constants);
     if !r.outline.inside {
-        return Answer::Outside;
+        return Err(Refusal::Outside);
     }
     merge_found(
         words,

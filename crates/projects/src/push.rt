@@ -1,6 +1,6 @@
 // push_constants_in_project_pattern.
 ghost use Rattle.std.specs.Prelude.{◌≡◌, List, [], ◌++◌, false, length};
-ghost use Rattle.emit.specs.bridge.Emit.{em, puts};
+ghost use Rattle.projects.specs.bridge.Pair.{PushWritten};
 ghost use Rattle.algebra.specs.Query.{Pair};
 ghost use Rattle.algebra.specs.Layout.{layout};
 ghost use Rattle.answers.specs.Outcome.{Answered};
@@ -12,9 +12,9 @@ ghost use Rattle.names.specs.bridge.Names.{starts_of, sizes_of};
 ghost use Rattle.words.specs.bridge.Words.{Worded};
 ghost use Rattle.descending.specs.bridge.Renamed.{Shaped};
 
-use answers::Answer;
+use answers::{Answer, Refusal, write_answer};
 use columns::columns::{put_columns, width};
-use emit::{put, put_all};
+use emit::Writer;
 use lines::fields::{Node, Spot};
 use names::Entry;
 use sides::side::{FoundSide, Standing, find_side, name_found};
@@ -23,8 +23,7 @@ use words::table::WordRow;
 
 const PROJECT: [u8; 7] = *b"project";
 
-// The tree with its constants behind a head, the columns that carry none first: measured on a buffer without room, written on one
-// that has it.
+// The tree with its constants behind a head, the columns that carry none first.
 fn put_pushed(
     head: &[u8],
     query: &[u8],
@@ -33,15 +32,15 @@ fn put_pushed(
     news: &[Entry; 1024],
     constants: &[u8],
     found: FoundSide,
-    out: &mut [u8],
-) -> usize
+    w: &mut Writer,
+)
     requires { (x : Projection) × (ks : List Pair) × IsNamed query.now table.now spots.now prefix_v false constants.now news.now found x [] ks }
-    ensures { (x : Projection) (ks : List Pair) → IsNamed query.now table.now spots.now prefix_v false constants.now news.now found x [] ks → em result out.new ≡ puts (head.now ++ layout (pushed_tree x ks)) (em 0 out.old) }
+    ensures { PushWritten head.now query.now table.now spots.now constants.now news.now found w.old w.new }
 {
     let o = found.outline;
-    let a = put_all(out, 0, head);
-    let b = put_all(out, a, &PROJECT);
-    let c = put_columns(
+    w.put_all(head);
+    w.put_all(&PROJECT);
+    put_columns(
         query,
         table,
         news,
@@ -50,11 +49,10 @@ fn put_pushed(
         o.constant,
         0,
         width(o.columns, o.constant),
-        out,
-        b,
+        w,
     );
-    let d = put(out, c, 10);
-    put_side(query, table, spots, news, constants, found, out, d)
+    w.put(10);
+    put_side(query, table, spots, news, constants, found, w);
 }
 
 // A side that was found: it gets its names, as there is no join list, then 6 unless there is room for the tree
@@ -75,17 +73,11 @@ fn push_found(
 {
     let mut news = [[0u16; 2]; 1024];
     if !name_found(words, query, table, nodes, spots, b'v', found, &mut news) {
-        return Answer::Repeated;
+        return Err(Refusal::Repeated);
     }
-    let mut none = [0u8; 0];
-    let size = put_pushed(
-        head, query, table, spots, &news, constants, found, &mut none,
-    );
-    if out.len() < size {
-        return Answer::TooShort;
-    }
-    let put = put_pushed(head, query, table, spots, &news, constants, found, out);
-    Answer::Written(put)
+    write_answer(out, |w| {
+        put_pushed(head, query, table, spots, &news, constants, found, w)
+    })
 }
 
 // push_constants_in_project_pattern, behind a head: its side is found, 3 if a position is outside, then
@@ -106,7 +98,7 @@ pub fn push_in_project(
 {
     let found = find_side(query, standing, &constants[..0], false, constants);
     if !found.outline.inside {
-        return Answer::Outside;
+        return Err(Refusal::Outside);
     }
     push_found(
         words, head, query, table, nodes, spots, constants, found, out,

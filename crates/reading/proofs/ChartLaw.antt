@@ -20,7 +20,6 @@ use Rattle.algebra.specs.Texts.{read_query}
 use Rattle.algebra.specs.bridge.Machine.{Check}
 use Rattle.algebra.specs.bridge.Verdict.{checked}
 use Rattle.algebra.specs.bridge.Table.{Sort, patterns, heads, row_in}
-use Rattle.algebra.specs.declared.Answer.TheVariants as G
 use Rattle.algebra.proofs.Neat.{neat, query-neat}
 use Rattle.algebra.proofs.Theorem.{query-exactly}
 use Rattle.scoping.specs.bridge.Places.{Mark, visible}
@@ -30,10 +29,10 @@ use Rattle.names.specs.bridge.Names.{listing, Holds}
 use Rattle.names.specs.bridge.Checked.{Checked}
 use Rattle.checking.specs.bridge.Run.{Tells}
 use Rattle.lines.specs.bridge.Spotted.{Spotted, Noted}
-use Rattle.checking.specs.bridge.Walks.{entry_of, mark_alone, answer_of, Charts}
-use Rattle.checking.specs.declared.check.Noting.{Noting}
-use Rattle.checking.specs.declared.check.Noting.TheVariants.{Good, Malformed, OverBound}
+use Rattle.checking.specs.bridge.Walks.{entry_of, mark_alone, answer_of, Charts, Noting}
 use Rattle.reading.specs.bridge.Charted.{tree_start, query_start, Charted}
+use Rattle.std.specs.Prelude.{Ok, Err}
+use Rattle.algebra.specs.declared.Fault.TheVariants.{Malformed, OverBound}
 
 -- ---- a whole text
 
@@ -44,8 +43,11 @@ module _ {A : Type 0} (f : A → Tally → Tally) (from : Bytes → A → ℕ �
 
   pub charted : (r : Noting) (k : Check) (o : Outcome A) → k ≡ checked f o → Tells s a l h k (answer_of r) → Charts s words a l before after b sort level r → Inside o → Charted (λ x. (f x start).names) from s a l h before after words b o r
   unfolding Tells Charts Charted
-  charted (Good n k m) c (reads x) e t ch into =
-      let w : Tells s a l h (checked f (reads x)) (G.Good n) = subst (λ c. Tells s a l h c (G.Good n)) e t in
+  charted (Ok d) c (reads x) e t ch into =
+      let n = d.names in
+      let k = d.spots in
+      let m = d.nodes in
+      let w : Tells s a l h (checked f (reads x)) (Ok n) = subst (λ c. Tells s a l h c (Ok n)) e t in
       let i : w.0 ≡ n = (let q = w.1 in cc) in
       let hs : Holds s a l h n (f x start).names = subst (λ (m : ℕ). Holds s a l h m (f x start).names) i w.2 in (
         n,
@@ -66,14 +68,14 @@ module _ {A : Type 0} (f : A → Tally → Tally) (from : Bytes → A → ℕ �
           ),
         ),
       )
-  charted (Good n k m) c (refuses malformed) e t ch into = let q : G.Good n ≡ G.Malformed = subst (λ c. Tells s a l h c (G.Good n)) e t in let z : ◌≡◌ {A = ℕ} 0 1 = cc in absurd (omega arith)
-  charted (Good n k m) c (refuses over_bound) e t ch into = let q : G.Good n ≡ G.OverBound = subst (λ c. Tells s a l h c (G.Good n)) e t in let z : ◌≡◌ {A = ℕ} 0 1 = cc in absurd (omega arith)
-  charted Malformed c (reads x) e t ch into = let w : Tells s a l h (checked f (reads x)) G.Malformed = subst (λ c. Tells s a l h c G.Malformed) e t in let q = w.1 in let z : ◌≡◌ {A = ℕ} 0 1 = cc in absurd (omega arith)
-  charted Malformed c (refuses malformed) e t ch into = refl
-  charted Malformed c (refuses over_bound) e t ch into = let q : G.Malformed ≡ G.OverBound = subst (λ c. Tells s a l h c G.Malformed) e t in let z : ◌≡◌ {A = ℕ} 0 1 = cc in absurd (omega arith)
-  charted OverBound c (reads x) e t ch into = let w : Tells s a l h (checked f (reads x)) G.OverBound = subst (λ c. Tells s a l h c G.OverBound) e t in let q = w.1 in let z : ◌≡◌ {A = ℕ} 0 1 = cc in absurd (omega arith)
-  charted OverBound c (refuses malformed) e t ch into = let q : G.OverBound ≡ G.Malformed = subst (λ c. Tells s a l h c G.OverBound) e t in let z : ◌≡◌ {A = ℕ} 0 1 = cc in absurd (omega arith)
-  charted OverBound c (refuses over_bound) e t ch into = refl
+  charted (Ok d) c (refuses malformed) e t ch into = let n = d.names in let q : Ok n ≡ (Err Malformed) = subst (λ c. Tells s a l h c (Ok n)) e t in let z : ◌≡◌ {A = ℕ} 0 1 = cc in absurd (omega arith)
+  charted (Ok d) c (refuses over_bound) e t ch into = let n = d.names in let q : Ok n ≡ (Err OverBound) = subst (λ c. Tells s a l h c (Ok n)) e t in let z : ◌≡◌ {A = ℕ} 0 1 = cc in absurd (omega arith)
+  charted (Err Malformed) c (reads x) e t ch into = let w : Tells s a l h (checked f (reads x)) (Err Malformed) = subst (λ c. Tells s a l h c (Err Malformed)) e t in let q = w.1 in let z : ◌≡◌ {A = ℕ} 0 1 = cc in absurd (omega arith)
+  charted (Err Malformed) c (refuses malformed) e t ch into = refl
+  charted (Err Malformed) c (refuses over_bound) e t ch into = let q : (Err Malformed) ≡ (Err OverBound) = subst (λ c. Tells s a l h c (Err Malformed)) e t in let z : ◌≡◌ {A = ℕ} 0 1 = cc in absurd (omega arith)
+  charted (Err OverBound) c (reads x) e t ch into = let w : Tells s a l h (checked f (reads x)) (Err OverBound) = subst (λ c. Tells s a l h c (Err OverBound)) e t in let q = w.1 in let z : ◌≡◌ {A = ℕ} 0 1 = cc in absurd (omega arith)
+  charted (Err OverBound) c (refuses malformed) e t ch into = let q : (Err OverBound) ≡ (Err Malformed) = subst (λ c. Tells s a l h c (Err OverBound)) e t in let z : ◌≡◌ {A = ℕ} 0 1 = cc in absurd (omega arith)
+  charted (Err OverBound) c (refuses over_bound) e t ch into = refl
 
 -- for callers: what it says without the spots
 pub charted-checked : {A : Type 0} (names : A → List Bytes) (from : Bytes → A → ℕ → Type 0) (s a l h : List ℕ) (before after words b : List (List ℕ)) (o : Outcome A) (r : Noting) → Charted names from s a l h before after words b o r → Checked names s a l h o (answer_of r)

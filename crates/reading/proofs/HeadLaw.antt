@@ -19,7 +19,6 @@ use Rattle.algebra.specs.Tally.{notes, noted, headed, tally, tally_triples, tall
 use Rattle.algebra.specs.Reader.{malformed, Got, refused, reads, refuses, one, kept, end}
 use Rattle.algebra.specs.ListReading.{query}
 use Rattle.algebra.specs.Given.{empty_lines, read_given_query}
-use Rattle.algebra.specs.declared.Answer.TheVariants as A
 use Rattle.algebra.proofs.Given.{head-reads}
 use Rattle.algebra.proofs.Alone.{stands-alone}
 use Rattle.scoping.proofs.Basics.{both_ways, clash}
@@ -35,6 +34,8 @@ use Rattle.lines.specs.bridge.Steps.{InLine, left_at, Follows, rest_of}
 use Rattle.lines.proofs.RepeatLaw.{follows-along, follows_both, follows-fine}
 use Rattle.reading.specs.bridge.Variables.{query_names}
 use Rattle.reading.specs.bridge.Head.{is_head}
+use Rattle.std.specs.Prelude.{Ok, Err}
+use Rattle.algebra.specs.declared.Fault.TheVariants.{Malformed, OverBound}
 
 pub from_start : (s : Bytes) (at n e : ℕ) → at ≡ 0 → First 10 s at n e → First 10 s 0 n e
 from_start s at n e is f = subst (λ (i : ℕ). First 10 s i n e) is f
@@ -191,7 +192,7 @@ module _ (s w : Bytes) (l : List Bytes) (alone : lines_of s ≡ (w ∷ l) ∷ []
 -- ---- the check's ways out
 
 module _ (s : Bytes) (a l h : List ℕ) where
-  pub head-long : 16384 < length s → Checked query_names s a l h (read_given_query s) A.OverBound
+  pub head-long : 16384 < length s → Checked query_names s a l h (read_given_query s) (Err OverBound)
   unfolding Checked read_given_query
   head-long n = rw (lt-ltb 16384 (length s) n) refl
 
@@ -205,7 +206,7 @@ module _ (s : Bytes) (a l h : List ℕ) where
         ∙ ap₂ (λ (i j : ℕ). (part c.at w s ∷ left s i j) ∷ []) (sym behind-word.0) (sym behind-word.1)
 
     module _ (k : ℕ) (keyed : Keyed (part c.at w s) k) where
-      pub head-other : (k ≡ key_of 0 (bytes "query") → ⊥) → Checked query_names s a l h (read_given_query s) A.Malformed
+      pub head-other : (k ≡ key_of 0 (bytes "query") → ⊥) → Checked query_names s a l h (read_given_query s) (Err Malformed)
       unfolding Checked small tells
       head-other n = rw (other_word s _ _ fields-are short (other_key (part c.at w s) k keyed (bytes "query") refl n)) refl
 
@@ -214,10 +215,10 @@ module _ (s : Bytes) (a l h : List ℕ) where
         unfolding small tells
         the_word = is_word (part c.at w s) k keyed (bytes "query") refl is
 
-        pub head-wrong : is_head (left_at s d) ≡ false → Checked query_names s a l h (read_given_query s) A.Malformed
+        pub head-wrong : is_head (left_at s d) ≡ false → Checked query_names s a l h (read_given_query s) (Err Malformed)
         unfolding Checked
         head-wrong e = rw (other-fields s _ _ fields-are short the_word e) refl
 
-        pub head-good : is_head (left_at s d) ≡ true → Holds s a l h 0 [] → Checked query_names s a l h (read_given_query s) (A.Good 0)
+        pub head-good : is_head (left_at s d) ≡ true → Holds s a l h 0 [] → Checked query_names s a l h (read_given_query s) (Ok 0)
         unfolding Checked
         head-good e t = let x = is_read s _ _ fields-are short the_word e in rw x.1 (0, refl, subst (Holds s a l h 0) (sym x.2) t)

@@ -6,7 +6,7 @@ use Rattle.algebra.specs.Tally.{Tally, start}
 use Rattle.algebra.specs.Reader.{malformed, over_bound, Outcome, reads, refuses}
 use Rattle.algebra.specs.bridge.Machine.{Check}
 use Rattle.algebra.specs.bridge.Verdict.{checked}
-use Rattle.algebra.specs.declared.Answer.{Answer}
+use Rattle.algebra.specs.bridge.Answers.{Answer}
 use Rattle.names.specs.bridge.Checked.{Checked}
 use Rattle.checking.specs.bridge.Run.{Tells}
 

@@ -13,8 +13,8 @@ ghost use Rattle.reading.specs.bridge.Variables.{tree_names, query_names, set_na
 ghost use Rattle.names.specs.bridge.Names.{starts_of, sizes_of, Holds};
 ghost use Rattle.words.specs.bridge.Words.{Worded};
 
-use algebra::{Answer, DEPTH};
-use checking::check::{Noting, check_list, check_one, note_one};
+use algebra::{DEPTH, Fault};
+use checking::check::{Counted, check_list, check_one, note_one};
 use cursor::Cursor;
 use lines::fields::{Node, Spot, text_field};
 use names::{Entry, no_names};
@@ -27,7 +27,7 @@ pub fn check_tree(
     words: &[WordRow; 56],
     table: &mut [Entry; 1024],
     hints: &mut [u16; 2048],
-) -> Answer
+) -> Result<usize, Fault>
     requires { Worded words.now }
     ensures { Checked tree_names text.now (starts_of table.new) (sizes_of table.new) hints.new (read_tree text.now) result }
 {
@@ -43,7 +43,7 @@ pub fn note_tree(
     hints: &mut [u16; 2048],
     spots: &mut [Spot],
     nodes: &mut [Node],
-) -> Noting
+) -> Result<Counted, Fault>
     requires { Worded words.now }
     ensures { Charted tree_names tree_start text.now (starts_of table.new) (sizes_of table.new) hints.new spots.old spots.new words.now nodes.new (read_tree text.now) result }
 {
@@ -68,21 +68,21 @@ fn are_head_fields(s: &[u8], c: Cursor) -> bool
 }
 
 // A query's head line that stands alone. It is told by itself, as the check of lines has no place for it.
-fn check_head(text: &[u8], line: Cursor) -> Answer
+fn check_head(text: &[u8], line: Cursor) -> Result<usize, Fault>
     requires { (line.at ≡ 0) × First 10 text.now 0 (length text.now) line.end × (line.end + 1 ≡ length text.now) }
     ensures { (a l h : List ℕ) → Holds text.now a l h 0 [] → Checked query_names text.now a l h (read_given_query text.now) result }
 {
     if 16384 < text.len() {
-        return Answer::OverBound;
+        return Err(Fault::OverBound);
     }
     let word = word_at(text, line.at, line.end);
     if word.key != keys::QUERY {
-        return Answer::Malformed;
+        return Err(Fault::Malformed);
     }
     if are_head_fields(text, line.behind(word.end)) {
-        return Answer::Good(0);
+        return Ok(0);
     }
-    Answer::Malformed
+    Err(Fault::Malformed)
 }
 
 // A query: its head line, then a tree, or nothing, which is an empty file's tree.
@@ -91,7 +91,7 @@ pub fn check_query(
     words: &[WordRow; 56],
     table: &mut [Entry; 1024],
     hints: &mut [u16; 2048],
-) -> Answer
+) -> Result<usize, Fault>
     requires { Worded words.now }
     ensures { Checked query_names text.now (starts_of table.new) (sizes_of table.new) hints.new (read_given_query text.now) result }
 {
@@ -111,7 +111,7 @@ pub fn note_query(
     hints: &mut [u16; 2048],
     spots: &mut [Spot],
     nodes: &mut [Node],
-) -> Noting
+) -> Result<Counted, Fault>
     requires { Worded words.now }
     ensures { Charted query_names query_start text.now (starts_of table.new) (sizes_of table.new) hints.new spots.old spots.new words.now nodes.new (read_query text.now) result }
 {
@@ -125,7 +125,7 @@ pub fn check_sets(
     words: &[WordRow; 56],
     table: &mut [Entry; 1024],
     hints: &mut [u16; 2048],
-) -> Answer
+) -> Result<usize, Fault>
     requires { Worded words.now × (table.old ≡ replicate 1024 (replicate 2 0)) }
     ensures { Checked set_names text.now (starts_of table.new) (sizes_of table.new) hints.new (read_sets text.now) result }
 {
@@ -139,7 +139,7 @@ pub fn check_filters(
     words: &[WordRow; 56],
     table: &mut [Entry; 1024],
     hints: &mut [u16; 2048],
-) -> Answer
+) -> Result<usize, Fault>
     requires { Worded words.now × (table.old ≡ replicate 1024 (replicate 2 0)) }
     ensures { Checked filter_names text.now (starts_of table.new) (sizes_of table.new) hints.new (read_filters text.now) result }
 {

@@ -4,8 +4,7 @@ use lib.ListN.{length}
 use Rattle.text.specs.Text.{Bytes}
 use Rattle.text.specs.Word.{bytes}
 use Rattle.algebra.proofs.Given.{tree_text, given-as-text}
-use Rattle.answers.specs.declared.Answer.{Answer}
-use Rattle.answers.specs.Outcome.{Answered}
+use Rattle.answers.specs.Outcome.{Answer, Answered}
 use Rattle.answers.proofs.Given.{answered-none, answered-some}
 use Rattle.renaming.specs.Rename.{rename_read, rename_outcome}
 use Rattle.renaming.specs.bridge.AsIs.{rename_as_is}

@@ -31,7 +31,6 @@ use Rattle.walking.specs.bridge.Code.{renames}
 use Rattle.walking.specs.bridge.Rewritten.{rewritten}
 use Rattle.walking.proofs.Noted.{rewritten-tree}
 use Rattle.walking.proofs.Remarked.{renamed-rewritten}
-use Rattle.answers.specs.declared.Answer.TheVariants.{Written, Malformed, OverBound, TooShort}
 use Rattle.answers.specs.Outcome.{written, Reported, Answered}
 use Rattle.renaming.specs.Rename.{becomes}
 use Rattle.renaming.specs.bridge.AsIs.{rename_as_is}
@@ -42,6 +41,8 @@ use Rattle.renaming.proofs.Long.{renamed-long}
 use Rattle.surveying.proofs.Tables.{known-valid, known-depth, known-names, known-lines}
 use Rattle.scoping.proofs.Alike.{rename-alike}
 use Rattle.answers.proofs.Answers.{too_short, all-written, answered}
+use Rattle.std.specs.Prelude.{Ok, Err}
+use Rattle.answers.specs.declared.Refusal.TheVariants.{Malformed, OverBound, TooShort}
 
 -- ---- the names
 
@@ -118,28 +119,28 @@ module _ (s : Bytes) (a l : List ℕ) (n : ℕ) (spots : List (List ℕ)) (k : �
   unfolding renamed_size
   measure = renamed-puts counted.at [] counted.out refl
 
-  pub rename-short : (out : Bytes) → length out < need → Answered (rename_as_is s pairs) out out TooShort
-  rename-short out i = answered _ _ out out TooShort outcome-is (too_short _ out need [] counted.out measure i)
+  pub rename-short : (out : Bytes) → length out < need → Answered (rename_as_is s pairs) out out (Err TooShort)
+  rename-short out i = answered _ _ out out (Err TooShort) outcome-is (too_short _ out need [] counted.out measure i)
 
   pub rename-written : (out : Bytes) (size : ℕ) (out' : Bytes) → need ≤ length out → length out < last
-      → em size out' ≡ rewritten new s (drop 0 (spots_of (listing s a l n) spots k)) 0 (length s) (em 0 out) → Answered (rename_as_is s pairs) out out' (Written size)
-  rename-written out size out' i j w = answered _ _ out out' (Written size) outcome-is (all-written _ out need [] counted.out measure size out' i j (renamed-puts size out out' w))
+      → em size out' ≡ rewritten new s (drop 0 (spots_of (listing s a l n) spots k)) 0 (length s) (em 0 out) → Answered (rename_as_is s pairs) out out' (Ok size)
+  rename-written out size out' i j w = answered _ _ out out' (Ok size) outcome-is (all-written _ out need [] counted.out measure size out' i j (renamed-puts size out out' w))
 
 -- ---- a text that is refused
 
-pub tree-malformed : (s pairs out : Bytes) → read_tree s ≡ refuses malformed → Answered (rename_as_is s pairs) out out Malformed
+pub tree-malformed : (s pairs out : Bytes) → read_tree s ≡ refuses malformed → Answered (rename_as_is s pairs) out out (Err Malformed)
 unfolding rename_as_is Reported
 tree-malformed s pairs out e = rw e (refl, refl, refl)
 
-pub tree_over : (s pairs out : Bytes) → read_tree s ≡ refuses over_bound → Answered (rename_as_is s pairs) out out OverBound
+pub tree_over : (s pairs out : Bytes) → read_tree s ≡ refuses over_bound → Answered (rename_as_is s pairs) out out (Err OverBound)
 unfolding rename_as_is Reported
 tree_over s pairs out e = rw e (refl, refl, refl)
 
 module _ (s : Bytes) (a l h : List ℕ) (n : ℕ) (k : Known s a l h n) (pairs out : Bytes) where
-  pub mapping-malformed : read_pairs mapping pairs ≡ refuses malformed → Answered (rename_as_is s pairs) out out Malformed
+  pub mapping-malformed : read_pairs mapping pairs ≡ refuses malformed → Answered (rename_as_is s pairs) out out (Err Malformed)
   unfolding rename_as_is Reported
   mapping-malformed e = rw (k.read, e) (refl, refl, refl)
 
-  pub mapping-over : read_pairs mapping pairs ≡ refuses over_bound → Answered (rename_as_is s pairs) out out OverBound
+  pub mapping-over : read_pairs mapping pairs ≡ refuses over_bound → Answered (rename_as_is s pairs) out out (Err OverBound)
   unfolding rename_as_is Reported
   mapping-over e = rw (k.read, e) (refl, refl, refl)

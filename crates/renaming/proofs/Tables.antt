@@ -8,7 +8,6 @@ use Rattle.text.specs.Text.{Bytes}
 use Rattle.algebra.specs.Tree.{Pattern}
 use Rattle.words.specs.bridge.Words.{Worded}
 use Rattle.algebra.specs.Texts.{read_tree}
-use Rattle.algebra.specs.declared.Answer.TheVariants.{Good}
 use Rattle.reading.specs.bridge.Variables.{tree_names}
 use Rattle.reading.specs.bridge.Charted.{tree_start, Charted}
 use Rattle.names.specs.bridge.Names.{listing}
@@ -22,8 +21,8 @@ use Rattle.walking.specs.bridge.Rewritten.{Stands}
 use Rattle.walking.proofs.Noted.{shaped-tree}
 use Rattle.surveying.proofs.Tables.{known-named, known-lines, known-valid, known-depth, surveyed, surveyed-high, surveyed-within, surveyed-stands, good-notes}
 use Rattle.renaming.specs.bridge.Code.{Recorded, Renaming}
-use Rattle.checking.specs.declared.check.Noting.{Noting}
-use Rattle.checking.specs.declared.check.Noting.TheVariants as Noting
+use Rattle.checking.specs.bridge.Walks.{counts, Noting}
+use Rattle.std.specs.Prelude.{Ok}
 
 -- what put_renamed asks for
 pub renaming-ready : (s : Bytes) (a l : List ℕ) (n : ℕ) (spots : List (List ℕ)) (k : ℕ) (spans : List ℕ) → Renaming s a l n spots k spans
@@ -61,5 +60,5 @@ roomy-kept : (s : Bytes) (b d : List (List ℕ)) → length d ≡ length b → R
 roomy-kept s b d e r m i j = subst (λ (k : ℕ). m ≤ k) (sym e) (r m i j)
 
 -- a good answer of the check that notes variables and lines, where there was room for all
-pub good-recorded : (s : Bytes) (a l h : List ℕ) (before after words nodes : List (List ℕ)) (r : Noting) (c : Charted tree_names tree_start s a l h before after words nodes (read_tree s) r) (n k m : ℕ) (b : List (List ℕ)) → Worded words → (length s ≤ 16384 → length s ≤ 3 * length before) × Roomy s b → r ≡ Noting.Good n k m → length nodes ≡ length b → Recorded s a l h n after k words nodes m
+pub good-recorded : (s : Bytes) (a l h : List ℕ) (before after words nodes : List (List ℕ)) (r : Noting) (c : Charted tree_names tree_start s a l h before after words nodes (read_tree s) r) (n k m : ℕ) (b : List (List ℕ)) → Worded words → (length s ≤ 16384 → length s ≤ 3 * length before) × Roomy s b → r ≡ Ok (counts n k m) → length nodes ≡ length b → Recorded s a l h n after k words nodes m
 good-recorded s a l h before after words nodes r c n k m b w (room, y) q e = let g = good-notes s a l h before after words nodes r c n k m room q in record { known = g.known; noted = g.noted; noded = g.noded (roomy-kept s b nodes e y); worded = w }

@@ -8,7 +8,7 @@ use Rattle.algebra.specs.Texts.{read_pairs}
 use Rattle.algebra.specs.Given.{read_given_tree}
 use Rattle.algebra.specs.Layout.{layout}
 use Rattle.scoping.specs.Rename.{rename_in_graph_pattern}
-use Rattle.scoping.specs.Standardize.{Entry, entry, renamed}
+use Rattle.scoping.specs.Standardize.{entry, renamed}
 use Rattle.answers.specs.Outcome.{Outcome, written, then}
 
 -- mapping.get(variable).unwrap_or(variable), for the mapping whose lines are `?from ?to`

@@ -9,10 +9,10 @@ ghost use Rattle.renaming.specs.Rename.{rename_outcome};
 ghost use Rattle.renaming.specs.bridge.AsIs.{rename_as_is};
 ghost use Rattle.renaming.specs.bridge.Code.{Recorded, Renaming, KnownPairs, Targets, Settled, renamed_size};
 
-use algebra::{Answer as Check, EMPTY_TREE, ENTRIES};
-use answers::Answer;
-use checking::check::Noting;
+use algebra::{EMPTY_TREE, ENTRIES};
+use answers::{Answer, Refusal};
 use descending::tree::rename_tree;
+use emit::Writer;
 use lines::fields::{Node, Spot};
 use lists::{Entry as Pair, check_mapping, field_at};
 use names::{Entry, find_name, new_table};
@@ -53,10 +53,8 @@ fn find_targets(
     requires { KnownPairs mapping.now keys.now m × (length news.old ≡ 1024) × ((i : ℕ) → get_or (sizes_of news.old) i 0 ≡ 0) × Named tree.now (starts_of table.now) (sizes_of table.now) hints.now n }
     ensures { Targets (names_in tree.now table.now n) n mapping.now (starts_of news.new) (sizes_of news.new) }
 {
-    let mut i = 0;
-    while i < m {
+    for i in 0..m {
         set_target(tree, table, hints, n, mapping, keys[i], news);
-        i += 1;
     }
 }
 
@@ -79,10 +77,9 @@ fn is_room(
     }
     let end = tree.len();
     let mut none = [0u8; 0];
-    let need = put_renamed(
-        tree, 0, end, spots, 0, k, table, n, mapping, news, &mut none, 0,
-    );
-    need <= room
+    let mut w = Writer::new(&mut none, 0);
+    put_renamed(tree, 0, end, spots, 0, k, table, n, mapping, news, &mut w);
+    w.at <= room
 }
 
 // The answer for a tree, a mapping and what it makes of each name: written if it fits.
@@ -100,11 +97,12 @@ fn rename_over(
     ensures { Answered (rename_as_is tree.now mapping.now) out.old out.new result }
 {
     if !is_room(tree, table, n, spots, k, mapping, news, out.len()) {
-        return Answer::TooShort;
+        return Err(Refusal::TooShort);
     }
     let end = tree.len();
-    let size = put_renamed(tree, 0, end, spots, 0, k, table, n, mapping, news, out, 0);
-    Answer::Written(size)
+    let mut w = Writer::new(out, 0);
+    put_renamed(tree, 0, end, spots, 0, k, table, n, mapping, news, &mut w);
+    Ok(w.at)
 }
 
 // The same for a tree that was checked and any mapping, with entries enough for it.
@@ -125,16 +123,11 @@ fn rename_listed(
     requires { Recorded tree.now (starts_of table.now) (sizes_of table.now) hints.now n spots.old k words.now nodes.now m × Enough mapping.now keys.old }
     ensures { Answered (rename_as_is tree.now mapping.now) out.old out.new result }
 {
-    match check_mapping(mapping, keys) {
-        Check::Good(pairs) => {
-            let mut news = [[0u16; 2]; 1024];
-            find_targets(tree, table, hints, n, mapping, keys, pairs, &mut news);
-            rename_tree(words, nodes, m, spots, k, &news);
-            rename_over(tree, table, n, spots, k, mapping, &news, out)
-        }
-        Check::Malformed => Answer::Malformed,
-        Check::OverBound => Answer::OverBound,
-    }
+    let pairs = check_mapping(mapping, keys)?;
+    let mut news = [[0u16; 2]; 1024];
+    find_targets(tree, table, hints, n, mapping, keys, pairs, &mut news);
+    rename_tree(words, nodes, m, spots, k, &news);
+    rename_over(tree, table, n, spots, k, mapping, &news, out)
 }
 
 // The same, with as many entries as pays: they are cleared first.
@@ -180,44 +173,48 @@ fn rename_with(
     let words = all_words();
     let mut table = new_table();
     let mut hints = [0u16; 2048];
-    match note_tree(tree, &words, &mut table, &mut hints, spots, nodes) {
-        Noting::Good(n, k, m) => {
-            rename_by(
-                tree, &table, &hints, n, spots, k, &words, nodes, m, mapping, out,
-            )
-        }
-        Noting::Malformed => Answer::Malformed,
-        Noting::OverBound => Answer::OverBound,
-    }
+    let noted = note_tree(tree, &words, &mut table, &mut hints, spots, nodes)?;
+    rename_by(
+        tree,
+        &table,
+        &hints,
+        noted.names,
+        spots,
+        noted.spots,
+        &words,
+        nodes,
+        noted.nodes,
+        mapping,
+        out,
+    )
 }
 
-// A tree's text as it stands and a mapping to tree. Spots and nodes are as many as pays: they are cleared first.
+// The same with so many spots and nodes, which are cleared first. Each size has a frame of its own.
+#[inline(never)]
+fn rename_in<const SPOTS: usize, const NODES: usize>(
+    tree: &[u8],
+    mapping: &[u8],
+    out: &mut [u8],
+) -> Answer
+    requires { (SPOTS ≤ 5462) × (NODES ≤ 2048) × (length tree.now ≤ 16384 → length tree.now ≤ 3 * SPOTS) × ((m : ℕ) → 3 * m ≤ length tree.now → m ≤ 2048 → m ≤ NODES) }
+    ensures { Answered (rename_as_is tree.now mapping.now) out.old out.new result }
+{
+    let mut spots = [[0u16; 3]; SPOTS];
+    let mut nodes = [[0u32; 3]; NODES];
+    rename_with(tree, &mut spots, &mut nodes, mapping, out)
+}
+
+// A tree's text as it stands and a mapping to tree, with as many spots and nodes as pays.
 fn rename_text(tree: &[u8], mapping: &[u8], out: &mut [u8]) -> Answer
     ensures { Answered (rename_as_is tree.now mapping.now) out.old out.new result }
 {
-    if tree.len() <= 384 {
-        let mut spots = [[0u16; 3]; 128];
-        let mut nodes = [[0u32; 3]; 128];
-        return rename_with(tree, &mut spots, &mut nodes, mapping, out);
+    match tree.len() {
+        0..=384 => rename_in::<128, 128>(tree, mapping, out),
+        385..=768 => rename_in::<256, 256>(tree, mapping, out),
+        769..=1536 => rename_in::<512, 512>(tree, mapping, out),
+        1537..=6144 => rename_in::<2048, 2048>(tree, mapping, out),
+        _ => rename_in::<5462, 2048>(tree, mapping, out),
     }
-    if tree.len() <= 768 {
-        let mut spots = [[0u16; 3]; 256];
-        let mut nodes = [[0u32; 3]; 256];
-        return rename_with(tree, &mut spots, &mut nodes, mapping, out);
-    }
-    if tree.len() <= 1536 {
-        let mut spots = [[0u16; 3]; 512];
-        let mut nodes = [[0u32; 3]; 512];
-        return rename_with(tree, &mut spots, &mut nodes, mapping, out);
-    }
-    if tree.len() <= 6144 {
-        let mut spots = [[0u16; 3]; 2048];
-        let mut nodes = [[0u32; 3]; 2048];
-        return rename_with(tree, &mut spots, &mut nodes, mapping, out);
-    }
-    let mut spots = [[0u16; 3]; 5462];
-    let mut nodes = [[0u32; 3]; 2048];
-    rename_with(tree, &mut spots, &mut nodes, mapping, out)
 }
 
 // rename: tree and mapping to tree; an empty file is read as its two lines.

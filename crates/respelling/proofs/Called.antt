@@ -16,7 +16,6 @@ use Rattle.algebra.proofs.Neat.{neat}
 use Rattle.algebra.proofs.Theorem.{tree-exactly}
 use Rattle.scoping.specs.Sets.{all}
 use Rattle.emit.specs.bridge.Emit.{em, last, puts}
-use Rattle.answers.specs.declared.Answer.TheVariants.{Written, Malformed, OverBound, TooShort, NotInOrder, NotCovered}
 use Rattle.answers.specs.Outcome.{written, Reported, Answered}
 use Rattle.answers.proofs.Answers.{too_short, all-written, answered}
 use Rattle.converting.specs.Starts.{Start, read_starts, old_starts, in_order}
@@ -27,6 +26,8 @@ use Rattle.converting.proofs.Order.{neighbours-enough}
 use Rattle.converting.proofs.ByLine.{lines_are, converted-lines, iris-lines}
 use Rattle.starts.specs.bridge.Starts.{starts_in, StartsTold, Ordered}
 use Rattle.respelling.specs.bridge.Written.{are_covered}
+use Rattle.std.specs.Prelude.{Ok, Err}
+use Rattle.answers.specs.declared.Refusal.TheVariants.{Malformed, NotCovered, NotInOrder, OverBound, TooShort}
 
 -- the lines of a tree that was read are ended
 pub tree-lines-ended : (tree : Bytes) (p : Pattern) → read_tree tree ≡ reads p → Ended (lines_from tree 0)
@@ -38,20 +39,20 @@ in_order_lem table keys n t b e h = record { room = t.room; few = t.few; ordered
 
 -- ---- a text that is refused
 
-pub tree-malformed : (tree table out : Bytes) → read_tree tree ≡ refuses malformed → Answered (namespaces_as_is tree table) out out Malformed
+pub tree-malformed : (tree table out : Bytes) → read_tree tree ≡ refuses malformed → Answered (namespaces_as_is tree table) out out (Err Malformed)
 unfolding namespaces_as_is Reported
 tree-malformed tree table out e = rw e (refl, refl, refl)
 
-pub tree_over : (tree table out : Bytes) → read_tree tree ≡ refuses over_bound → Answered (namespaces_as_is tree table) out out OverBound
+pub tree_over : (tree table out : Bytes) → read_tree tree ≡ refuses over_bound → Answered (namespaces_as_is tree table) out out (Err OverBound)
 unfolding namespaces_as_is Reported
 tree_over tree table out e = rw e (refl, refl, refl)
 
 module _ (tree table out : Bytes) (p : Pattern) (e : read_tree tree ≡ reads p) where
-  pub table-malformed : read_starts table ≡ refuses malformed → Answered (namespaces_as_is tree table) out out Malformed
+  pub table-malformed : read_starts table ≡ refuses malformed → Answered (namespaces_as_is tree table) out out (Err Malformed)
   unfolding namespaces_as_is Reported
   table-malformed f = rw (e, f) (refl, refl, refl)
 
-  pub table-over : read_starts table ≡ refuses over_bound → Answered (namespaces_as_is tree table) out out OverBound
+  pub table-over : read_starts table ≡ refuses over_bound → Answered (namespaces_as_is tree table) out out (Err OverBound)
   unfolding namespaces_as_is Reported
   table-over f = rw (e, f) (refl, refl, refl)
 
@@ -61,7 +62,7 @@ module _ (tree table out : Bytes) (p : Pattern) (e : read_tree tree ≡ reads p)
     abbrev ss : List Start
     ss = starts_in table keys n
 
-    pub not-in-order : not b ≡ true → Answered (namespaces_as_is tree table) out out NotInOrder
+    pub not-in-order : not b ≡ true → Answered (namespaces_as_is tree table) out out (Err NotInOrder)
     unfolding namespaces_as_is Reported
     not-in-order h = rw (e, t.read, sym tested ∙ not-true b h) (refl, refl, refl)
 
@@ -77,7 +78,7 @@ module _ (tree table out : Bytes) (p : Pattern) (e : read_tree tree ≡ reads p)
         unfolding is_covered are_covered
         all-covered = ap (all (λ x. given (covering_line ss x))) (iris-lines tree p e) ∙ sym covered
 
-        pub not_covered : not c ≡ true → Answered (namespaces_as_is tree table) out out NotCovered
+        pub not_covered : not c ≡ true → Answered (namespaces_as_is tree table) out out (Err NotCovered)
         unfolding namespaces_as_is Reported
         not_covered k = rw (e, t.read, ordered, all-covered ∙ not-true c k) (refl, refl, refl)
 
@@ -87,8 +88,8 @@ module _ (tree table out : Bytes) (p : Pattern) (e : read_tree tree ≡ reads p)
           outcome = rw (e, t.read, ordered, all-covered ∙ not-false c k) (ap written (converted-lines tree p e ss))
 
           module _ (need : ℕ) (tiny tiny' : Bytes) (measure : em need tiny' ≡ puts text (em 0 tiny)) where
-            pub short : length out < need → Answered (namespaces_as_is tree table) out out TooShort
-            short i = answered _ _ out out TooShort outcome (too_short text out need tiny tiny' measure i)
+            pub short : length out < need → Answered (namespaces_as_is tree table) out out (Err TooShort)
+            short i = answered _ _ out out (Err TooShort) outcome (too_short text out need tiny tiny' measure i)
 
-            pub fits : (size : ℕ) (out' : Bytes) → need ≤ length out → length out < last → em size out' ≡ puts text (em 0 out) → Answered (namespaces_as_is tree table) out out' (Written size)
-            fits size out' i j w = answered _ _ out out' (Written size) outcome (all-written text out need tiny tiny' measure size out' i j w)
+            pub fits : (size : ℕ) (out' : Bytes) → need ≤ length out → length out < last → em size out' ≡ puts text (em 0 out) → Answered (namespaces_as_is tree table) out out' (Ok size)
+            fits size out' i j w = answered _ _ out out' (Ok size) outcome (all-written text out need tiny tiny' measure size out' i j w)

@@ -3,8 +3,7 @@ use mathlib.Core.Path.{◌≡◌}
 use lib.ListN.{length}
 use Rattle.text.specs.Text.{Bytes}
 use Rattle.text.specs.Word.{bytes}
-use Rattle.answers.specs.declared.Answer.{Answer}
-use Rattle.answers.specs.Outcome.{Answered}
+use Rattle.answers.specs.Outcome.{Answer, Answered}
 use Rattle.answers.proofs.Given.{answered-none, answered-some}
 use Rattle.converting.specs.Namespaces.{namespaces_outcome}
 use Rattle.converting.specs.bridge.AsIs.{namespaces_as_is}

@@ -18,14 +18,14 @@ ghost use Rattle.converting.specs.bridge.Lines.{is_text, is_iri_at, in_fields, i
 ghost use Rattle.starts.specs.bridge.Starts.{starts_in, StartsTold, Ordered};
 ghost use Rattle.respelling.specs.bridge.Written.{are_covered, Wrote};
 
-use algebra::{Answer as Check, EMPTY_TREE};
-use answers::Answer;
+use algebra::EMPTY_TREE;
+use answers::{Answer, Refusal};
 use cursor::field_end;
 use emit::put_all;
 use lists::field_at;
 use reader::next_end;
 use reading::check_tree;
-use starts::{Covering, STARTS, Starts, check_starts, in_order, line_over};
+use starts::{STARTS, Starts, check_starts, in_order, line_over};
 use words::table::all_words;
 use words::{keys, word_at};
 
@@ -77,7 +77,7 @@ fn put_iri(
     requires { (put.done ≤ from) × (from < to) × (to ≤ length tree.now) × (get_or tree.now from 0 ≡ 60) × Ordered table.now keys.now n }
     ensures { (result.done ≤ to) × Wrote (starts_in table.now keys.now n) tree.now from to (converted_iri (starts_in table.now keys.now n) (part from to tree.now)) (part from to tree.now ∷ []) put out.old result out.new }
 {
-    let Covering::By(k) = line_over(table, keys, n, &tree[from..to]) else {
+    let Some(k) = line_over(table, keys, n, &tree[from..to]) else {
         return Put {
             at: put.at,
             done: put.done,
@@ -189,18 +189,18 @@ fn convert(tree: &[u8], table: &[u8], keys: &Starts, n: usize, out: &mut [u8]) -
     ensures { Answered (namespaces_as_is tree.now table.now) out.old out.new result }
 {
     if !in_order(table, keys, n) {
-        return Answer::NotInOrder;
+        return Err(Refusal::NotInOrder);
     }
     let mut none = [0u8; 0];
     let need = put_converted(tree, table, keys, n, &mut none);
     if !need.covered {
-        return Answer::NotCovered;
+        return Err(Refusal::NotCovered);
     }
     if out.len() < need.size {
-        return Answer::TooShort;
+        return Err(Refusal::TooShort);
     }
     let put = put_converted(tree, table, keys, n, out);
-    Answer::Written(put.size)
+    Ok(put.size)
 }
 
 // The answer for a tree that was checked.
@@ -209,11 +209,8 @@ fn convert_by(tree: &[u8], table: &[u8], out: &mut [u8]) -> Answer
     ensures { Answered (namespaces_as_is tree.now table.now) out.old out.new result }
 {
     let mut keys = [[0u16; 4]; STARTS];
-    match check_starts(table, &mut keys) {
-        Check::Good(n) => convert(tree, table, &keys, n, out),
-        Check::Malformed => Answer::Malformed,
-        Check::OverBound => Answer::OverBound,
-    }
+    let n = check_starts(table, &mut keys)?;
+    convert(tree, table, &keys, n, out)
 }
 
 // The same for any tree's text as it stands.
@@ -223,11 +220,8 @@ fn namespaces_text(tree: &[u8], table: &[u8], out: &mut [u8]) -> Answer
     let words = all_words();
     let mut names = [[0u16; 2]; 1024];
     let mut hints = [0u16; 2048];
-    match check_tree(tree, &words, &mut names, &mut hints) {
-        Check::Good(_) => convert_by(tree, table, out),
-        Check::Malformed => Answer::Malformed,
-        Check::OverBound => Answer::OverBound,
-    }
+    check_tree(tree, &words, &mut names, &mut hints)?;
+    convert_by(tree, table, out)
 }
 
 // namespaces: tree and table to tree; an empty file is read as its two lines.

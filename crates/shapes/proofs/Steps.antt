@@ -7,10 +7,10 @@ use mathlib.Core.List.{List, [], ◌∷◌}
 use native.Mathlib.Omega.{arith}
 use lib.ListN.{length, get_or}
 use lib.Dec.{eqb}
-use Rattle.text.specs.Text.{Bytes, Line, same, onto, split, part, lines_from, First}
+use Rattle.text.specs.Text.{Bytes, Line, onto, split, part, lines_from, First}
 use Rattle.text.proofs.Places.{lines_end, lines_next}
 use Rattle.algebra.specs.Valid.{mem}
-use Rattle.words.specs.bridge.Key.{key_of, Keyed, key_in}
+use Rattle.words.specs.bridge.Key.{Keyed, key_in}
 use Rattle.words.proofs.ByKey.{small, tells, all_words, in-by-key}
 use Rattle.cursor.specs.bridge.Cursor.{left}
 use Rattle.cursor.proofs.Laws.{line-there}
@@ -19,7 +19,7 @@ use Rattle.reader.proofs.Laws.{nothing-here}
 use Rattle.walking.proofs.Laws.{line-split}
 use Rattle.filtering.specs.bridge.Copying.{to_come}
 use Rattle.shapes.specs.declared.Reached.{Reached}
-use Rattle.shapes.specs.bridge.Shape.{flat, level_of, again, Shaped, shape, shaped, ended_lines, Passes, Going}
+use Rattle.shapes.specs.bridge.Shape.{flat, level_of, again, shaped, ended_lines, Passes, Going}
 
 -- ---- a line's level
 
@@ -106,10 +106,10 @@ module _ (s : Bytes) (level at lines depth : ℕ) (at_high : at ≤ length s) (f
             }
 
 module _ (s : Bytes) (d n : ℕ) (p : Reached) where
-  pub begun : p.at ≤ length s → p.lines ≤ p.at → d ≤ p.at → Going s d n p n p
-  begun h f l = record { on = omega arith; high = h; few = f; low = l; lines = refl; depth = λ ws. refl }
+  pub begun : (left : ℕ) → left ≡ n → p.at ≤ length s → p.lines ≤ p.at → d ≤ p.at → Going s d n p left p
+  begun left e h f l = rw e (record { on = omega arith; high = h; few = f; low = l; lines = refl; depth = λ ws. refl })
 
-  pub stepped : (left : ℕ) (r : Reached) → Going s d n p left r → 0 < left → (q : Reached) → Passes s d r.at r.lines r.depth q → Going s d n p (left - 1) q
+  stepped : (left : ℕ) (r : Reached) → Going s d n p left r → 0 < left → (q : Reached) → Passes s d r.at r.lines r.depth q → Going s d n p (left - 1) q
   unfolding again
   stepped zero r g h q x = absurd (omega arith)
   stepped (suc m) r g h q x =
@@ -125,3 +125,6 @@ module _ (s : Bytes) (d n : ℕ) (p : Reached) where
         lines = x.lines ∙ g.lines;
         depth = λ ws. g.depth ws ∙ x.depth (again m d ws) ∙ ap (λ (y : ℕ). shaped (lines_from s q.at) (again y d ws) q.depth) (sym k);
       }
+
+  pub behind : (left : ℕ) (r : Reached) → Going s d n p left r → 0 < left → (q : Reached) → Passes s d r.at r.lines r.depth q → (m : ℕ) → m ≡ left - 1 → Going s d n p m q
+  behind left r g h q x m e = subst (λ (y : ℕ). Going s d n p y q) (sym e) (stepped left r g h q x)

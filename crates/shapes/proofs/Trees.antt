@@ -1,22 +1,20 @@
 -- The levels of a tree's lines: the deepest is the tree's depth below the level at which it stands. Assumes nothing.
 use mathlib.Core.Path.{◌≡◌, refl, ap, ◌∙◌}
-use mathlib.Core.Bool.{Bool, true, false, cond}
 use mathlib.Core.List.{List, [], ◌∷◌}
-use Prim.Native.Nat.{ℕ, zero, suc, ◌+◌, ◌≤◌, max}
+use Prim.Native.Nat.{ℕ, suc, ◌+◌, ◌≤◌, max}
 use native.Mathlib.Omega.{arith}
 use lib.ListN.{length}
 use Rattle.text.specs.Text.{Bytes, Line, same}
 use Rattle.text.specs.Word.{bytes}
-use Rattle.text.specs.Field.{digits_of, number_of}
 use Rattle.algebra.specs.Tree.{Triple, Op, OR, AND, EQ, SAME, GT, GE, LT, LE, ADD, SUB, MUL, DIV, IN, PLUS, NEG, NOT, IF, COALESCE, ASC, DESC, Pattern, bgp, path, join, union, minus, leftjoin, filter, graph, extend, values, orderby, project, distinct, reduced, slice, group, service, Expression, term, bound, exists, apply, call, Condition, always, provided, Expressions, eend, econs, Orders, oend, ocons, Aggregates, aend, agg, aggall, ecount, ocount, acount}
-use Rattle.algebra.specs.Word.{spell_o, arity}
+use Rattle.algebra.specs.Word.{spell_o}
 use Rattle.algebra.specs.bridge.Table.{table, row_in}
-use Rattle.algebra.specs.Layout.{put_flag, put_triples, put_rows, put_arity, put, put_e, put_c, put_es, put_os, put_as}
+use Rattle.algebra.specs.Layout.{put_triples, put_rows, put, put_e, put_c, put_es, put_os, put_as}
 use Rattle.algebra.specs.Depth.{depth, depth_e, depth_c, depth_es, depth_os, depth_as}
-use Rattle.algebra.specs.Valid.{mem, Takes, Valid, ValidE, ValidC, ValidEs, ValidOs, ValidAs}
+use Rattle.algebra.specs.Valid.{mem, Valid, ValidE, ValidC, ValidEs, ValidOs, ValidAs}
 use Rattle.filtering.specs.bridge.Copying.{plus, amounts, to_come}
 use Rattle.filtering.proofs.Copying.{number, op-come, ccount, flag-come}
-use Rattle.shapes.specs.bridge.Shape.{flat, level_of, again, Shaped, shaped}
+use Rattle.shapes.specs.bridge.Shape.{level_of, again, shaped}
 
 -- a line that opens a level, and so many to come below it
 opened : (f : Bytes) (fs : List Bytes) (ls : List Line) (d : ℕ) (ws : List ℕ) (a n : ℕ) → to_come (f ∷ fs) ≡ n → level_of d f ≡ suc d → shaped ((f ∷ fs) ∷ ls) (d ∷ ws) a ≡ shaped ls (again n (suc d) ws) (max a (suc d))

@@ -48,47 +48,25 @@ fn level_of(text: &[u8], from: usize, end: usize, level: usize) -> usize
     level + 1
 }
 
-// The greater of two numbers.
-pub fn greater(a: usize, b: usize) -> usize
-    ensures { result ≡ max a b }
-{
-    if a < b {
-        return b;
-    }
-    a
-}
-
 // The line that starts here, below so many levels, with all that it asks for: it goes on by itself for each line below.
-pub fn pass_line(
-    text: &[u8],
-    words: &[WordRow; 56],
-    level: usize,
-    at: usize,
-    lines: usize,
-    depth: usize,
-) -> Reached
-    requires { (at ≤ length text.now) × (level ≤ at) × (lines ≤ at) × Worded words.now }
-    ensures { Passes text.now level at lines depth result }
+pub fn pass_line(text: &[u8], words: &[WordRow; 56], level: usize, from: Reached) -> Reached
+    requires { (from.at ≤ length text.now) × (level ≤ from.at) × (from.lines ≤ from.at) × Worded words.now }
+    ensures { Passes text.now level from.at from.lines from.depth result }
 {
-    let line = Cursor::new(0).moved_to(at).next_line(text);
+    let line = Cursor::new(0).moved_to(from.at).next_line(text);
     let end = line.end;
     if end == text.len() {
-        return Reached {
-            at: end,
-            lines,
-            depth,
-        };
+        return Reached { at: end, ..from };
     }
-    let d = level_of(text, at, end, level);
-    let mut left = lines_below(text, words, at, end);
+    let d = level_of(text, from.at, end, level);
     let mut r = Reached {
         at: end + 1,
-        lines: lines + 1,
-        depth: greater(depth, d),
+        lines: from.lines + 1,
+        depth: from.depth.max(d),
     };
-    while 0 < left {
-        r = pass_line(text, words, d, r.at, r.lines, r.depth);
-        left -= 1;
+    let below = lines_below(text, words, from.at, end);
+    for _child in 0..below {
+        r = pass_line(text, words, d, r);
     }
     r
 }

@@ -15,7 +15,7 @@ use Rattle.text.specs.Word.{bytes}
 use Rattle.text.proofs.Places.{lines_next}
 use Rattle.cursor.specs.bridge.Cursor.{left}
 use Rattle.cursor.proofs.Laws.{left-none, left-next}
-use Rattle.algebra.specs.Tree.{Pattern, project}
+use Rattle.algebra.specs.Tree.{Pattern}
 use Rattle.algebra.specs.Layout.{put}
 use Rattle.names.specs.bridge.Names.{listing}
 use Rattle.scoping.specs.Sets.{all}
@@ -36,18 +36,17 @@ use Rattle.algebra.specs.Tally.{bounds}
 use Rattle.sides.specs.declared.side.Outline.{Outline}
 use Rattle.mask.specs.declared.Mask.{Mask}
 use Rattle.mask.specs.bridge.Words.{mask_value}
-use Rattle.columns.specs.declared.list.Positions.{Positions}
-use Rattle.columns.specs.declared.list.Positions.TheVariants.{Outside, Are}
+use Rattle.columns.specs.bridge.Listed.{Positions, Listed, positions_in, Kept, Found}
 use Rattle.walking.specs.bridge.Code.{Inside}
 use Rattle.columns.specs.bridge.Columns.{new_columns, picked}
 use Rattle.merging.proofs.Lists.{map-length}
 use Rattle.sides.proofs.Widths.{mask-picks}
-use Rattle.columns.specs.bridge.Listed.{Listed, positions_in, Kept, Found}
 use Rattle.sides.specs.bridge.Side.{TreeIn, Placed, Renames, mask_at, new_names, FindingIs, Outlined, Sided}
 use Rattle.sides.proofs.Trees.{tree-inside, columns-few, columns-inside, columns-new}
 use Rattle.sides.proofs.Entries.{entry_at, names-at}
 use Rattle.columns.proofs.Places.{place-below}
 use Rattle.sides.proofs.Repeated.{Ones, mask-counts}
+use Rattle.std.specs.Prelude.{Some, None}
 
 -- ---- the project's line
 
@@ -135,11 +134,11 @@ module _ (s : Bytes) (at : ℕ) (a l : List ℕ) (n : ℕ) (v : List (List ℕ))
 
 -- ---- what was found, told as a whole
 
-pub found-outside : (s : Bytes) (xs : List Pair) (second : Bool) (c : ℕ) (at lines : List ℕ) (r : Positions) (cs : List Bytes) → Found s xs second c at lines r → r ≡ Outside → c ≡ length cs → inside cs (positions_in second xs) ≡ false
+pub found-outside : (s : Bytes) (xs : List Pair) (second : Bool) (c : ℕ) (at lines : List ℕ) (r : Positions) (cs : List Bytes) → Found s xs second c at lines r → r ≡ None → c ≡ length cs → inside cs (positions_in second xs) ≡ false
 unfolding Found inside
 found-outside s xs second c at lines r cs f q e = ap (λ (m : ℕ). all (λ i. ltb i m) (positions_in second xs)) (sym e) ∙ subst (Found s xs second c at lines) q f
 
-pub found_all : (s : Bytes) (xs : List Pair) (second : Bool) (c : ℕ) (at lines : List ℕ) (r : Positions) (m : ℕ) → Found s xs second c at lines r → r ≡ Are m → (all (λ i. ltb i c) (positions_in second xs) ≡ true) × Kept s xs second at lines m
+pub found_all : (s : Bytes) (xs : List Pair) (second : Bool) (c : ℕ) (at lines : List ℕ) (r : Positions) (m : ℕ) → Found s xs second c at lines r → r ≡ Some m → (all (λ i. ltb i c) (positions_in second xs) ≡ true) × Kept s xs second at lines m
 unfolding Found
 found_all s xs second c at lines r m f q = subst (Found s xs second c at lines) q f
 

@@ -7,7 +7,7 @@ use native.Mathlib.Nat.{le_refl}
 use native.Mathlib.Omega.{arith}
 use lib.ListN.{length, get_or, drop, replicate}
 use Rattle.text.specs.Text.{Bytes, Line, text_of}
-use Rattle.algebra.specs.Tree.{Pattern, project}
+use Rattle.algebra.specs.Tree.{Pattern}
 use Rattle.algebra.specs.Valid.{mem}
 use Rattle.algebra.specs.Layout.{put}
 use Rattle.names.specs.bridge.Names.{listing, name_at}

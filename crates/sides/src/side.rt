@@ -20,7 +20,7 @@ ghost use Rattle.sides.specs.bridge.Side.{TreeIn, Renames, Placed, Asked, Findin
 use crate::project::find_columns;
 use algebra::{ENTRIES, PerEntry};
 use columns::columns::position_mask;
-use columns::list::{Positions, read_positions};
+use columns::list::read_positions;
 use descending::tree::rename_tree;
 use lines::fields::{Node, Spot};
 use mask::{Mask, count_ones, empty};
@@ -34,11 +34,9 @@ fn join_entries(spots: &[Spot], at: &PerEntry, m: usize, joins: &mut PerEntry)
     requires { (m ≤ bounds.entries) × (length joins.old ≡ bounds.entries) × ((i : ℕ) → i < m → get_or at.now i 0 < length spots.now) }
     ensures { (length joins.new ≡ bounds.entries) × ((i : ℕ) → i < m → get_or joins.new i 0 ≡ get_or (get_or spots.now (get_or at.now i 0) []) 1 0) }
 {
-    let mut i = 0;
-    while i < m {
+    for i in 0..m {
         let s = spots[wide(at[i])];
         joins[i] = s[1];
-        i += 1;
     }
 }
 
@@ -128,10 +126,10 @@ fn find_positions(
 {
     let found = find_columns(text, from);
     let columns = found.columns;
-    let Positions::Are(k) = read_positions(pairs, second, columns, joins, lines) else {
+    let Some(k) = read_positions(pairs, second, columns, joins, lines) else {
         return outside();
     };
-    let Positions::Are(m) = read_positions(constants, false, columns, at, lines) else {
+    let Some(m) = read_positions(constants, false, columns, at, lines) else {
         return outside();
     };
     Outline {

@@ -3,7 +3,7 @@ ghost use Rattle.std.specs.Prelude.{◌≡◌, ℕ, ◌≤◌, List, Bool, true,
 ghost use Rattle.std.specs.Int.Count.{ones};
 ghost use Rattle.text.specs.Text.{Line, text_of};
 ghost use Rattle.algebra.specs.Query.{Pair};
-ghost use Rattle.emit.specs.bridge.Emit.{em, puts};
+ghost use Rattle.emit.specs.bridge.Writer.{Left};
 ghost use Rattle.algebra.specs.Tally.{bounds};
 ghost use Rattle.scoping.specs.Sets.{all};
 ghost use Rattle.merging.specs.Request.{Projection};
@@ -16,7 +16,7 @@ ghost use Rattle.sides.specs.bridge.Side.{IsNamed, SideWritten, join_line, value
 use crate::side::FoundSide;
 use columns::columns::put_columns;
 use columns::list::put_terms;
-use emit::{put, put_all};
+use emit::Writer;
 use lines::fields::Spot;
 use mask::count_ones;
 use names::Entry;
@@ -32,13 +32,12 @@ const COLS: [u8; 7] = *b"\t1\ncols";
 const ROW: [u8; 4] = *b"\nrow";
 
 // With constants, the side stands under a join.
-fn put_join(m: usize, out: &mut [u8], at: usize) -> usize
-    ensures { (t : List Line) → puts (text_of t) (em result out.new) ≡ puts (text_of (join_line m t)) (em at out.old) }
+fn put_join(m: usize, w: &mut Writer)
+    ensures { (t : List Line) → Left w.old w.new (text_of (join_line m t)) (text_of t) }
 {
-    if m == 0 {
-        return at;
+    if m != 0 {
+        w.put_all(&JOIN);
     }
-    put_all(out, at, &JOIN)
 }
 
 // With constants, a Values of one row: their columns and their terms.
@@ -49,15 +48,14 @@ fn put_values(
     spots: &[Spot],
     found: FoundSide,
     constants: &[u8],
-    out: &mut [u8],
-    at: usize,
-) -> usize
+    w: &mut Writer,
+)
     requires { (found.outline.constants ≤ bounds.entries) × (length found.places.at ≡ bounds.entries) × (found.outline.columns ≤ bounds.columns) × (all (λ i. ltb i found.outline.columns) (take found.outline.constants found.places.at) ≡ true) × Inside 1024 spots.now found.outline.columns × (ones (mask_value found.outline.constant) ≡ length (picked 1 (mask_value found.outline.constant) (columns_of text.now table.now news.now spots.now found.outline.columns))) }
-    ensures { (ks : List Pair) → Kept constants.now ks false found.places.at found.places.starts found.outline.constants → (t : List Line) → puts (text_of t) (em result out.new) ≡ puts (text_of (values_lines found.outline.constants (ones (mask_value found.outline.constant)) (picked 1 (mask_value found.outline.constant) (columns_of text.now table.now news.now spots.now found.outline.columns)) (terms_from ks 0 bounds.columns) t)) (em at out.old) }
+    ensures { (ks : List Pair) → Kept constants.now ks false found.places.at found.places.starts found.outline.constants → (t : List Line) → Left w.old w.new (text_of (values_lines found.outline.constants (ones (mask_value found.outline.constant)) (picked 1 (mask_value found.outline.constant) (columns_of text.now table.now news.now spots.now found.outline.columns)) (terms_from ks 0 bounds.columns) t)) (text_of t) }
 {
     let outline = found.outline;
     if outline.constants == 0 {
-        return at;
+        return;
     }
     let places = found.places;
     let positions = places.at;
@@ -65,21 +63,20 @@ fn put_values(
     let mask = outline.constant;
     let count = count_ones(mask);
     let columns = outline.columns;
-    let a = put_all(out, at, &VALUES);
-    let b = put_decimal(out, a, count);
-    let c = put_all(out, b, &COLS);
-    let d = put_columns(text, table, news, spots, columns, mask, 1, count, out, c);
-    let e = put_all(out, d, &ROW);
-    let f = put_terms(
+    w.put_all(&VALUES);
+    put_decimal(w, count);
+    w.put_all(&COLS);
+    put_columns(text, table, news, spots, columns, mask, 1, count, w);
+    w.put_all(&ROW);
+    put_terms(
         constants,
         &positions,
         &starts,
         outline.constants,
         columns,
-        out,
-        e,
+        w,
     );
-    put(out, f, 10)
+    w.put(10);
 }
 
 // The lines of a side whose tree was renamed: its inner pattern under new names, and its constants bound.
@@ -90,16 +87,15 @@ pub fn put_side(
     news: &[Entry; 1024],
     constants: &[u8],
     found: FoundSide,
-    out: &mut [u8],
-    at: usize,
-) -> usize
+    w: &mut Writer,
+)
     requires { (prefix : ℕ) × (second : Bool) × (x : Projection) × (js : List Pair) × (ks : List Pair) × IsNamed text.now table.now spots.now prefix second constants.now news.now found x js ks }
-    ensures { SideWritten text.now table.now spots.now constants.now news.now found (em at out.old) (em result out.new) }
+    ensures { SideWritten text.now table.now spots.now constants.now news.now found w.old w.new }
 {
     let none = [0u8; 0];
     let outline = found.outline;
-    let a = put_join(outline.constants, out, at);
-    let b = put_renamed(
+    put_join(outline.constants, w);
+    put_renamed(
         text,
         outline.inner,
         text.len(),
@@ -110,8 +106,7 @@ pub fn put_side(
         found.standing.n,
         &none,
         news,
-        out,
-        a,
+        w,
     );
-    put_values(text, table, news, spots, found, constants, out, b)
+    put_values(text, table, news, spots, found, constants, w);
 }

@@ -15,6 +15,8 @@ use Rattle.words.proofs.ByKey.{small, tells, is_word, other_key}
 use Rattle.editions.specs.Token.{Keyword, WHERE, OPEN, CLOSE, RIGHT, Token, key, var, iri, literal, written, text}
 use Rattle.editions.specs.Spelling.{term_of, cell_of, spell_vars, spell_cells, spell_slice}
 use Rattle.spelling.specs.bridge.Saying.{manner_of, marked, grouping, bracketing, opening, before, first_or, closing, word_next, after}
+use Rattle.spelling.specs.declared.before.Manner.{Manner}
+use Rattle.spelling.specs.declared.before.Manner.TheVariants.{Distinct, Plain, Reduced}
 use Rattle.spelling.specs.bridge.Walks.{manner_at}
 use Rattle.spelling.proofs.ByLines.{text-append}
 use Rattle.spelling.proofs.Said.{vars-append, cells-append}
@@ -98,19 +100,12 @@ later-is (suc i) x y h = refl
 
 -- ---- the manner's token
 
-pub manner-zero : (m : ℕ) (e : Em) → m ≡ 0 → e ≡ puts (text (marked (manner_at m) [])) e
+pub manner-plain : (e : Em) → e ≡ puts (text (marked (manner_at Plain) [])) e
 unfolding text
-manner-zero m e h = rw h (sym (puts-nil e))
+manner-plain e = sym (puts-nil e)
 
-pub manner-one : (m : ℕ) (e x : Em) → m ≡ 1 → x ≡ puts (bytes "DISTINCT ") e → x ≡ puts (text (marked (manner_at m) [])) e
-unfolding text
-manner-one m e x h p = rw h p
-
-pub manner-two : (m : ℕ) (e x : Em) → (m ≡ 0 → ⊥) → (m ≡ 1 → ⊥) → x ≡ puts (bytes "REDUCED ") e → x ≡ puts (text (marked (manner_at m) [])) e
-unfolding text
-manner-two zero e x a b p = absurd (a refl)
-manner-two (suc zero) e x a b p = absurd (b refl)
-manner-two (suc (suc m)) e x a b p = p
+pub manner_token : (m : Manner) (e x : Em) → x ≡ puts (text (marked (manner_at m) [])) e → (n : Manner) → n ≡ m → x ≡ puts (text (marked (manner_at n) [])) e
+manner_token m e x p n h = rw h p
 
 -- ---- a leftjoin
 
@@ -141,15 +136,15 @@ module _ (f : Bytes) (k : ℕ) (keyed : Keyed f k) where
 
   -- ---- the manner
 
-  pub manner-distinct : k ≡ key_of 0 (bytes "distinct") → manner_at 1 ≡ manner_of f
+  pub manner-distinct : k ≡ key_of 0 (bytes "distinct") → manner_at Distinct ≡ manner_of f
   unfolding manner_of same small tells
   manner-distinct t = rw (is (bytes "distinct") refl t)
 
-  pub manner-reduced : k ≡ key_of 0 (bytes "reduced") → manner_at 2 ≡ manner_of f
+  pub manner-reduced : k ≡ key_of 0 (bytes "reduced") → manner_at Reduced ≡ manner_of f
   unfolding manner_of same small tells
   manner-reduced t = rw (is (bytes "reduced") refl t)
 
-  pub manner-none : (k ≡ key_of 0 (bytes "distinct") → ⊥) → (k ≡ key_of 0 (bytes "reduced") → ⊥) → manner_at 0 ≡ manner_of f
+  pub manner-none : (k ≡ key_of 0 (bytes "distinct") → ⊥) → (k ≡ key_of 0 (bytes "reduced") → ⊥) → manner_at Plain ≡ manner_of f
   unfolding manner_of small tells
   manner-none a b = rw (no (bytes "distinct") refl a, no (bytes "reduced") refl b)
 

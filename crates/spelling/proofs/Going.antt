@@ -29,6 +29,8 @@ use Rattle.editions.specs.Refusals.{Place, first}
 use Rattle.spelling.specs.bridge.Saying.{manner_of, opening, before, after, word_next, shallow, Said, in_front, and_then, said_children, said_line, said_child, said_tree}
 use Rattle.spelling.specs.bridge.Seeking.{names_on, shows, Sought, or_in, sought_children, sought_line, sought_child, sought_tree}
 use Rattle.spelling.specs.bridge.Judging.{place_under, verdict_of, judged_lines}
+use Rattle.spelling.specs.declared.say.Sort.{Sort}
+use Rattle.spelling.specs.declared.say.Sort.TheVariants.{Expression, Flat, Pattern}
 use Rattle.spelling.specs.bridge.Walks.{Sorted, Writes, Seeks}
 use Rattle.spelling.proofs.ByLines.{text-puts}
 
@@ -121,8 +123,8 @@ pub record Going (f : Option Keyword → List Line → Said) (l : Line) (next : 
   pub left : (said_children f l next i k ls).left ≡ whole.left
   pub tokens : puts (text (said_children f l next i k ls).tokens) e ≡ puts (text whole.tokens) start
 
-pub going_start : (f : Option Keyword → List Line → Said) (l : Line) (next : List Line) (k : ℕ) (ls : List Line) (e : Em) → Going f l next 0 k ls e (said_children f l next 0 k ls) e
-going_start f l next k ls e = record { left = refl; tokens = refl }
+pub going_start : (f : Option Keyword → List Line → Said) (l : Line) (next : List Line) (k n : ℕ) (ls : List Line) (e : Em) → k ≡ n → Going f l next 0 k ls e (said_children f l next 0 n ls) e
+going_start f l next k n ls e h = rw h (record { left = refl; tokens = refl })
 
 module _ (f : Option Keyword → List Line → Said) (s : Bytes) (l : Line) (next : List Line) (i k at : ℕ) (e : Em) (whole : Said) (start : Em) (g : Going f l next i k (lines_from s at) e whole start) where
   opened : 0 < k → said_children f l next i k (lines_from s at) ≡ and_then (f (manner_of (word l)) (lines_from s at)) (in_front (after l next i (k - 1)) (said_children f l next (suc i) (k - 1) (f (manner_of (word l)) (lines_from s at)).left))
@@ -130,7 +132,7 @@ module _ (f : Option Keyword → List Line → Said) (s : Bytes) (l : Line) (nex
   opened h = let j : k ≡ suc (k - 1) = omega arith in ap (λ (n : ℕ). said_children f l next i n (lines_from s at)) j
 
   -- a child, then the tokens behind it
-  pub going_next : 0 < k → (e' e'' : Em) (from : ℕ) → Writes s (f (manner_of (word l)) (lines_from s at)) e e' from → e'' ≡ puts (text (after l next i (k - 1))) e' → Going f l next (i + 1) (k - 1) (lines_from s from) e'' whole start
+  going_next : 0 < k → (e' e'' : Em) (from : ℕ) → Writes s (f (manner_of (word l)) (lines_from s at)) e e' from → e'' ≡ puts (text (after l next i (k - 1))) e' → Going f l next (i + 1) (k - 1) (lines_from s from) e'' whole start
   going_next h e' e'' from w b =
       let child = f (manner_of (word l)) (lines_from s at) in
       let rest = said_children f l next (suc i) (k - 1) child.left in
@@ -145,8 +147,11 @@ module _ (f : Option Keyword → List Line → Said) (s : Bytes) (l : Line) (nex
             ∙ g.tokens;
       }
 
-  pub going-child : (m : Option Keyword) → m ≡ manner_of (word l) → 0 < k → (e' e'' : Em) (from : ℕ) → Writes s (f m (lines_from s at)) e e' from → e'' ≡ puts (text (after l next i (k - 1))) e' → Going f l next (i + 1) (k - 1) (lines_from s from) e'' whole start
-  going-child m q h e' e'' from w b = going_next h e' e'' from (subst (λ (n : Option Keyword). Writes s (f n (lines_from s at)) e e' from) q w) b
+  -- of which n are to come behind it
+  pub going-child : (m : Option Keyword) → m ≡ manner_of (word l) → 0 < k → (n j : ℕ) → n ≡ k - 1 → j ≡ k - 1 → (e' e'' : Em) (from : ℕ) → Writes s (f m (lines_from s at)) e e' from → e'' ≡ puts (text (after l next i n)) e' → Going f l next (i + 1) j (lines_from s from) e'' whole start
+  going-child m q h n j p r e' e'' from w b =
+      let y = going_next h e' e'' from (subst (λ (o : Option Keyword). Writes s (f o (lines_from s at)) e e' from) q w) (b ∙ ap (λ (x : ℕ). puts (text (after l next i x)) e') p) in
+      subst (λ (x : ℕ). Going f l next (i + 1) x (lines_from s from) e'' whole start) (sym r) y
 
   module _ (h : k ≤ 0) where
     over : said_children f l next i k (lines_from s at) ≡ record { tokens = []; left = lines_from s at }
@@ -178,30 +183,30 @@ opens s m from left e x to h w = let j : left ≡ suc (left - 1) = omega arith i
 -- ---- a line's sort
 
 module _ (f : Bytes) (k : ℕ) (keyed : Keyed f k) where
-  pub sort-flat : (w : Bytes) → tells w ≡ true → shallow w ≡ true → k ≡ key_of 0 w → Sorted f 0
-  sort-flat w t h e = let j = is_word f k keyed w t e in record { flat = λ i. ap shallow j ∙ h; deep = λ i. absurd (i refl); plain = λ i. absurd (omega arith) }
+  pub sort-flat : (w : Bytes) → tells w ≡ true → shallow w ≡ true → k ≡ key_of 0 w → Sorted f Flat
+  sort-flat w t h e = let j = is_word f k keyed w t e in record { flat = λ i. ap shallow j ∙ h; deep = λ i. absurd (i refl); plain = λ i. cc }
 
-  pub sort-plain : (w : Bytes) → tells w ≡ true → shallow w ≡ false → same w (bytes "project") ≡ false → k ≡ key_of 0 w → Sorted f 1
-  sort-plain w t h p e = let j = is_word f k keyed w t e in record { flat = λ i. absurd (omega arith); deep = λ i. ap shallow j ∙ h; plain = λ i. ap (λ (g : Bytes). same g (bytes "project")) j ∙ p }
+  pub sort-plain : (w : Bytes) → tells w ≡ true → shallow w ≡ false → same w (bytes "project") ≡ false → k ≡ key_of 0 w → Sorted f Expression
+  sort-plain w t h p e = let j = is_word f k keyed w t e in record { flat = λ i. cc; deep = λ i. ap shallow j ∙ h; plain = λ i. ap (λ (g : Bytes). same g (bytes "project")) j ∙ p }
 
-  pub sort-other : (k ≡ key_of 0 (bytes "t") → ⊥) → (k ≡ key_of 0 (bytes "cols") → ⊥) → (k ≡ key_of 0 (bytes "row") → ⊥) → (k ≡ key_of 0 (bytes "asc") → ⊥) → (k ≡ key_of 0 (bytes "desc") → ⊥) → (k ≡ key_of 0 (bytes "agg") → ⊥) → (k ≡ key_of 0 (bytes "aggall") → ⊥) → Sorted f 2
+  pub sort-other : (k ≡ key_of 0 (bytes "t") → ⊥) → (k ≡ key_of 0 (bytes "cols") → ⊥) → (k ≡ key_of 0 (bytes "row") → ⊥) → (k ≡ key_of 0 (bytes "asc") → ⊥) → (k ≡ key_of 0 (bytes "desc") → ⊥) → (k ≡ key_of 0 (bytes "agg") → ⊥) → (k ≡ key_of 0 (bytes "aggall") → ⊥) → Sorted f Pattern
   unfolding shallow small tells
   sort-other a b c d e g h = record {
-    flat = λ i. absurd (omega arith);
+    flat = λ i. cc;
     deep = λ i. rw (other_key f k keyed (bytes "t") refl a, other_key f k keyed (bytes "cols") refl b, other_key f k keyed (bytes "row") refl c, other_key f k keyed (bytes "asc") refl d, other_key f k keyed (bytes "desc") refl e, other_key f k keyed (bytes "agg") refl g, other_key f k keyed (bytes "aggall") refl h);
-    plain = λ i. absurd (omega arith);
+    plain = λ i. cc;
   }
 
 -- no line is there
-pub sort-none : (s : Bytes) (from end : ℕ) → LineEnd s from end → end ≡ length s → Sorted (word_next (lines_from s from)) 2
+pub sort-none : (s : Bytes) (from end : ℕ) → LineEnd s from end → end ≡ length s → Sorted (word_next (lines_from s from)) Pattern
 unfolding same shallow
 sort-none s from end l q =
     ⊎_elim
-    (λ (z : lines_from s from ≡ []). rw z (record { flat = λ i. absurd (omega arith); deep = λ i. refl; plain = λ i. absurd (omega arith) }))
-    (λ (z : lines_from s from ≡ [] ∷ []). rw z (record { flat = λ i. absurd (omega arith); deep = λ i. refl; plain = λ i. absurd (omega arith) }))
+    (λ (z : lines_from s from ≡ []). rw z (record { flat = λ i. cc; deep = λ i. refl; plain = λ i. cc }))
+    (λ (z : lines_from s from ≡ [] ∷ []). rw z (record { flat = λ i. cc; deep = λ i. refl; plain = λ i. cc }))
     (nothing-here s from end l q)
 
-pub sort-here : (s : Bytes) (from end : ℕ) (l : LineEnd s from end) (more : end ≡ length s → ⊥) (w : ℕ) → First 9 s from end w → (n : ℕ) → Sorted (part from w s) n → Sorted (word_next (lines_from s from)) n
+pub sort-here : (s : Bytes) (from end : ℕ) (l : LineEnd s from end) (more : end ≡ length s → ⊥) (w : ℕ) → First 9 s from end w → (n : Sort) → Sorted (part from w s) n → Sorted (word_next (lines_from s from)) n
 sort-here s from end l more w f n h = subst (λ (g : Bytes). Sorted g n) (ap word (told s from end l more w f) ∙ ap word_next (sym (line-here s from end l more))) h
 
 -- a manner matters to a project alone
@@ -225,17 +230,17 @@ flat-manner w h = go w (same w (bytes "distinct")) (same w (bytes "reduced")) re
     go w false true e f h = absurd (false≢true (sym (ap shallow (same-eq w (bytes "reduced") f)) ∙ h))
     go w false false e f h = rw (e, f)
 
-module _ (s : Bytes) (m : Option Keyword) (from d n : ℕ) (h : Sorted (word_next (lines_from s from)) n) (e x : Em) (to : ℕ) where
-  pub child-flat : n ≡ 0 → Writes s (said_line (said_tree d) m (lines_from s from)) e x to → Writes s (said_child (said_tree d) m (lines_from s from)) e x to
+module _ (s : Bytes) (m : Option Keyword) (from d : ℕ) (n : Sort) (h : Sorted (word_next (lines_from s from)) n) (e x : Em) (to : ℕ) where
+  pub child-flat : n ≡ Flat → Writes s (said_line (said_tree d) m (lines_from s from)) e x to → Writes s (said_child (said_tree d) m (lines_from s from)) e x to
   unfolding said_child
   child-flat i w = subst (λ (b : Bool). Writes s (cond b (said_line (said_tree d) m (lines_from s from)) (said_tree d m (lines_from s from))) e x to) (sym (h.flat i)) w
 
-  pub child-deep : (n ≡ 0 → ⊥) → Writes s (said_tree d m (lines_from s from)) e x to → Writes s (said_child (said_tree d) m (lines_from s from)) e x to
+  pub child-deep : (n ≡ Flat → ⊥) → Writes s (said_tree d m (lines_from s from)) e x to → Writes s (said_child (said_tree d) m (lines_from s from)) e x to
   unfolding said_child
   child-deep i w = subst (λ (b : Bool). Writes s (cond b (said_line (said_tree d) m (lines_from s from)) (said_tree d m (lines_from s from))) e x to) (sym (h.deep i)) w
 
-  pub child-plain : n ≡ 1 → Writes s (said_tree d none (lines_from s from)) e x to → Writes s (said_child (said_tree d) m (lines_from s from)) e x to
-  child-plain i w = child-deep (λ j. absurd (omega arith)) (subst (λ (o : Said). Writes s o e x to) (sym (tree_plain d m (lines_from s from) (h.plain i))) w)
+  pub child-plain : n ≡ Expression → Writes s (said_tree d none (lines_from s from)) e x to → Writes s (said_child (said_tree d) m (lines_from s from)) e x to
+  child-plain i w = child-deep (λ j. cc) (subst (λ (o : Said). Writes s o e x to) (sym (tree_plain d m (lines_from s from) (h.plain i))) w)
 
 -- what a line that adds no depth gives the expressions below it
 pub flat-under : (s : Bytes) (from end : ℕ) (l : LineEnd s from end) (more : end ≡ length s → ⊥) → shallow (word_next (lines_from s from)) ≡ true → none ≡ manner_of (word (Line-at s from end l more))
@@ -265,12 +270,12 @@ module _ (f : Bool → List Line → Sought) (s : Bytes) (v : Bytes) (shown : Bo
       (λ (z : lines_from s from ≡ [] ∷ []). rw z (record { found = sym (or-false (shown && false) ∙ and-false shown); left = lines_end s end (omega arith) }))
       (nothing-here s from end l q)
 
-module _ (s : Bytes) (v : Bytes) (shown : Bool) (from d n : ℕ) (h : Sorted (word_next (lines_from s from)) n) (b : Bool) (to : ℕ) where
-  pub seek-flat : n ≡ 0 → Seeks s (sought_line (sought_tree d v) v shown (lines_from s from)) b to → Seeks s (sought_child (sought_tree d v) v shown (lines_from s from)) b to
+module _ (s : Bytes) (v : Bytes) (shown : Bool) (from d : ℕ) (n : Sort) (h : Sorted (word_next (lines_from s from)) n) (b : Bool) (to : ℕ) where
+  pub seek-flat : n ≡ Flat → Seeks s (sought_line (sought_tree d v) v shown (lines_from s from)) b to → Seeks s (sought_child (sought_tree d v) v shown (lines_from s from)) b to
   unfolding sought_child
   seek-flat i w = subst (λ (c : Bool). Seeks s (cond c (sought_line (sought_tree d v) v shown (lines_from s from)) (sought_tree d v shown (lines_from s from))) b to) (sym (h.flat i)) w
 
-  pub seek-deep : (n ≡ 0 → ⊥) → Seeks s (sought_tree d v shown (lines_from s from)) b to → Seeks s (sought_child (sought_tree d v) v shown (lines_from s from)) b to
+  pub seek-deep : (n ≡ Flat → ⊥) → Seeks s (sought_tree d v shown (lines_from s from)) b to → Seeks s (sought_child (sought_tree d v) v shown (lines_from s from)) b to
   unfolding sought_child
   seek-deep i w = subst (λ (c : Bool). Seeks s (cond c (sought_line (sought_tree d v) v shown (lines_from s from)) (sought_tree d v shown (lines_from s from))) b to) (sym (h.deep i)) w
 
@@ -279,15 +284,15 @@ pub record Searching (f : Bool → List Line → Sought) (shown : Bool) (l : Lin
   pub left : (sought_children f shown l i k ls).left ≡ whole.left
   pub found : (b || (sought_children f shown l i k ls).found) ≡ (start || whole.found)
 
-pub searching-start : (f : Bool → List Line → Sought) (shown : Bool) (l : Line) (k : ℕ) (ls : List Line) (b : Bool) → Searching f shown l 0 k ls b (sought_children f shown l 0 k ls) b
-searching-start f shown l k ls b = record { left = refl; found = refl }
+pub searching-start : (f : Bool → List Line → Sought) (shown : Bool) (l : Line) (k n : ℕ) (ls : List Line) (b : Bool) → k ≡ n → Searching f shown l 0 k ls b (sought_children f shown l 0 n ls) b
+searching-start f shown l k n ls b h = rw h (record { left = refl; found = refl })
 
 module _ (f : Bool → List Line → Sought) (s : Bytes) (shown : Bool) (l : Line) (i k at : ℕ) (b : Bool) (whole : Sought) (start : Bool) (g : Searching f shown l i k (lines_from s at) b whole start) where
   searched : 0 < k → sought_children f shown l i k (lines_from s at) ≡ or_in (f (shown && shows l i) (lines_from s at)).found (sought_children f shown l (suc i) (k - 1) (f (shown && shows l i) (lines_from s at)).left)
   unfolding sought_children
   searched h = let j : k ≡ suc (k - 1) = omega arith in ap (λ (n : ℕ). sought_children f shown l i n (lines_from s at)) j
 
-  pub searching-next : 0 < k → (c : Bool) (from : ℕ) → Seeks s (f (shown && shows l i) (lines_from s at)) c from → (d : Bool) → d ≡ (b || c) → Searching f shown l (i + 1) (k - 1) (lines_from s from) d whole start
+  searching-next : 0 < k → (c : Bool) (from : ℕ) → Seeks s (f (shown && shows l i) (lines_from s at)) c from → (d : Bool) → d ≡ (b || c) → Searching f shown l (i + 1) (k - 1) (lines_from s from) d whole start
   searching-next h c from w d q =
       let child = f (shown && shows l i) (lines_from s at) in
       let rest = sought_children f shown l (suc i) (k - 1) child.left in
@@ -301,8 +306,9 @@ module _ (f : Bool → List Line → Sought) (s : Bytes) (shown : Bool) (l : Lin
             ∙ g.found;
       }
 
-  pub searching-child : (sh : Bool) → sh ≡ (shown && shows l i) → 0 < k → (c : Bool) (from : ℕ) → Seeks s (f sh (lines_from s at)) c from → (d : Bool) → d ≡ (b || c) → Searching f shown l (i + 1) (k - 1) (lines_from s from) d whole start
-  searching-child sh q h c from w d e = searching-next h c from (subst (λ (x : Bool). Seeks s (f x (lines_from s at)) c from) q w) d e
+  pub searching-child : (sh : Bool) → sh ≡ (shown && shows l i) → 0 < k → (j : ℕ) → j ≡ k - 1 → (c : Bool) (from : ℕ) → Seeks s (f sh (lines_from s at)) c from → (d : Bool) → d ≡ (b || c) → Searching f shown l (i + 1) j (lines_from s from) d whole start
+  searching-child sh q h j r c from w d e =
+      subst (λ (x : ℕ). Searching f shown l (i + 1) x (lines_from s from) d whole start) (sym r) (searching-next h c from (subst (λ (x : Bool). Seeks s (f x (lines_from s at)) c from) q w) d e)
 
   module _ (h : k ≤ 0) where
     finished : sought_children f shown l i k (lines_from s at) ≡ record { found = false; left = lines_from s at }

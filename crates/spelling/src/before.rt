@@ -8,7 +8,7 @@ ghost use Rattle.emit.specs.bridge.Emit.{em, puts};
 ghost use Rattle.editions.specs.Token.{text};
 ghost use Rattle.editions.specs.Spelling.{spell_vars, spell_cells};
 ghost use Rattle.spelling.specs.bridge.Saying.{manner_of, marked, before};
-ghost use Rattle.spelling.specs.bridge.Walks.{manner_at};
+ghost use Rattle.spelling.specs.bridge.Walks.{manner_at, manner_told};
 
 use crate::fields::{put_between, put_cells, put_variables};
 use crate::marks::put_opening;
@@ -44,14 +44,35 @@ const COLS_END: [u8; 4] = *b") { ";
 
 const ROW_END: [u8; 2] = *b") ";
 
-// 1 for distinct, 2 for reduced, 0 for any other word.
-pub fn manner_of(key: u64) -> u8
+// What stands behind SELECT: DISTINCT, REDUCED or neither.
+#[derive(Clone, Copy, Debug, PartialEq, Eq)]
+pub enum Manner {
+    Plain,
+    Distinct,
+    Reduced,
+}
+
+// The manner with a number: 2 and any higher one is the last.
+impl From<u8> for Manner {
+    ghost from_gives = { λ number manner. manner_at manner ≡ manner_told number };
+
+    fn from(number: u8) -> Manner {
+        match number {
+            0 => Manner::Plain,
+            1 => Manner::Distinct,
+            _ => Manner::Reduced,
+        }
+    }
+}
+
+// The manner that a line gives, by the key of its word.
+pub fn manner_of(key: u64) -> Manner
     ensures { (f : Bytes) → Keyed f key → manner_at result ≡ manner_of f }
 {
     match key {
-        keys::DISTINCT => 1,
-        keys::REDUCED => 2,
-        _ => 0,
+        keys::DISTINCT => Manner::Distinct,
+        keys::REDUCED => Manner::Reduced,
+        _ => Manner::Plain,
     }
 }
 
@@ -67,19 +88,26 @@ fn put_triple(query: &[u8], from: usize, end: usize, out: &mut [u8], at: usize) 
     put_between(&NOTHING, query, predicate.next, end, &DOT, out, b)
 }
 
-// DISTINCT, REDUCED or neither.
-fn put_manner(manner: u8, out: &mut [u8], at: usize) -> usize
+// Its token, if it has one.
+fn put_manner(manner: Manner, out: &mut [u8], at: usize) -> usize
     ensures { em result out.new ≡ puts (text (marked (manner_at manner) [])) (em at out.old) }
 {
     match manner {
-        0 => at,
-        1 => put_all(out, at, &DISTINCT),
-        _ => put_all(out, at, &REDUCED),
+        Manner::Plain => at,
+        Manner::Distinct => put_all(out, at, &DISTINCT),
+        Manner::Reduced => put_all(out, at, &REDUCED),
     }
 }
 
 // SELECT, the manner, the columns, WHERE {
-fn put_select(manner: u8, query: &[u8], from: usize, end: usize, out: &mut [u8], at: usize) -> usize
+fn put_select(
+    manner: Manner,
+    query: &[u8],
+    from: usize,
+    end: usize,
+    out: &mut [u8],
+    at: usize,
+) -> usize
     requires { (end < length query.now) × (from ≤ end + 1) }
     ensures { em result out.new ≡ puts (bytes "SELECT " ++ (text (marked (manner_at manner) []) ++ (text (spell_vars (left query.now from end) []) ++ bytes "WHERE { "))) (em at out.old) }
 {
@@ -111,7 +139,7 @@ fn put_row(query: &[u8], from: usize, end: usize, out: &mut [u8], at: usize) -> 
 
 // A line's first tokens: its word has this key, and its other fields stand from `first` to its end.
 pub fn put_before(
-    manner: u8,
+    manner: Manner,
     query: &[u8],
     key: u64,
     first: usize,

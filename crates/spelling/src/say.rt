@@ -4,11 +4,12 @@ ghost use Rattle.text.specs.Text.{Bytes, lines_from};
 ghost use Rattle.words.specs.bridge.Key.{Keyed};
 ghost use Rattle.words.specs.bridge.Words.{Worded};
 ghost use Rattle.emit.specs.bridge.Emit.{em};
+ghost use Rattle.spelling.specs.declared.before.Manner.TheVariants.{Plain};
 ghost use Rattle.spelling.specs.bridge.Saying.{word_next, shallow, said_line, said_child, said_tree};
 ghost use Rattle.spelling.specs.bridge.Walks.{manner_at, Sorted, Writes};
 
 use crate::after::put_after;
-use crate::before::{manner_of, put_before};
+use crate::before::{Manner, manner_of, put_before};
 use placing::ends::lines_under;
 use reader::line_end;
 use words::table::WordRow;
@@ -21,37 +22,45 @@ pub struct Said {
     pub at: usize,
 }
 
-// The sort of a line by the key of its word: 0 for one that is neither pattern nor expression, 1 for an expression, 2 for any other.
-fn sort_of(key: u64) -> u8
+// What a line is: flat is one that is neither pattern nor expression.
+#[derive(Clone, Copy, Debug, PartialEq, Eq)]
+pub enum Sort {
+    Flat,
+    Expression,
+    Pattern,
+}
+
+// The sort of a line by the key of its word.
+fn sort_of(key: u64) -> Sort
     ensures { (f : Bytes) → Keyed f key → Sorted f result }
 {
     match key {
-        keys::T => 0,
-        keys::COLS => 0,
-        keys::ROW => 0,
-        keys::ASC => 0,
-        keys::DESC => 0,
-        keys::AGG => 0,
-        keys::AGGALL => 0,
-        keys::TERM => 1,
-        keys::BOUND => 1,
-        keys::EXISTS => 1,
-        keys::OR => 1,
-        keys::AND => 1,
-        keys::EQ => 1,
-        keys::SAME => 1,
-        keys::NOT => 1,
-        _ => 2,
+        keys::T => Sort::Flat,
+        keys::COLS => Sort::Flat,
+        keys::ROW => Sort::Flat,
+        keys::ASC => Sort::Flat,
+        keys::DESC => Sort::Flat,
+        keys::AGG => Sort::Flat,
+        keys::AGGALL => Sort::Flat,
+        keys::TERM => Sort::Expression,
+        keys::BOUND => Sort::Expression,
+        keys::EXISTS => Sort::Expression,
+        keys::OR => Sort::Expression,
+        keys::AND => Sort::Expression,
+        keys::EQ => Sort::Expression,
+        keys::SAME => Sort::Expression,
+        keys::NOT => Sort::Expression,
+        _ => Sort::Pattern,
     }
 }
 
 // The sort of the line that starts here.
-pub fn sort_at(query: &[u8], from: usize) -> u8
+pub fn sort_at(query: &[u8], from: usize) -> Sort
     ensures { Sorted (word_next (lines_from query.now from)) result }
 {
     let end = line_end(query, from);
     if end == query.len() {
-        return 2;
+        return Sort::Pattern;
     }
     let w = word_at(query, from, end);
     sort_of(w.key)
@@ -62,7 +71,7 @@ pub fn sort_at(query: &[u8], from: usize) -> u8
 pub fn say_pattern(
     query: &[u8],
     words: &[WordRow; 56],
-    manner: u8,
+    manner: Manner,
     from: usize,
     depth: usize,
     out: &mut [u8],
@@ -88,12 +97,12 @@ fn say_expression(
     at: usize,
 ) -> Said
     requires { Worded words.now }
-    ensures { Writes query.now (said_tree depth (manner_at 0) (lines_from query.now from)) (em at out.old) (em result.at out.new) result.from }
+    ensures { Writes query.now (said_tree depth (manner_at Plain) (lines_from query.now from)) (em at out.old) (em result.at out.new) result.from }
 {
     if depth == 0 {
         return Said { from, at };
     }
-    say_line(query, words, 0, from, depth - 1, out, at)
+    say_line(query, words, Manner::Plain, from, depth - 1, out, at)
 }
 
 // The line that starts here, a pattern's or an expression's, and what stands below it.
@@ -101,7 +110,7 @@ fn say_expression(
 fn say_line(
     query: &[u8],
     words: &[WordRow; 56],
-    manner: u8,
+    manner: Manner,
     from: usize,
     depth: usize,
     out: &mut [u8],
@@ -117,16 +126,13 @@ fn say_line(
     let w = word_at(query, from, end);
     let first = w.end + 1;
     let under = manner_of(w.key);
-    let mut children = lines_under(query, words, w.key, first, end) as usize;
+    let children = lines_under(query, words, w.key, first, end) as usize;
     let mut to = put_before(manner, query, w.key, first, end, out, at);
     let mut next = end + 1;
-    let mut i = 0;
-    while 0 < children {
+    for i in 0..children {
         let child = say_child(query, words, under, next, depth, out, to);
-        children -= 1;
-        to = put_after(query, w.key, first, end, i, children, out, child.at);
+        to = put_after(query, w.key, first, end, i, children - i - 1, out, child.at);
         next = child.from;
-        i += 1;
     }
     Said { from: next, at: to }
 }
@@ -136,7 +142,7 @@ fn say_line(
 fn say_flat(
     query: &[u8],
     words: &[WordRow; 56],
-    manner: u8,
+    manner: Manner,
     from: usize,
     depth: usize,
     out: &mut [u8],
@@ -151,16 +157,13 @@ fn say_flat(
     }
     let w = word_at(query, from, end);
     let first = w.end + 1;
-    let mut children = lines_under(query, words, w.key, first, end) as usize;
+    let children = lines_under(query, words, w.key, first, end) as usize;
     let mut to = put_before(manner, query, w.key, first, end, out, at);
     let mut next = end + 1;
-    let mut i = 0;
-    while 0 < children {
+    for i in 0..children {
         let child = say_expression(query, words, next, depth, out, to);
-        children -= 1;
-        to = put_after(query, w.key, first, end, i, children, out, child.at);
+        to = put_after(query, w.key, first, end, i, children - i - 1, out, child.at);
         next = child.from;
-        i += 1;
     }
     Said { from: next, at: to }
 }
@@ -170,7 +173,7 @@ fn say_flat(
 fn say_child(
     query: &[u8],
     words: &[WordRow; 56],
-    manner: u8,
+    manner: Manner,
     from: usize,
     depth: usize,
     out: &mut [u8],
@@ -179,12 +182,9 @@ fn say_child(
     requires { Worded words.now }
     ensures { Writes query.now (said_child (said_tree depth) (manner_at manner) (lines_from query.now from)) (em at out.old) (em result.at out.new) result.from }
 {
-    let sort = sort_at(query, from);
-    if sort == 0 {
-        return say_flat(query, words, manner, from, depth, out, at);
+    match sort_at(query, from) {
+        Sort::Flat => say_flat(query, words, manner, from, depth, out, at),
+        Sort::Expression => say_expression(query, words, from, depth, out, at),
+        Sort::Pattern => say_pattern(query, words, manner, from, depth, out, at),
     }
-    if sort == 1 {
-        return say_expression(query, words, from, depth, out, at);
-    }
-    say_pattern(query, words, manner, from, depth, out, at)
 }

@@ -8,23 +8,13 @@ ghost use Rattle.words.specs.bridge.Words.{Worded};
 ghost use Rattle.spelling.specs.bridge.Seeking.{names_on, shows, sought_line, sought_child, sought_tree};
 ghost use Rattle.spelling.specs.bridge.Walks.{Seeks};
 
-use crate::say::sort_at;
+use crate::say::{Sort, sort_at};
 use placing::ends::lines_under;
 use placing::field::field_at;
-use placing::steps::both;
 use reader::line_end;
 use text::equal;
 use words::table::WordRow;
 use words::{keys, word_at};
-
-fn either(a: bool, b: bool) -> bool
-    ensures { result ≡ (a || b) }
-{
-    if a {
-        return true;
-    }
-    b
-}
 
 // It is among the fields from here on.
 pub fn is_among(v: &[u8], query: &[u8], from: usize, end: usize) -> bool
@@ -60,10 +50,7 @@ fn is_end_of_path(v: &[u8], query: &[u8], from: usize, end: usize) -> bool
 {
     let subject = field_at(query, from, end);
     let path = field_at(query, subject.next, end);
-    either(
-        is_field(v, query, from, end),
-        is_field(v, query, path.next, end),
-    )
+    is_field(v, query, from, end) | is_field(v, query, path.next, end)
 }
 
 // It is named by a line: its word has this key, and its other fields stand from `first` to its end.
@@ -169,23 +156,13 @@ fn seek_line(
     }
     let w = word_at(query, from, end);
     let first = w.end + 1;
-    let mut children = lines_under(query, words, w.key, first, end) as usize;
-    let mut found = both(shown, is_named(v, query, w.key, first, end));
+    let children = lines_under(query, words, w.key, first, end) as usize;
+    let mut found = shown & is_named(v, query, w.key, first, end);
     let mut next = end + 1;
-    let mut i = 0;
-    while 0 < children {
-        let child = seek_child(
-            v,
-            query,
-            words,
-            both(shown, shows_child(w.key, i)),
-            next,
-            depth,
-        );
-        found = either(found, child.found);
+    for i in 0..children {
+        let child = seek_child(v, query, words, shown & shows_child(w.key, i), next, depth);
+        found |= child.found;
         next = child.from;
-        children -= 1;
-        i += 1;
     }
     Sought { found, from: next }
 }
@@ -212,23 +189,13 @@ fn seek_flat(
     }
     let w = word_at(query, from, end);
     let first = w.end + 1;
-    let mut children = lines_under(query, words, w.key, first, end) as usize;
-    let mut found = both(shown, is_named(v, query, w.key, first, end));
+    let children = lines_under(query, words, w.key, first, end) as usize;
+    let mut found = shown & is_named(v, query, w.key, first, end);
     let mut next = end + 1;
-    let mut i = 0;
-    while 0 < children {
-        let child = seek_expression(
-            v,
-            query,
-            words,
-            both(shown, shows_child(w.key, i)),
-            next,
-            depth,
-        );
-        found = either(found, child.found);
+    for i in 0..children {
+        let child = seek_expression(v, query, words, shown & shows_child(w.key, i), next, depth);
+        found |= child.found;
         next = child.from;
-        children -= 1;
-        i += 1;
     }
     Sought { found, from: next }
 }
@@ -246,12 +213,9 @@ fn seek_child(
     requires { Worded words.now }
     ensures { Seeks query.now (sought_child (sought_tree depth v.now) v.now shown (lines_from query.now from)) result.found result.from }
 {
-    let sort = sort_at(query, from);
-    if sort == 0 {
-        return seek_flat(v, query, words, shown, from, depth);
+    match sort_at(query, from) {
+        Sort::Flat => seek_flat(v, query, words, shown, from, depth),
+        Sort::Expression => seek_expression(v, query, words, shown, from, depth),
+        Sort::Pattern => seek_pattern(v, query, words, shown, from, depth),
     }
-    if sort == 1 {
-        return seek_expression(v, query, words, shown, from, depth);
-    }
-    seek_pattern(v, query, words, shown, from, depth)
 }

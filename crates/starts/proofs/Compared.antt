@@ -177,6 +177,6 @@ block_more a b i n f s k u = go (dec_lt k i)
     go (no l) = s k u (omega arith)
 
 -- the shorter one ends
-pub shares-all : (a b : Bytes) (n i : ℕ) → n ≤ length a → n ≤ length b → (n < length a → n ≡ length b) → i ≤ n → n ≤ i → ((k : ℕ) → k < i → get_or a k 0 ≡ get_or b k 0) → Shares a b i
-shares-all a b n i h k s l m f =
-    record { first = omega arith; second = omega arith; alike = f; parted = λ x y e. let z : n ≡ length b = s (omega arith) in omega arith }
+pub shares-all : (a b : Bytes) (n i : ℕ) → n ≤ length a → n ≤ length b → (n < length a → n ≡ length b) → n ≤ i → ((k : ℕ) → k < i → get_or a k 0 ≡ get_or b k 0) → Shares a b n
+shares-all a b n i h k s m f =
+    record { first = h; second = k; alike = λ j l. f j (omega arith); parted = λ x y e. let z : n ≡ length b = s x in omega arith }

@@ -8,12 +8,11 @@ use lib.ListN.{length}
 use lib.Dec.{eqb}
 use borrow.Author.Tests.{not-true, not-false}
 use Rattle.text.specs.Text.{Bytes, Line, split, onto, part, First}
-use Rattle.cursor.specs.bridge.Cursor.{left, Reads}
+use Rattle.cursor.specs.bridge.Cursor.{left, Reads, Reading, field}
 use Rattle.cursor.proofs.Laws.{left-all, left-next, left-none}
 use Rattle.cursor.specs.declared.Cursor.{Cursor}
-use Rattle.cursor.specs.declared.Field.{Field}
-use Rattle.cursor.specs.declared.Field.TheVariants.{At, None}
 use Rattle.starts.specs.bridge.Starts.{is_start_field, is_two, Finds}
+use Rattle.std.specs.Prelude.{Some, None}
 
 not_first : (f : Bytes) (fs : Line) → is_start_field f ≡ false → is_two (f ∷ fs) ≡ false
 unfolding is_two
@@ -48,13 +47,13 @@ pub record Next (s : Bytes) (c : Cursor) (e : ℕ) (d : Cursor) : Type 0 where
   pub at : d.at ≡ e + 1
   pub end : d.end ≡ c.end
 
-pub read_at : (s : Bytes) (c : Cursor) (x : Field) (e : ℕ) (d : Cursor) → Reads s c x → x ≡ At e d → Next s c e d
+pub read_at : (s : Bytes) (c : Cursor) (x : Reading) (e : ℕ) (d : Cursor) → Reads s c x → x ≡ Some (field e d) → Next s c e d
 unfolding Reads
 read_at s c x e d r i =
-    let q : Reads s c (At e d) = subst (Reads s c) i r in
+    let q : Reads s c (Some (field e d)) = subst (Reads s c) i r in
     record { field = q.0; low = q.0.low; high = q.0.high; at = q.1; end = q.2 }
 
-pub read_none : (s : Bytes) (c : Cursor) (x : Field) → Reads s c x → x ≡ None → c.end < c.at
+pub read_none : (s : Bytes) (c : Cursor) (x : Reading) → Reads s c x → x ≡ None → c.end < c.at
 unfolding Reads
 read_none s c x r i = subst (Reads s c) i r
 
@@ -99,7 +98,7 @@ module _ (s : Bytes) (c : Cursor) (low : c.at ≤ c.end) (high : c.end < length 
           let l : e' + 1 ≤ c.end = omega arith in
           rw (more, left-all s (e' + 1) c.end l) (third (part c.at e s) (part d.at e' s) (part (e' + 1) c.end s))
 
-      pub finds-two : (a b : Bool) → a ≡ is_start_field (part c.at e s) → not a ≡ false → b ≡ is_start_field (part d.at e' s) → not b ≡ false → e' ≡ c.end → Finds s c (At e d')
+      pub finds-two : (a b : Bool) → a ≡ is_start_field (part c.at e s) → not a ≡ false → b ≡ is_start_field (part d.at e' s) → not b ≡ false → e' ≡ c.end → Finds s c (Some (field e d'))
       unfolding Finds is_two
       finds-two a b i n i' n' h =
           let p = one.at in

@@ -8,10 +8,11 @@ use borrow.Author.Tests.{le-ltb, lt-ltb}
 use Rattle.text.specs.Text.{Bytes, lines_from}
 use Rattle.text.proofs.Places.{lines_start, lines_end}
 use Rattle.algebra.specs.Reader.{read_text}
-use Rattle.algebra.specs.declared.Answer.TheVariants.{Good, OverBound}
 use Rattle.converting.specs.Starts.{read_starts}
 use Rattle.starts.specs.bridge.Starts.{starts_in, StartsChecked}
 use Rattle.starts.proofs.Reading.{told, told-start, told-end}
+use Rattle.std.specs.Prelude.{Ok, Err}
+use Rattle.algebra.specs.declared.Fault.TheVariants.{OverBound}
 
 -- the first n entries tell the lines before this place
 pub record Going (s : Bytes) (keys : List (List ℕ)) (at n : ℕ) : Type 0 where
@@ -21,7 +22,7 @@ pub record Going (s : Bytes) (keys : List (List ℕ)) (at n : ℕ) : Type 0 wher
   pub so : read_starts s ≡ told (64 - n) (starts_in s keys n) (lines_from s at)
 
 -- a text over the bound on bytes
-pub too_long : (s : Bytes) (keys : List (List ℕ)) → 16384 < length s → StartsChecked s keys OverBound
+pub too_long : (s : Bytes) (keys : List (List ℕ)) → 16384 < length s → StartsChecked s keys (Err OverBound)
 unfolding StartsChecked read_starts read_text
 too_long s keys k = rw (lt-ltb 16384 (length s) k)
 
@@ -37,6 +38,6 @@ going_start s keys at z k e =
     }
 
 -- no line is left
-pub done_end : (s : Bytes) (keys : List (List ℕ)) (at n : ℕ) → Going s keys at n → length s ≤ at → StartsChecked s keys (Good n)
+pub done_end : (s : Bytes) (keys : List (List ℕ)) (at n : ℕ) → Going s keys at n → length s ≤ at → StartsChecked s keys (Ok n)
 unfolding StartsChecked
 done_end s keys at n g e = record { room = g.room; few = g.most; read = g.so ∙ rw (lines_end s at e) (told-end (64 - n) (starts_in s keys n)) }

@@ -17,11 +17,10 @@ use Rattle.converting.specs.Starts.{Start, old_starts, begins, less, in_order}
 use Rattle.converting.specs.Namespaces.{covers, covering_line}
 use Rattle.converting.specs.bridge.Order.{before, neighbours, rank, line_if, last_of, searched}
 use Rattle.converting.proofs.Order.{neighbours-enough, covering-searched, begins-not-above, begins-then-above, rank_below, rank-above}
-use Rattle.starts.specs.bridge.Starts.{start_at, starts_in, Shares, Ordered, Found}
-use Rattle.starts.specs.declared.Covering.{Covering}
-use Rattle.starts.specs.declared.Covering.TheVariants.{By, None}
+use Rattle.starts.specs.bridge.Starts.{start_at, starts_in, Shares, Ordered, Found, Covering}
 use Rattle.starts.proofs.Compared.{second-begins, second-not}
 use Rattle.starts.proofs.Keys.{starts-long, olds-long, start-at}
+use Rattle.std.specs.Prelude.{Some, None}
 
 -- ---- neighbours
 
@@ -206,7 +205,7 @@ module _ (s : Bytes) (keys : List (List ℕ)) (n : ℕ) (o : Ordered s keys n) (
 
   module _ (mid : ℕ) (h : mid < n) (old : Bytes) (is : old ≡ (start_at s (get_or keys mid [])).old) (r : ℕ) (shares : Shares behind old r) where
     -- it covers the IRI
-    pub taken : r ≡ length old → Found s keys n iri (By mid)
+    pub taken : r ≡ length old → Found s keys n iri (Some mid)
     unfolding Found
     taken e =
         let b : begins (start_at s (get_or keys mid [])).old behind ≡ true = ap (λ (a : Bytes). begins a behind) (sym is) ∙ second-begins behind old r shares e in
@@ -229,7 +228,7 @@ module _ (s : Bytes) (keys : List (List ℕ)) (n : ℕ) (o : Ordered s keys n) (
 -- ---- what a search tells
 
 module _ (s : Bytes) (keys : List (List ℕ)) (n : ℕ) (iri : Bytes) (r : Covering) (f : Found s keys n iri r) where
-  pub says-by : (k : ℕ) → r ≡ By k → (k < n) × (covering_line (starts_in s keys n) iri ≡ some (start_at s (get_or keys k []))) × (length (start_at s (get_or keys k [])).old < length iri)
+  pub says-by : (k : ℕ) → r ≡ Some k → (k < n) × (covering_line (starts_in s keys n) iri ≡ some (start_at s (get_or keys k []))) × (length (start_at s (get_or keys k [])).old < length iri)
   unfolding Found
   says-by k q = subst (Found s keys n iri) q f
 

@@ -5,21 +5,22 @@ use mathlib.Core.Bool.{Bool, true, false}
 use mathlib.Core.List.{List}
 use Rattle.text.specs.Text.{Bytes}
 use Rattle.algebra.specs.Reader.{refuses, malformed, over_bound}
-use Rattle.algebra.specs.declared.Answer.{Answer}
-use Rattle.algebra.specs.declared.Answer.TheVariants.{Good, Malformed, OverBound}
+use Rattle.algebra.specs.bridge.Answers.{Answer}
 use Rattle.converting.specs.Starts.{read_starts, old_starts, in_order}
 use Rattle.starts.specs.bridge.Starts.{starts_in, StartsTold, StartsChecked, table_number}
+use Rattle.std.specs.Prelude.{Ok, Err}
+use Rattle.algebra.specs.declared.Fault.TheVariants.{Malformed, OverBound}
 
 module _ (s : Bytes) (keys : List (List ℕ)) (r : Answer) (c : StartsChecked s keys r) where
-  pub said-good : (n : ℕ) → r ≡ Good n → StartsTold s keys n
+  pub said-good : (n : ℕ) → r ≡ Ok n → StartsTold s keys n
   unfolding StartsChecked
   said-good n q = subst (StartsChecked s keys) q c
 
-  pub said-malformed : r ≡ Malformed → read_starts s ≡ refuses malformed
+  pub said-malformed : r ≡ Err Malformed → read_starts s ≡ refuses malformed
   unfolding StartsChecked
   said-malformed q = subst (StartsChecked s keys) q c
 
-  pub said-over : r ≡ OverBound → read_starts s ≡ refuses over_bound
+  pub said-over : r ≡ Err OverBound → read_starts s ≡ refuses over_bound
   unfolding StartsChecked
   said-over q = subst (StartsChecked s keys) q c
 

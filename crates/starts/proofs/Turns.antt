@@ -8,11 +8,8 @@ use lib.ListN.{length, set, length-set}
 use Rattle.text.specs.Text.{Bytes, Line, part, First, lines_from}
 use Rattle.text.proofs.Texts.{AllClean}
 use Rattle.text.proofs.Places.{lines-open}
-use Rattle.algebra.specs.declared.Answer.TheVariants.{Malformed, OverBound}
-use Rattle.cursor.specs.bridge.Cursor.{left}
+use Rattle.cursor.specs.bridge.Cursor.{left, Reading, field}
 use Rattle.cursor.specs.declared.Cursor.{Cursor}
-use Rattle.cursor.specs.declared.Field.{Field}
-use Rattle.cursor.specs.declared.Field.TheVariants.{At, None}
 use Rattle.lists.specs.bridge.Pairs.{entry_of}
 use Rattle.lists.proofs.Lines.{line-next, line_clean}
 use Rattle.converting.specs.Starts.{Start, read_starts}
@@ -20,6 +17,8 @@ use Rattle.starts.specs.bridge.Starts.{is_two, Finds, starts_in, StartsChecked}
 use Rattle.starts.proofs.Keys.{starts-long, starts_more}
 use Rattle.starts.proofs.Reading.{told, told-bad, told_over, told-next}
 use Rattle.starts.proofs.Going.{Going}
+use Rattle.std.specs.Prelude.{Some, None, Err}
+use Rattle.algebra.specs.declared.Fault.TheVariants.{Malformed, OverBound}
 
 module _ (s : Bytes) (keys : List (List ℕ)) (at n : ℕ) (g : Going s keys at n) where
   abbrev before : List Start
@@ -27,11 +26,11 @@ module _ (s : Bytes) (keys : List (List ℕ)) (at n : ℕ) (g : Going s keys at 
 
   module _ (c : Cursor) (same : c.at ≡ at) (f : First 10 s at (length s) c.end) where
     -- the line is not ended
-    pub done-open : (keys' : List (List ℕ)) → at < length s → c.end ≡ length s → StartsChecked s keys' Malformed
+    pub done-open : (keys' : List (List ℕ)) → at < length s → c.end ≡ length s → StartsChecked s keys' (Err Malformed)
     unfolding is_two StartsChecked
     done-open keys' k e = g.so ∙ rw (lines-open s at c.end k f e) (told-bad before [] (64 - n) [] tt refl)
 
-    module _ (x : Field) (finds : Finds s c x) (ended : c.end ≡ length s → ⊥) where
+    module _ (x : Reading) (finds : Finds s c x) (ended : c.end ≡ length s → ⊥) where
       less : c.end < length s
       less = let q = f.high in omega arith
 
@@ -45,11 +44,11 @@ module _ (s : Bytes) (keys : List (List ℕ)) (at n : ℕ) (g : Going s keys at 
       neat = rw same (line_clean s at c.end f)
 
       -- it is not two starts
-      pub done-bad : (keys' : List (List ℕ)) → x ≡ None → StartsChecked s keys' Malformed
+      pub done-bad : (keys' : List (List ℕ)) → x ≡ None → StartsChecked s keys' (Err Malformed)
       unfolding Finds StartsChecked
       done-bad keys' e = line ∙ told-bad before rest (64 - n) (left s c.at c.end) neat (rw e at finds)
 
-      module _ (to : ℕ) (d : Cursor) (is : x ≡ At to d) where
+      module _ (to : ℕ) (d : Cursor) (is : x ≡ Some (field to d)) where
         -- its two fields
         abbrev one : Bytes
         one = part c.at to s
@@ -57,7 +56,7 @@ module _ (s : Bytes) (keys : List (List ℕ)) (at n : ℕ) (g : Going s keys at 
         abbrev other : Bytes
         other = part (to + 1) c.end s
 
-        two : Finds s c (At to d)
+        two : Finds s c (Some (field to d))
         two = rw is at finds
 
         -- where its first field ends, and the next line starts
@@ -78,7 +77,7 @@ module _ (s : Bytes) (keys : List (List ℕ)) (at n : ℕ) (g : Going s keys at 
         paired = ap is_two (sym two.3) ∙ two.4
 
         -- it is a line too many
-        pub done-over : (keys' : List (List ℕ)) → n ≡ 64 → StartsChecked s keys' OverBound
+        pub done-over : (keys' : List (List ℕ)) → n ≡ 64 → StartsChecked s keys' (Err OverBound)
         unfolding StartsChecked
         done-over keys' k =
             let z : 64 - n ≡ 0 = omega arith in

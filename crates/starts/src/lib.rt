@@ -1,19 +1,18 @@
 // The namespace table: its check, whether its lines are in order, and the line that covers an IRI.
 #![tactic(auto)]
 
-ghost use Rattle.std.specs.Prelude.{◌≡◌, ℕ, ◌+◌, ◌≤◌, ◌<◌, true, length, get_or, set};
+ghost use Rattle.std.specs.Prelude.{◌≡◌, ℕ, ◌+◌, ◌≤◌, ◌<◌, true, length, get_or};
 ghost use Rattle.text.specs.Text.{part};
-ghost use Rattle.lists.specs.bridge.Pairs.{entry_of};
 ghost use Rattle.converting.specs.Starts.{start_bounds, old_starts, less, in_order};
 ghost use Rattle.converting.specs.bridge.Order.{before};
 ghost use Rattle.starts.specs.bridge.Starts.{is_start_field, Finds, starts_in, StartsTold, StartsChecked, table_number, Shares, Ordered, Found};
 
-use algebra::Answer;
+use algebra::Fault;
 use cursor::{Cursor, Field};
-use lists::field_at;
+use lists::{field_at, keep};
 use text::find;
 
-// What `startBounds` says of the lines of one table.
+// What `start_bounds` says of the lines of one table.
 pub const STARTS: usize = 64;
 
 // A line of the table: where its old start stands in the text and how long it is, and the same of its new one.
@@ -37,81 +36,57 @@ fn is_start(text: &[u8], from: usize, to: usize) -> bool
 }
 
 // A line of two starts: the end of the first, and the cursor behind the line.
-fn starts_at(text: &[u8], c: Cursor) -> Field
+fn starts_at(text: &[u8], c: Cursor) -> Option<Field>
     requires { (c.at ≤ c.end) × (c.end < length text.now) }
     ensures { Finds text.now c result }
 {
     let from = c.at;
-    let Field::At(to, d) = c.next_field(text) else {
-        return Field::None;
-    };
+    let one = c.next_field(text)?;
+    let to = one.end;
     if !is_start(text, from, to) {
-        return Field::None;
+        return None;
     }
+    let d = one.behind;
     let at = d.at;
-    let Field::At(end, behind) = d.next_field(text) else {
-        return Field::None;
-    };
+    let two = d.next_field(text)?;
+    let end = two.end;
     if !is_start(text, at, end) {
-        return Field::None;
+        return None;
     }
     if end != c.end {
-        return Field::None;
+        return None;
     }
-    Field::At(to, behind)
-}
-
-// An array without lines. The test is one of types, and the compiled code has none.
-fn no_starts(keys: &mut Starts)
-    ensures { length keys.new ≡ start_bounds.entries }
-{
-    let places: &[Entry] = keys;
-    if places.len() == STARTS {
-        return;
-    }
-    *keys = [[0; 4]; STARTS];
-}
-
-// Keeps a line whose starts stand from `from` to `to`, and behind that up to `end`.
-fn keep(keys: &mut Starts, n: usize, from: usize, to: usize, end: usize)
-    requires { (n < start_bounds.entries) × (from ≤ to) × (to < end) × (end ≤ 16384) }
-    ensures { keys.new ≡ set keys.old n (entry_of from to end) }
-{
-    let second = to + 1;
-    keys[n] = [
-        from as u16,
-        (to - from) as u16,
-        second as u16,
-        (end - second) as u16,
-    ];
+    Some(Field {
+        end: to,
+        behind: two.behind,
+    })
 }
 
 // A namespace table: up to 64 lines of two starts.
-pub fn check_starts(text: &[u8], keys: &mut Starts) -> Answer
+pub fn check_starts(text: &[u8], keys: &mut Starts) -> Result<usize, Fault>
     ensures { StartsChecked text.now keys.new result }
 {
-    no_starts(keys);
     if 16384 < text.len() {
-        return Answer::OverBound;
+        return Err(Fault::OverBound);
     }
     let mut c = Cursor::new(0);
     let mut n: usize = 0;
     while c.at < text.len() {
         let l = c.next_line(text);
         if l.end == text.len() {
-            return Answer::Malformed;
+            return Err(Fault::Malformed);
         }
-        let Field::At(to, d) = starts_at(text, l) else {
-            return Answer::Malformed;
+        let Some(pair) = starts_at(text, l) else {
+            return Err(Fault::Malformed);
         };
         if n == STARTS {
-            return Answer::OverBound;
+            return Err(Fault::OverBound);
         }
-        keep(keys, n, l.at, to, l.end);
+        keep(keys, n, l.at, pair.end, l.end);
         n += 1;
-        c = d;
+        c = pair.behind;
     }
-    Answer::Good(n)
+    Ok(n)
 }
 
 // Eight bytes from a place on are the same in both.
@@ -129,43 +104,31 @@ fn same_eight(a: &[u8], b: &[u8], i: usize) -> bool
         & (a[i + 7] == b[i + 7])
 }
 
-fn shorter(a: usize, b: usize) -> usize
-    ensures { (result ≤ a) × (result ≤ b) × (result < a → result ≡ b) }
-{
-    if a < b {
-        return a;
-    }
-    b
-}
-
 // How many of the first n bytes are the same in both, as far as eight at a time tell.
 fn shared_eights(a: &[u8], b: &[u8], n: usize) -> usize
     requires { (n ≤ length a.now) × (n ≤ length b.now) }
     ensures { (result ≤ n) × ((k : ℕ) → k < result → get_or a.now k 0 ≡ get_or b.now k 0) }
 {
-    let mut i = 0;
-    while 8 <= n - i {
+    for k in 0..n / 8 {
+        let i = 8 * k;
         if !same_eight(a, b, i) {
             return i;
         }
-        i += 8;
     }
-    i
+    n / 8 * 8
 }
 
 // With how many bytes both begin.
 fn shared(a: &[u8], b: &[u8]) -> usize
     ensures { Shares a.now b.now result }
 {
-    let n = shorter(a.len(), b.len());
-    let mut i = shared_eights(a, b, n);
-    while i < n {
+    let n = a.len().min(b.len());
+    for i in shared_eights(a, b, n)..n {
         if a[i] != b[i] {
             return i;
         }
-        i += 1;
     }
-    i
+    n
 }
 
 // By its bytes a stands before b, where they part at r.
@@ -198,14 +161,12 @@ pub fn in_order(text: &[u8], keys: &Starts, n: usize) -> bool
     requires { (length keys.now ≡ start_bounds.entries) × (n ≤ start_bounds.entries) }
     ensures { result ≡ in_order (old_starts (starts_in text.now keys.now n)) }
 {
-    let mut i = 1;
-    while i < n {
+    for i in 1..n {
         let a = keys[i - 1];
         let b = keys[i];
         if !is_before(field_at(text, a[0], a[1]), field_at(text, b[0], b[1])) {
             return false;
         }
-        i += 1;
     }
     true
 }
@@ -227,21 +188,14 @@ pub fn table_number(text: &[u8]) -> u64
 {
     let mut keys = [[0u16; 4]; STARTS];
     match check_starts(text, &mut keys) {
-        Answer::Good(n) => order_number(text, &keys, n),
-        Answer::Malformed => 1,
-        Answer::OverBound => 2,
+        Ok(n) => order_number(text, &keys, n),
+        Err(Fault::Malformed) => 1,
+        Err(Fault::OverBound) => 2,
     }
 }
 
-// The entry of the line that covers an IRI, or that none does.
-#[derive(Clone, Copy)]
-pub enum Covering {
-    By(usize),
-    None,
-}
-
-// The line that covers an IRI, by halves. In a table in order no other line covers it.
-pub fn line_over(text: &[u8], keys: &Starts, n: usize, iri: &[u8]) -> Covering
+// The entry of the line that covers an IRI, if one does, found by halves. In a table in order no other line covers it.
+pub fn line_over(text: &[u8], keys: &Starts, n: usize, iri: &[u8]) -> Option<usize>
     requires { Ordered text.now keys.now n × (1 ≤ length iri.now) }
     ensures { Found text.now keys.now n iri.now result }
 {
@@ -254,7 +208,7 @@ pub fn line_over(text: &[u8], keys: &Starts, n: usize, iri: &[u8]) -> Covering
         let old = field_at(text, e[0], e[1]);
         let r = shared(x, old);
         if r == old.len() {
-            return Covering::By(mid);
+            return Some(mid);
         }
         if is_less(x, old, r) {
             high = mid;
@@ -262,5 +216,5 @@ pub fn line_over(text: &[u8], keys: &Starts, n: usize, iri: &[u8]) -> Covering
             low = mid + 1;
         }
     }
-    Covering::None
+    None
 }

@@ -1,6 +1,6 @@
 -- The checks of a report's texts by their numbers, and its lines counted. Assumes nothing.
 use Prim.Native.Nat.{ℕ, zero, suc, ◌+◌, ◌-◌, ◌≤◌, ◌<◌}
-use mathlib.Core.Path.{◌≡◌, refl, sym, ap, subst, ◌∙◌}
+use mathlib.Core.Path.{◌≡◌, refl, sym, ap, ap₂, subst, ◌∙◌}
 use mathlib.Core.Bool.{true, false, not}
 use mathlib.Core.List.{List, [], ◌∷◌}
 use native.Mathlib.Omega.{arith}
@@ -14,74 +14,81 @@ use Rattle.text.proofs.Places.{lines_start, lines_end, lines-open, lines_next}
 use Rattle.algebra.specs.Query.{Query}
 use Rattle.algebra.specs.Reader.{malformed, over_bound, Outcome as Reading, reads, refuses}
 use Rattle.algebra.specs.Given.{read_given_query}
-use Rattle.algebra.specs.bridge.Answers.{answer_number}
-use Rattle.algebra.specs.declared.Answer.{Answer as Check}
-use Rattle.algebra.specs.declared.Answer.TheVariants.{Good, Malformed, OverBound}
+use Rattle.algebra.specs.bridge.Answers.{Answer as Check}
 use Rattle.names.specs.bridge.Checked.{Checked}
 use Rattle.merging.specs.Request.{join_positions, by_position, constants_in}
 use Rattle.projects.specs.bridge.Joining.{ListsChecked}
 use Rattle.reporting.specs.Report.{StepTexts, step_texts, step, read_steps, step_by_step, line_count}
 use Rattle.reporting.specs.Steps.{StepsRead}
 use Rattle.reporting.specs.bridge.Turns.{step_at, steps_from}
-use Rattle.stepping.specs.bridge.Checks.{QueryChecked, StepChecked, StepsChecked, TextsChecked}
+use Rattle.stepping.specs.bridge.Checks.{Told, QueryChecked, StepChecked, StepsChecked, TextsChecked}
+use Rattle.std.specs.Prelude.{Ok, Err}
+use Rattle.algebra.specs.declared.Fault.{Fault}
+use Rattle.algebra.specs.declared.Fault.TheVariants.{Malformed, OverBound}
+
+-- a check's answer without its number
+abbrev pub told : Check → Told
+told (Ok n) = Ok tt
+told (Err f) = Err f
 
 -- ---- a query's text
 
-said : (names : Query → List Bytes) (s : Bytes) (a l h : List ℕ) (r : Check) (o : Reading Query) → read_given_query s ≡ o → Checked names s a l h o r → QueryChecked s r
+said : (names : Query → List Bytes) (s : Bytes) (a l h : List ℕ) (r : Check) (o : Reading Query) → read_given_query s ≡ o → Checked names s a l h o r → QueryChecked s (told r)
 unfolding Checked QueryChecked
-said names s a l h r (reads q) e x = subst (QueryChecked s) (sym x.1) (q, e)
-said names s a l h r (refuses malformed) e x = subst (QueryChecked s) (sym x) e
-said names s a l h r (refuses over_bound) e x = subst (QueryChecked s) (sym x) e
+said names s a l h r (reads q) e x = subst (λ (c : Check). QueryChecked s (told c)) (sym x.1) (q, e)
+said names s a l h r (refuses malformed) e x = subst (λ (c : Check). QueryChecked s (told c)) (sym x) e
+said names s a l h r (refuses over_bound) e x = subst (λ (c : Check). QueryChecked s (told c)) (sym x) e
 
-pub query-said : (names : Query → List Bytes) (s : Bytes) (a l h : List ℕ) (r : Check) → Checked names s a l h (read_given_query s) r → QueryChecked s r
-query-said names s a l h r c = said names s a l h r (read_given_query s) refl c
+pub query-said : (names : Query → List Bytes) (s : Bytes) (a l h : List ℕ) (r : Check) → Checked names s a l h (read_given_query s) r → (t : Check) → r ≡ t → QueryChecked s (told t)
+query-said names s a l h r c t e = subst (λ (x : Check). QueryChecked s (told x)) e (said names s a l h r (read_given_query s) refl c)
 
 -- ---- a step's texts
 
-lists-decide : (q js ks ls : Bytes) (r : Check) → (a : Query) × (read_given_query q ≡ reads a) → ListsChecked js ks ls r → StepChecked (step_texts q js ks ls) r
+lists-decide : (q js ks ls : Bytes) (r : Check) → (a : Query) × (read_given_query q ≡ reads a) → ListsChecked js ks ls r → StepChecked (step_texts q js ks ls) (told r)
 unfolding StepChecked ListsChecked read_steps
-lists-decide q js ks ls (Good n) a c = (step a.0 (join_positions c.js) (by_position (constants_in c.left.list)) (by_position (constants_in c.right.list)), record { query = a.1; joins = c.joins_read; left_constants = c.left.read; right_constants = c.right.read })
-lists-decide q js ks ls Malformed a c = λ ts k. rw a.1 (c _)
-lists-decide q js ks ls OverBound a c = λ ts k. rw a.1 (c _)
+lists-decide q js ks ls (Ok n) a c = (step a.0 (join_positions c.js) (by_position (constants_in c.left.list)) (by_position (constants_in c.right.list)), record { query = a.1; joins = c.joins_read; left_constants = c.left.read; right_constants = c.right.read })
+lists-decide q js ks ls (Err Malformed) a c = λ ts k. rw a.1 (c _)
+lists-decide q js ks ls (Err OverBound) a c = λ ts k. rw a.1 (c _)
 
-module _ (ts : List Bytes) (k : ℕ) (q : Bytes) (a : Check) (c : QueryChecked q a) (e : q ≡ get_or ts k []) where
+module _ (ts : List Bytes) (k : ℕ) (q : Bytes) (a : Told) (c : QueryChecked q a) (e : q ≡ get_or ts k []) where
   given : (o : Reading Query) → read_given_query q ≡ o → read_given_query (get_or ts k []) ≡ o
   given o h = ap read_given_query (sym e) ∙ h
 
-  pub step-malformed : a ≡ Malformed → StepChecked (step_at ts k) Malformed
+  step-malformed : a ≡ Err Malformed → StepChecked (step_at ts k) (Err Malformed)
   unfolding QueryChecked StepChecked read_steps
   step-malformed m us j = rw (given (refuses malformed) (subst (QueryChecked q) m c))
 
-  pub step-over : a ≡ OverBound → StepChecked (step_at ts k) OverBound
+  step-over : a ≡ Err OverBound → StepChecked (step_at ts k) (Err OverBound)
   unfolding QueryChecked StepChecked read_steps
   step-over m us j = rw (given (refuses over_bound) (subst (QueryChecked q) m c))
 
+  pub step-refused : (f : Fault) → a ≡ Err f → StepChecked (step_at ts k) (Err f)
+  step-refused Malformed m = step-malformed m
+  step-refused OverBound m = step-over m
+
   -- where the query is read its lists decide
-  pub step-listed : (n : ℕ) → a ≡ Good n → (js ks ls : Bytes) (r : Check) → js ≡ get_or ts (k + 1) [] → ks ≡ get_or ts (k + 2) [] → ls ≡ get_or ts (k + 3) [] → ListsChecked js ks ls r → StepChecked (step_at ts k) r
+  pub step-listed : (n : Unit {0}) → a ≡ Ok n → (js ks ls : Bytes) (r : Check) → js ≡ get_or ts (k + 1) [] → ks ≡ get_or ts (k + 2) [] → ls ≡ get_or ts (k + 3) [] → ListsChecked js ks ls r → (m : Check) → r ≡ m → StepChecked (step_at ts k) (told m)
   unfolding QueryChecked
-  step-listed n g js ks ls r x y z l =
+  step-listed n g js ks ls r x y z l m i =
       let w = subst (QueryChecked q) g c in
-      subst (λ (t : StepTexts). StepChecked t r) (λ i. step_texts (e i) (x i) (y i) (z i)) (lists-decide q js ks ls r w l)
+      subst (λ (t : StepTexts). StepChecked t (told m)) (λ i. step_texts (e i) (x i) (y i) (z i)) (subst (λ (c : Check). StepChecked (step_texts q js ks ls) (told c)) i (lists-decide q js ks ls r w l))
 
 -- ---- all steps
 
 -- a step that is refused refuses them
-pub steps-refused : (t : StepTexts) (ts : List StepTexts) (r : Check) (n : ℕ) → StepChecked t r → n ≡ answer_number r → (n ≡ 0 → ⊥) → StepsChecked (t ∷ ts) r
+pub steps-refused : (t : StepTexts) (ts : List StepTexts) (f : Fault) → StepChecked t (Err f) → StepsChecked (t ∷ ts) (Err f)
 unfolding StepChecked StepsChecked
-steps-refused t ts (Good m) n c e z = absurd (z e)
-steps-refused t ts Malformed n c e z = c ts
-steps-refused t ts OverBound n c e z = c ts
+steps-refused t ts Malformed c = c ts
+steps-refused t ts OverBound c = c ts
 
 -- behind a step that is read the others decide
-pub steps_next : (t : StepTexts) (ts : List StepTexts) (r a : Check) (n : ℕ) → StepChecked t a → n ≡ answer_number a → n ≡ 0 → StepsChecked ts r → StepsChecked (t ∷ ts) r
+pub steps_next : (t : StepTexts) (ts : List StepTexts) (r : Told) (n : Unit {0}) → StepChecked t (Ok n) → StepsChecked ts r → StepsChecked (t ∷ ts) r
 unfolding StepChecked StepsChecked StepsRead read_steps
-steps_next t ts (Good m) (Good l) n a e z c = (a.0 ∷ c.0, (a.1, c.1))
-steps_next t ts Malformed (Good l) n a e z c = λ k. rw (a.1.query, a.1.joins, a.1.left_constants, a.1.right_constants) (c _)
-steps_next t ts OverBound (Good l) n a e z c = λ k. rw (a.1.query, a.1.joins, a.1.left_constants, a.1.right_constants) (c _)
-steps_next t ts r Malformed n a e z c = absurd (omega arith)
-steps_next t ts r OverBound n a e z c = absurd (omega arith)
+steps_next t ts (Ok m) n a c = (a.0 ∷ c.0, (a.1, c.1))
+steps_next t ts (Err Malformed) n a c = λ k. rw (a.1.query, a.1.joins, a.1.left_constants, a.1.right_constants) (c _)
+steps_next t ts (Err OverBound) n a c = λ k. rw (a.1.query, a.1.joins, a.1.left_constants, a.1.right_constants) (c _)
 
-pub steps-none : (ts : List Bytes) (k m n : ℕ) → m ≡ 0 → StepsChecked (steps_from ts k m) (Good n)
+pub steps-none : (ts : List Bytes) (k m : ℕ) (n : Unit {0}) → m ≡ 0 → StepsChecked (steps_from ts k m) (Ok n)
 unfolding StepsChecked StepsRead steps_from
 steps-none ts k zero n e = ([], tt)
 steps-none ts k (suc m) n e = absurd (omega arith)
@@ -99,37 +106,39 @@ none_of ts k (suc m) h = absurd (omega arith)
 
 -- what the check of the steps from one on says is what the check of all says
 abbrev pub Goes : List Bytes → ℕ → ℕ → List StepTexts → Type 0
-Goes ts k m all = (r : Check) → StepsChecked (steps_from ts k m) r → StepsChecked all r
+Goes ts k m all = (r : Told) → StepsChecked (steps_from ts k m) r → StepsChecked all r
 
-module _ (ts : List Bytes) (k m : ℕ) (all : List StepTexts) (inv : Goes ts k m all) (some : 0 < m) (a : Check) (n : ℕ) (c : StepChecked (step_at ts k) a) (e : n ≡ answer_number a) where
-  pub goes-refused : (n ≡ 0 → ⊥) → StepsChecked all a
-  goes-refused z = inv a (subst (λ (xs : List StepTexts). StepsChecked xs a) (sym (first_of ts k m some)) (steps-refused (step_at ts k) (steps_from ts (k + 4) (m - 1)) a n c e z))
+module _ (ts : List Bytes) (k m : ℕ) (all : List StepTexts) (inv : Goes ts k m all) (some : 0 < m) (a : Told) (c : StepChecked (step_at ts k) a) where
+  pub goes-refused : (f : Fault) → a ≡ Err f → StepsChecked all (Err f)
+  goes-refused f e =
+      let s = steps-refused (step_at ts k) (steps_from ts (k + 4) (m - 1)) f (subst (StepChecked (step_at ts k)) e c) in
+      inv (Err f) (subst (λ (xs : List StepTexts). StepsChecked xs (Err f)) (sym (first_of ts k m some)) s)
 
-  pub goes-next : n ≡ 0 → Goes ts (k + 4) (m - 1) all
-  goes-next z r x = inv r (subst (λ (xs : List StepTexts). StepsChecked xs r) (sym (first_of ts k m some)) (steps_next (step_at ts k) (steps_from ts (k + 4) (m - 1)) r a n c e z x))
+  pub goes-next : (n : Unit {0}) → a ≡ Ok n → (j l : ℕ) → j ≡ k + 4 → l ≡ m - 1 → Goes ts j l all
+  goes-next n e j l p q r x =
+      let y = subst (λ (xs : List StepTexts). StepsChecked xs r) (ap₂ (steps_from ts) p q) x in
+      let s = steps_next (step_at ts k) (steps_from ts (k + 4) (m - 1)) r n (subst (StepChecked (step_at ts k)) e c) y in
+      inv r (subst (λ (xs : List StepTexts). StepsChecked xs r) (sym (first_of ts k m some)) s)
 
 -- ---- all texts
 
-first-refused : (first : Bytes) (ts : List StepTexts) (r : Check) (n : ℕ) → QueryChecked first r → n ≡ answer_number r → (n ≡ 0 → ⊥) → TextsChecked first ts r
+first-refused : (first : Bytes) (ts : List StepTexts) (f : Fault) → QueryChecked first (Err f) → TextsChecked first ts (Err f)
 unfolding QueryChecked TextsChecked step_by_step
-first-refused first ts (Good m) n c e z = absurd (z e)
-first-refused first ts Malformed n c e z = λ k. rw c
-first-refused first ts OverBound n c e z = λ k. rw c
+first-refused first ts Malformed c = λ k. rw c
+first-refused first ts OverBound c = λ k. rw c
 
-first_good : (first : Bytes) (ts : List StepTexts) (a r : Check) (n : ℕ) → QueryChecked first a → n ≡ answer_number a → n ≡ 0 → StepsChecked ts r → TextsChecked first ts r
+first_good : (first : Bytes) (ts : List StepTexts) (r : Told) (n : Unit {0}) → QueryChecked first (Ok n) → StepsChecked ts r → TextsChecked first ts r
 unfolding QueryChecked StepsChecked TextsChecked step_by_step
-first_good first ts (Good l) (Good m) n a e z c = (a, c)
-first_good first ts (Good l) Malformed n a e z c = λ k. rw a.1 (c _)
-first_good first ts (Good l) OverBound n a e z c = λ k. rw a.1 (c _)
-first_good first ts Malformed r n a e z c = absurd (omega arith)
-first_good first ts OverBound r n a e z c = absurd (omega arith)
+first_good first ts (Ok m) n a c = (a, c)
+first_good first ts (Err Malformed) n a c = λ k. rw a.1 (c _)
+first_good first ts (Err OverBound) n a c = λ k. rw a.1 (c _)
 
-module _ (s first : Bytes) (is : s ≡ first) (ts : List StepTexts) (a : Check) (c : QueryChecked s a) (n : ℕ) (e : n ≡ answer_number a) where
-  pub texts-refused : (n ≡ 0 → ⊥) → TextsChecked first ts a
-  texts-refused z = first-refused first ts a n (subst (λ (t : Bytes). QueryChecked t a) is c) e z
+module _ (s first : Bytes) (is : s ≡ first) (ts : List StepTexts) (a : Told) (c : QueryChecked s a) where
+  pub texts-refused : (f : Fault) → a ≡ Err f → TextsChecked first ts (Err f)
+  texts-refused f e = first-refused first ts f (subst (QueryChecked first) e (subst (λ (t : Bytes). QueryChecked t a) is c))
 
-  pub texts-next : (r : Check) → n ≡ 0 → StepsChecked ts r → TextsChecked first ts r
-  texts-next r z x = first_good first ts a r n (subst (λ (t : Bytes). QueryChecked t a) is c) e z x
+  pub texts-next : (n : Unit {0}) → a ≡ Ok n → (r : Told) → StepsChecked ts r → TextsChecked first ts r
+  texts-next n e r x = first_good first ts r n (subst (QueryChecked first) e (subst (λ (t : Bytes). QueryChecked t a) is c)) x
 
 -- ---- lines
 

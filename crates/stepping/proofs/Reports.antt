@@ -13,11 +13,7 @@ use Rattle.parted.specs.bridge.Code.{Parted}
 use Rattle.parted.proofs.Parts.{parted-same}
 use Rattle.algebra.specs.Reader.{reads}
 use Rattle.algebra.proofs.Given.{query-given}
-use Rattle.algebra.specs.declared.Answer.{Answer as Check}
-use Rattle.algebra.specs.declared.Answer.TheVariants as C
-use Rattle.answers.specs.declared.Answer.{Answer}
-use Rattle.answers.specs.declared.Answer.TheVariants.{Malformed, OverBound, ManyLines}
-use Rattle.answers.specs.Outcome.{Outcome, refused, refused_unless, Reported, Answered}
+use Rattle.answers.specs.Outcome.{Answer, Outcome, refused, refused_unless, Reported, Answered}
 use Rattle.answers.proofs.Answers.{answered}
 use Rattle.merging.specs.Push.{push_constants_outcome}
 use Rattle.reporting.specs.Steps.{StepsRead}
@@ -25,8 +21,11 @@ use Rattle.reporting.specs.Report.{StepTexts, merge_steps, line_count, step_by_s
 use Rattle.reporting.specs.bridge.Turns.{step_at, steps_from, merged_in_turn}
 use Rattle.reporting.proofs.Steps.{steps-in, not_in, steps-good}
 use Rattle.reporting.proofs.Calls.{steps-in-turn}
-use Rattle.stepping.specs.bridge.Checks.{Kept, TextsChecked}
+use Rattle.stepping.specs.bridge.Checks.{Kept, Told, TextsChecked}
 use Rattle.stepping.proofs.Checks.{first_of}
+use Rattle.std.specs.Prelude.{Ok, Err}
+use Rattle.algebra.specs.declared.Fault.TheVariants.{Malformed, OverBound}
+use Rattle.answers.specs.declared.Refusal.TheVariants.{Malformed, ManyLines, OverBound}
 
 -- the ends of all texts are kept
 pub all-kept : (s : Bytes) (ends : List ℕ) (m n : ℕ) → length ends ≡ m → n < m → Parted s ends m n → Kept s ends n
@@ -72,7 +71,7 @@ even-texts (t ∷ u ∷ v ∷ ts) n m h a e z =
     rw (le-leb (length (t ∷ u ∷ v ∷ ts)) 29 (omega arith), steps-in (t ∷ u ∷ v ∷ ts) m 1 (omega arith))
 
 module _ (s out : Bytes) (n : ℕ) (many : length (texts s) ≡ n + 1) where
-  pub report-one : n ≡ 0 → Answered (report_outcome s) out out Malformed
+  pub report-one : n ≡ 0 → Answered (report_outcome s) out out (Err Malformed)
   unfolding report_outcome Reported
   report-one z = rw (one-text (texts s) (omega arith)) (refl, refl, refl)
 
@@ -80,11 +79,11 @@ module _ (s out : Bytes) (n : ℕ) (many : length (texts s) ≡ n + 1) where
   unfolding report_outcome
   report-two a b after r z e f h = answered (push_constants_outcome a b) (report_texts (texts s)) out after r (two-texts (texts s) (omega arith) ∙ ap₂ push_constants_outcome (sym e) (sym f)) h
 
-  pub report-many : 28 < n → Answered (report_outcome s) out out OverBound
+  pub report-many : 28 < n → Answered (report_outcome s) out out (Err OverBound)
   unfolding report_outcome Reported
   report-many z = rw (many-texts (texts s) (omega arith)) (refl, refl, refl)
 
-  pub report-uneven : (n ≡ 0 → ⊥) → (n ≡ 1 → ⊥) → n ≤ 28 → (n % 4 ≡ 0 → ⊥) → Answered (report_outcome s) out out Malformed
+  pub report-uneven : (n ≡ 0 → ⊥) → (n ≡ 1 → ⊥) → n ≤ 28 → (n % 4 ≡ 0 → ⊥) → Answered (report_outcome s) out out (Err Malformed)
   unfolding report_outcome Reported
   report-uneven a b c z = rw (uneven-texts (texts s) n many (more n a b) c z) (refl, refl, refl)
     where
@@ -99,16 +98,16 @@ module _ (s out : Bytes) (n : ℕ) (many : length (texts s) ≡ n + 1) where
 
 -- ---- their checks
 
-module _ (first : Bytes) (ts : List StepTexts) (r : Check) (c : TextsChecked first ts r) (count : ℕ) (out : Bytes) where
-  pub checked-malformed : r ≡ C.Malformed → Answered (step_by_step count first ts) out out Malformed
+module _ (first : Bytes) (ts : List StepTexts) (r : Told) (c : TextsChecked first ts r) (count : ℕ) (out : Bytes) where
+  pub checked-malformed : r ≡ (Err Malformed) → Answered (step_by_step count first ts) out out (Err Malformed)
   unfolding TextsChecked Reported
   checked-malformed e = rw (subst (TextsChecked first ts) e c count) (refl, refl, refl)
 
-  pub checked-over : r ≡ C.OverBound → Answered (step_by_step count first ts) out out OverBound
+  pub checked-over : r ≡ (Err OverBound) → Answered (step_by_step count first ts) out out (Err OverBound)
   unfolding TextsChecked Reported
   checked-over e = rw (subst (TextsChecked first ts) e c count) (refl, refl, refl)
 
-module _ (ts : List Bytes) (m n : ℕ) (r : Check) (c : TextsChecked (get_or ts 0 []) (steps_from ts 1 m) r) (good : r ≡ C.Good n) where
+module _ (ts : List Bytes) (m : ℕ) (n : Unit {0}) (r : Told) (c : TextsChecked (get_or ts 0 []) (steps_from ts 1 m) r) (good : r ≡ Ok n) where
   -- the first query's text is short enough for a buffer
   pub first_short : length (get_or ts 0 []) ≤ 16384
   unfolding TextsChecked
@@ -131,7 +130,7 @@ module _ (ts : List Bytes) (m : ℕ) (many : Bool) (is : not many ≡ leb (line_
   abbrev turn : Outcome
   turn = merged_in_turn (get_or ts 0 []) (steps_from ts 1 m)
 
-  pub counted-many : many ≡ true → Answered (refused_unless 8 (leb (line_count ts) 8192) turn) out out ManyLines
+  pub counted-many : many ≡ true → Answered (refused_unless 8 (leb (line_count ts) 8192) turn) out out (Err ManyLines)
   unfolding Reported
   counted-many e = rw (sym is, e) (refl, refl, refl)
 

@@ -6,7 +6,7 @@ ghost use Rattle.reporting.specs.Report.{line_count};
 ghost use Rattle.reporting.specs.bridge.Turns.{step_at, steps_from};
 ghost use Rattle.stepping.specs.bridge.Checks.{Kept, QueryChecked, StepChecked, StepsChecked, TextsChecked};
 
-use algebra::{Answer as Check, number};
+use algebra::Fault;
 use joining::merge::check_lists;
 use names::new_table;
 use parted::text_at;
@@ -15,58 +15,47 @@ use text::find;
 use words::table::all_words;
 
 // A query's text.
-fn check_text(text: &[u8]) -> Check
+fn check_text(text: &[u8]) -> Result<(), Fault>
     ensures { QueryChecked text.now result }
 {
     let words = all_words();
     let mut table = new_table();
     let mut hints = [0u16; 2048];
-    check_query(text, &words, &mut table, &mut hints)
+    check_query(text, &words, &mut table, &mut hints)?;
+    Ok(())
 }
 
 // The four texts of a step, the first of which has this number.
-fn check_step(input: &[u8], ends: &[usize], n: usize, k: usize) -> Check
+fn check_step(input: &[u8], ends: &[usize], n: usize, k: usize) -> Result<(), Fault>
     requires { Kept input.now ends.now n × (k + 3 ≤ n) }
     ensures { StepChecked (step_at (texts input.now) k) result }
 {
-    match check_text(text_at(input, ends, n, k)) {
-        Check::Good(_) => check_lists(
-            text_at(input, ends, n, k + 1),
-            text_at(input, ends, n, k + 2),
-            text_at(input, ends, n, k + 3),
-        ),
-        Check::Malformed => Check::Malformed,
-        Check::OverBound => Check::OverBound,
-    }
+    check_text(text_at(input, ends, n, k))?;
+    check_lists(
+        text_at(input, ends, n, k + 1),
+        text_at(input, ends, n, k + 2),
+        text_at(input, ends, n, k + 3),
+    )?;
+    Ok(())
 }
 
 // Those of all steps.
-fn check_steps(input: &[u8], ends: &[usize], n: usize, steps: usize) -> Check
+fn check_steps(input: &[u8], ends: &[usize], n: usize, steps: usize) -> Result<(), Fault>
     requires { Kept input.now ends.now n × (n ≡ 4 * steps) }
     ensures { StepsChecked (steps_from (texts input.now) 1 steps) result }
 {
-    let mut k = 1;
-    let mut left = steps;
-    while 0 < left {
-        let step = check_step(input, ends, n, k);
-        if number(step) != 0 {
-            return step;
-        }
-        k += 4;
-        left -= 1;
+    for step in 0..steps {
+        check_step(input, ends, n, 4 * step + 1)?;
     }
-    Check::Good(0)
+    Ok(())
 }
 
 // And the first query before them.
-pub fn check_texts(input: &[u8], ends: &[usize], n: usize, steps: usize) -> Check
+pub fn check_texts(input: &[u8], ends: &[usize], n: usize, steps: usize) -> Result<(), Fault>
     requires { Kept input.now ends.now n × (n ≡ 4 * steps) }
     ensures { TextsChecked (get_or (texts input.now) 0 []) (steps_from (texts input.now) 1 steps) result }
 {
-    let first = check_text(text_at(input, ends, n, 0));
-    if number(first) != 0 {
-        return first;
-    }
+    check_text(text_at(input, ends, n, 0))?;
     check_steps(input, ends, n, steps)
 }
 
@@ -89,14 +78,12 @@ pub fn has_many_lines(input: &[u8], ends: &[usize], n: usize) -> bool
     ensures { not result ≡ leb (line_count (texts input.now)) 8192 }
 {
     let mut total = 0;
-    let mut k = 0;
-    while k <= n {
+    for k in 0..n + 1 {
         let lines = count_lines(text_at(input, ends, n, k));
         if 8192 - total < lines {
             return true;
         }
         total += lines;
-        k += 1;
     }
     false
 }

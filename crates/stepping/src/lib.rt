@@ -13,8 +13,7 @@ ghost use Rattle.stepping.specs.bridge.Checks.{Kept};
 
 use crate::check::{check_texts, has_many_lines};
 use crate::merge::merge_in_turn;
-use algebra::Answer as Check;
-use answers::Answer;
+use answers::{Answer, Refusal};
 use joining::push::push_constants;
 use parted::{part_texts, text_at};
 
@@ -24,7 +23,7 @@ fn merge_counted(input: &[u8], ends: &[usize], n: usize, steps: usize, out: &mut
     ensures { Answered (refused_unless 8 (leb (line_count (texts input.now)) 8192) (merged_in_turn (get_or (texts input.now) 0 []) (steps_from (texts input.now) 1 steps))) out.old out.new result }
 {
     if has_many_lines(input, ends, n) {
-        return Answer::ManyLines;
+        return Err(Refusal::ManyLines);
     }
     merge_in_turn(input, ends, n, steps, out)
 }
@@ -34,11 +33,8 @@ fn report_steps(input: &[u8], ends: &[usize], n: usize, steps: usize, out: &mut 
     requires { Kept input.now ends.now n × (n ≡ 4 * steps) × (1 ≤ steps) × (length (texts input.now) ≡ n + 1) }
     ensures { Answered (step_by_step (line_count (texts input.now)) (get_or (texts input.now) 0 []) (steps_from (texts input.now) 1 steps)) out.old out.new result }
 {
-    match check_texts(input, ends, n, steps) {
-        Check::Good(_) => merge_counted(input, ends, n, steps, out),
-        Check::Malformed => Answer::Malformed,
-        Check::OverBound => Answer::OverBound,
-    }
+    check_texts(input, ends, n, steps)?;
+    merge_counted(input, ends, n, steps, out)
 }
 
 // report: an input of a query and constants, or of a query and four texts for each step, to query.
@@ -48,7 +44,7 @@ pub fn report(input: &[u8], out: &mut [u8]) -> Answer
     let mut ends = [0usize; 29];
     let n = part_texts(input, &mut ends);
     if n == 0 {
-        return Answer::Malformed;
+        return Err(Refusal::Malformed);
     }
     if n == 1 {
         return push_constants(
@@ -58,10 +54,10 @@ pub fn report(input: &[u8], out: &mut [u8]) -> Answer
         );
     }
     if 28 < n {
-        return Answer::OverBound;
+        return Err(Refusal::OverBound);
     }
     if n % 4 != 0 {
-        return Answer::Malformed;
+        return Err(Refusal::Malformed);
     }
     report_steps(input, &ends, n, n / 4, out)
 }

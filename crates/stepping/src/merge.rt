@@ -1,11 +1,12 @@
 // The steps of a report in turn.
-ghost use Rattle.std.specs.Prelude.{◌≡◌, [], ◌+◌, ◌*◌, ◌≤◌, length, get_or, take};
+ghost use Rattle.std.specs.Prelude.{◌≡◌, [], ◌+◌, ◌*◌, ◌≢◌, ◌≤◌, length, get_or, take};
 ghost use Rattle.parted.specs.Parted.{texts};
 ghost use Rattle.answers.specs.Outcome.{Answered};
+ghost use Rattle.answers.specs.declared.Refusal.TheVariants.{OverBound, TooShort};
 ghost use Rattle.reporting.specs.bridge.Turns.{step_at, steps_from, merged_step, merged_in_turn};
 ghost use Rattle.stepping.specs.bridge.Checks.{Kept, Between};
 
-use answers::{Answer, number, size_of};
+use answers::{Answer, Refusal};
 use emit::put_all;
 use joining::queries::merge_queries;
 use parted::text_at;
@@ -32,7 +33,17 @@ fn merge_step(
     )
 }
 
-// The same before another step: what is longer than a text may be is over a bound.
+// What is longer than a text may be is over a bound.
+fn refusal_between(refusal: Refusal) -> Refusal
+    ensures { (refusal ≡ TooShort → result ≡ OverBound) × (refusal ≢ TooShort → result ≡ refusal) }
+{
+    match refusal {
+        Refusal::TooShort => Refusal::OverBound,
+        refusal => refusal,
+    }
+}
+
+// The same before another step.
 fn merge_between(
     left: &[u8],
     input: &[u8],
@@ -44,11 +55,7 @@ fn merge_between(
     requires { Kept input.now ends.now n × (k + 3 ≤ n) × (length next.old ≡ 16384) }
     ensures { Between left.now (step_at (texts input.now) k) next.new result }
 {
-    let a = merge_step(left, input, ends, n, k, next);
-    if number(a) == 6 {
-        return Answer::OverBound;
-    }
-    a
+    merge_step(left, input, ends, n, k, next).map_err(refusal_between)
 }
 
 // The same, and what it makes takes the left query's place.
@@ -57,12 +64,9 @@ fn advance(left: &mut [u8], size: usize, input: &[u8], ends: &[usize], n: usize,
     ensures { Between (take size left.old) (step_at (texts input.now) k) left.new result }
 {
     let mut next = [0u8; 16384];
-    let a = merge_between(&left[..size], input, ends, n, k, &mut next);
-    if number(a) != 0 {
-        return a;
-    }
-    put_all(left, 0, &next[..size_of(a)]);
-    a
+    let made = merge_between(&left[..size], input, ends, n, k, &mut next)?;
+    put_all(left, 0, &next[..made]);
+    Ok(made)
 }
 
 // The steps in turn, the last one into the caller's buffer.
@@ -79,18 +83,10 @@ fn merge_from(
     ensures { Answered (merged_in_turn (take start left.old) (steps_from (texts input.now) 1 steps)) out.old out.new result }
 {
     let mut size = start;
-    let mut k = 1;
-    let mut more = steps;
-    while 1 < more {
-        let a = advance(left, size, input, ends, n, k);
-        if number(a) != 0 {
-            return a;
-        }
-        size = size_of(a);
-        k += 4;
-        more -= 1;
+    for step in 0..steps - 1 {
+        size = advance(left, size, input, ends, n, 4 * step + 1)?;
     }
-    merge_step(&left[..size], input, ends, n, k, out)
+    merge_step(&left[..size], input, ends, n, n - 3, out)
 }
 
 // The same from the first query on.

@@ -6,8 +6,7 @@ use Rattle.text.specs.Text.{Bytes, text_of, ended}
 use Rattle.text.specs.Word.{bytes}
 use Rattle.algebra.specs.Tally.{notes, noted, headed, tally_triples, tally}
 use Rattle.algebra.proofs.Given.{tree_text, given-as-text, empty-reads}
-use Rattle.answers.specs.declared.Answer.{Answer}
-use Rattle.answers.specs.Outcome.{written, Answered}
+use Rattle.answers.specs.Outcome.{Answer, written, Answered}
 use Rattle.answers.proofs.Given.{answered-none, answered-some}
 use Rattle.scoping.specs.Sets.{keep, triple_variables}
 use Rattle.scoping.specs.Variables.{variables_in_pattern}

@@ -1,5 +1,5 @@
 -- The call scope, from the flags of its names to its two lines. Assumes nothing.
-use Prim.Native.Nat.{ℕ, ◌≤◌, ◌<◌}
+use Prim.Native.Nat.{ℕ}
 use mathlib.Core.Path.{◌≡◌, refl, sym, ap, ◌∙◌}
 use mathlib.Core.List.{List, [], ◌∷◌}
 use lib.ListN.{length, replicate}
@@ -8,7 +8,6 @@ use Rattle.text.specs.Word.{bytes}
 use Rattle.algebra.specs.Tree.{Pattern}
 use Rattle.algebra.specs.Reader.{refuses, malformed, over_bound}
 use Rattle.algebra.specs.Texts.{read_tree}
-use Rattle.emit.specs.bridge.Emit.{em, last, puts}
 use Rattle.names.specs.bridge.Names.{listing}
 use Rattle.scoping.specs.bridge.Places.{visible, places}
 use Rattle.scoping.specs.Numbering.{by_place}
@@ -20,14 +19,15 @@ use Rattle.walking.specs.bridge.Flags.{flag_all}
 use Rattle.walking.specs.bridge.Code.{Inside}
 use Rattle.walking.specs.bridge.Rewritten.{flag_spots}
 use Rattle.walking.proofs.Noted.{spotted-inside, flagged-tree}
-use Rattle.answers.specs.declared.Answer.TheVariants.{Written, Malformed, OverBound, TooShort}
-use Rattle.answers.specs.Outcome.{written, Reported, Answered}
+use Rattle.answers.specs.Outcome.{Answer, written, Reported, Answered}
 use Rattle.surveying.specs.Scope.{scope_text}
 use Rattle.surveying.specs.bridge.AsIs.{scope_as_is}
 use Rattle.surveying.specs.bridge.Code.{Surveyed, chosen_text}
 use Rattle.surveying.proofs.Tables.{known-valid, known-depth, known-few, known-names, known-named, known-lines}
 use Rattle.walking.proofs.Chosen.{chosen-in-scope, chosen-hidden}
-use Rattle.answers.proofs.Answers.{too_short, all-written, answered}
+use Rattle.answers.proofs.Answers.{answered}
+use Rattle.std.specs.Prelude.{Err}
+use Rattle.answers.specs.declared.Refusal.TheVariants.{Malformed, OverBound}
 
 module _ (s : Bytes) (a l : List ℕ) (n : ℕ) (spots : List (List ℕ)) (k : ℕ) (x : Surveyed s a l n spots k) where
   abbrev pattern : Pattern
@@ -53,18 +53,14 @@ module _ (s : Bytes) (a l : List ℕ) (n : ℕ) (spots : List (List ℕ)) (k : �
     unfolding scope_as_is
     outcome-is = rw x.known.read (ap written (sym text-is))
 
-    module _ (out : Bytes) (need : ℕ) (tiny tiny' : Bytes) (measure : em need tiny' ≡ puts (chosen_text flags (listing s a l n)) (em 0 tiny)) where
-      pub scope-short : length out < need → Answered (scope_as_is s) out out TooShort
-      scope-short h = answered _ _ out out TooShort outcome-is (too_short _ out need tiny tiny' measure h)
-
-      pub scope-written : (size : ℕ) (out' : Bytes) → need ≤ length out → length out < last → em size out' ≡ puts (chosen_text flags (listing s a l n)) (em 0 out) → Answered (scope_as_is s) out out' (Written size)
-      scope-written size out' i j e = answered _ _ out out' (Written size) outcome-is (all-written _ out need tiny tiny' measure size out' i j e)
+    pub scope-answered : (out out' : Bytes) (r : Answer) → Answered (written (chosen_text flags (listing s a l n))) out out' r → Answered (scope_as_is s) out out' r
+    scope-answered out out' r h = answered _ _ out out' r outcome-is h
 
 -- a tree that is refused
-pub scope-malformed : (s out : Bytes) → read_tree s ≡ refuses malformed → Answered (scope_as_is s) out out Malformed
+pub scope-malformed : (s out : Bytes) → read_tree s ≡ refuses malformed → Answered (scope_as_is s) out out (Err Malformed)
 unfolding scope_as_is Reported
 scope-malformed s out e = rw e (refl, refl, refl)
 
-pub scope-over : (s out : Bytes) → read_tree s ≡ refuses over_bound → Answered (scope_as_is s) out out OverBound
+pub scope-over : (s out : Bytes) → read_tree s ≡ refuses over_bound → Answered (scope_as_is s) out out (Err OverBound)
 unfolding scope_as_is Reported
 scope-over s out e = rw e (refl, refl, refl)

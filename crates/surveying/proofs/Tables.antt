@@ -15,8 +15,7 @@ use Rattle.algebra.specs.Bounded.{IsTree}
 use Rattle.algebra.specs.Tally.{bounds}
 use Rattle.algebra.specs.Reader.{refuses, malformed, over_bound}
 use Rattle.algebra.specs.Texts.{read_tree}
-use Rattle.algebra.specs.declared.Answer.{Answer}
-use Rattle.algebra.specs.declared.Answer.TheVariants.{Good}
+use Rattle.algebra.specs.bridge.Answers.{Answer}
 use Rattle.algebra.proofs.Neat.{neat}
 use Rattle.algebra.proofs.Theorem.{tree-exactly}
 use Rattle.reading.specs.bridge.Variables.{tree_names}
@@ -37,9 +36,9 @@ use Rattle.walking.proofs.Noted.{spotted-inside, stands-tree}
 use Rattle.walking.proofs.Spotted.{inside-more}
 use Rattle.names.proofs.Laws.{listing-long}
 use Rattle.surveying.specs.bridge.Code.{Surveyed}
-use Rattle.checking.specs.bridge.Walks.{answer_of}
-use Rattle.checking.specs.declared.check.Noting.{Noting}
-use Rattle.checking.specs.declared.check.Noting.TheVariants as Noting
+use Rattle.checking.specs.bridge.Walks.{counts, answer_of, Noting}
+use Rattle.std.specs.Prelude.{Ok, Err}
+use Rattle.algebra.specs.declared.Fault.TheVariants.{Malformed, OverBound}
 
 module _ (s : Bytes) (a l h : List ℕ) (n : ℕ) (k : Known s a l h n) where
   is-tree : IsTree bounds s k.pattern
@@ -79,7 +78,7 @@ module _ (s : Bytes) (a l h : List ℕ) (n : ℕ) (k : Known s a l h n) where
       ∙ ap lines_of (sym is-tree.0)
       ∙ lines-back (put k.pattern []) (neat k.pattern [] known-valid tt)
 
-pub good-known : (s : Bytes) (a l h : List ℕ) (r : Answer) (n : ℕ) → Checked tree_names s a l h (read_tree s) r → r ≡ Good n → Known s a l h n
+pub good-known : (s : Bytes) (a l h : List ℕ) (r : Answer) (n : ℕ) → Checked tree_names s a l h (read_tree s) r → r ≡ Ok n → Known s a l h n
 unfolding by_place
 good-known s a l h r n c q = let g = said-good tree_names s a l h r (read_tree s) n c q in record { pattern = g.value; read = g.read; table = g.table }
 
@@ -117,18 +116,18 @@ module _ (s : Bytes) (a l h : List ℕ) (before after words nodes : List (List �
     pub noted : Noted s 0 (listing s a l n) after k
     pub noded : Roomy s nodes → Noded words nodes m noted.nodes
 
-  pub good-notes : (n k m : ℕ) → (length s ≤ 16384 → length s ≤ 3 * length before) → r ≡ Noting.Good n k m → GoodNotes n k m
+  pub good-notes : (n k m : ℕ) → (length s ≤ 16384 → length s ≤ 3 * length before) → r ≡ Ok (counts n k m) → GoodNotes n k m
   unfolding by_place
   good-notes n k m room q =
       let known = good-known s a l h (answer_of r) n is-checked (ap answer_of q) in
       let g = subst (λ (ns : List Bytes). (w : Noted s 0 ns after k) × (Roomy s nodes → Noded words nodes m w.nodes)) (sym (known-names s a l h n known)) (said-noted tree_names tree_start s a l h before after words nodes (read_tree s) r n k m known.pattern c known.read q (room (known-short s a l h n known)) 0 refl) in
       record { known = known; noted = g.0; noded = g.1 }
 
-  pub good-surveyed : (n k m : ℕ) → (length s ≤ 16384 → length s ≤ 3 * length before) → r ≡ Noting.Good n k m → Surveyed s a l n after k
+  pub good-surveyed : (n k m : ℕ) → (length s ≤ 16384 → length s ≤ 3 * length before) → r ≡ Ok (counts n k m) → Surveyed s a l n after k
   good-surveyed n k m room q = let g = good-notes n k m room q in surveyed s a l h n after k g.known g.noted
 
-  pub noted-malformed : r ≡ Noting.Malformed → read_tree s ≡ refuses malformed
+  pub noted-malformed : r ≡ Err Malformed → read_tree s ≡ refuses malformed
   noted-malformed q = said-malformed tree_names s a l h (answer_of r) (read_tree s) is-checked (ap answer_of q)
 
-  pub noted-over : r ≡ Noting.OverBound → read_tree s ≡ refuses over_bound
+  pub noted-over : r ≡ Err OverBound → read_tree s ≡ refuses over_bound
   noted-over q = said-over tree_names s a l h (answer_of r) (read_tree s) is-checked (ap answer_of q)

@@ -1,17 +1,17 @@
 // The call scope: the variables of a tree that are in scope, and those that are hidden.
 ghost use Rattle.std.specs.Prelude.{◌≡◌, ◌*◌, ◌≤◌, ◌<◌, [], ◌∷◌, cond, eqb, length};
 ghost use Rattle.names.specs.bridge.Names.{starts_of, sizes_of, names_in, name_in};
-ghost use Rattle.emit.specs.bridge.Emit.{em, puts};
+ghost use Rattle.emit.specs.bridge.Writer.{Wrote};
 ghost use Rattle.answers.specs.Outcome.{Answered};
 ghost use Rattle.surveying.specs.Scope.{scope_outcome};
 ghost use Rattle.surveying.specs.bridge.AsIs.{scope_as_is};
 ghost use Rattle.scoping.specs.bridge.Flagged.{chosen};
-ghost use Rattle.surveying.specs.bridge.Code.{Surveyed, chosen_text, tabbed};
+ghost use Rattle.surveying.specs.bridge.Code.{Surveyed, chosen_text};
+ghost use Rattle.walking.specs.bridge.Walk.{tabbed};
 
 use algebra::EMPTY_TREE;
-use answers::Answer;
-use checking::check::Noting;
-use emit::{put, put_all};
+use answers::{Answer, write_answer};
+use emit::Writer;
 use lines::fields::{Node, Spot};
 use names::{Entry, new_table, wide};
 use reading::note_tree;
@@ -26,39 +26,27 @@ fn put_names(
     n: usize,
     flags: &[u8; 2048],
     base: usize,
-    out: &mut [u8],
-    at: usize,
-) -> usize
+    w: &mut Writer,
+)
     requires { (n ≤ 1024) × (base ≤ 1024) }
-    ensures { em result out.new ≡ tabbed (chosen base flags.now (names_in tree.now table.now n)) (em at out.old) }
+    ensures { Wrote w.old w.new (tabbed (chosen base flags.now (names_in tree.now table.now n))) }
 {
-    let mut to = at;
-    let mut k = 0;
-    while k < n {
-        to = put_name(tree, table, k, flags[base + k], out, to);
-        k += 1;
+    for k in 0..n {
+        put_name(tree, table, k, flags[base + k], w);
     }
-    to
 }
 
 // The name at an entry, after a tab, if its flag is set.
-fn put_name(
-    tree: &[u8],
-    table: &[Entry; 1024],
-    k: usize,
-    flag: u8,
-    out: &mut [u8],
-    at: usize,
-) -> usize
+fn put_name(tree: &[u8], table: &[Entry; 1024], k: usize, flag: u8, w: &mut Writer)
     requires { k < 1024 }
-    ensures { em result out.new ≡ tabbed (cond (eqb flag 0) [] (name_in tree.now table.now k ∷ [])) (em at out.old) }
+    ensures { Wrote w.old w.new (tabbed (cond (eqb flag 0) [] (name_in tree.now table.now k ∷ []))) }
 {
     if flag == 0 {
-        return at;
+        return;
     }
-    let to = put(out, at, 9);
+    w.put(9);
     let e = table[k];
-    put_all(out, to, piece(tree, wide(e[0]), wide(e[1])))
+    w.put_all(piece(tree, wide(e[0]), wide(e[1])));
 }
 
 const IN: [u8; 2] = *b"in";
@@ -66,26 +54,19 @@ const IN: [u8; 2] = *b"in";
 const HID: [u8; 3] = *b"hid";
 
 // The two lines.
-fn put_scope(
-    tree: &[u8],
-    table: &[Entry; 1024],
-    n: usize,
-    flags: &[u8; 2048],
-    out: &mut [u8],
-    at: usize,
-) -> usize
+fn put_scope(tree: &[u8], table: &[Entry; 1024], n: usize, flags: &[u8; 2048], w: &mut Writer)
     requires { n ≤ 1024 }
-    ensures { em result out.new ≡ puts (chosen_text flags.now (names_in tree.now table.now n)) (em at out.old) }
+    ensures { Wrote w.old w.new (chosen_text flags.now (names_in tree.now table.now n)) }
 {
-    let a = put_all(out, at, &IN);
-    let b = put_names(tree, table, n, flags, 0, out, a);
-    let c = put(out, b, 10);
-    let d = put_all(out, c, &HID);
-    let e = put_names(tree, table, n, flags, 1024, out, d);
-    put(out, e, 10)
+    w.put_all(&IN);
+    put_names(tree, table, n, flags, 0, w);
+    w.put(10);
+    w.put_all(&HID);
+    put_names(tree, table, n, flags, 1024, w);
+    w.put(10);
 }
 
-// The answer for a tree whose variables were noted: measured on a buffer without room, and written if it fits.
+// The answer for a tree whose variables were noted.
 fn scope_of(
     tree: &[u8],
     table: &[Entry; 1024],
@@ -99,13 +80,7 @@ fn scope_of(
 {
     let mut flags = [0u8; 2048];
     note_places(spots, k, &mut flags);
-    let mut none = [0u8; 0];
-    let need = put_scope(tree, table, n, &flags, &mut none, 0);
-    if out.len() < need {
-        return Answer::TooShort;
-    }
-    let size = put_scope(tree, table, n, &flags, out, 0);
-    Answer::Written(size)
+    write_answer(out, |w| put_scope(tree, table, n, &flags, w))
 }
 
 // The same for any text, where the spots have room for all that a text within the bounds can have. Lines aren't noted.
@@ -117,31 +92,30 @@ fn scope_over(tree: &[u8], spots: &mut [Spot], out: &mut [u8]) -> Answer
     let mut table = new_table();
     let mut hints = [0u16; 2048];
     let mut nodes: [Node; 0] = [[0, 0, 0]; 0];
-    match note_tree(tree, &words, &mut table, &mut hints, spots, &mut nodes) {
-        Noting::Good(n, k, _) => scope_of(tree, &table, n, spots, k, out),
-        Noting::Malformed => Answer::Malformed,
-        Noting::OverBound => Answer::OverBound,
-    }
+    let noted = note_tree(tree, &words, &mut table, &mut hints, spots, &mut nodes)?;
+    scope_of(tree, &table, noted.names, spots, noted.spots, out)
 }
 
-// A tree's text as it stands to the lines `in` and `hid`. The spots are as many as pays: they are cleared first.
+// The same with so many spots, which are cleared first. Each size has a frame of its own.
+#[inline(never)]
+fn scope_in<const SPOTS: usize>(tree: &[u8], out: &mut [u8]) -> Answer
+    requires { (SPOTS ≤ 5462) × (length tree.now ≤ 16384 → length tree.now ≤ 3 * SPOTS) }
+    ensures { Answered (scope_as_is tree.now) out.old out.new result }
+{
+    let mut spots = [[0u16; 3]; SPOTS];
+    scope_over(tree, &mut spots, out)
+}
+
+// A tree's text as it stands to the lines `in` and `hid`, with as many spots as pays.
 fn scope_text(tree: &[u8], out: &mut [u8]) -> Answer
     ensures { Answered (scope_as_is tree.now) out.old out.new result }
 {
-    if tree.len() <= 768 {
-        let mut spots = [[0u16; 3]; 256];
-        return scope_over(tree, &mut spots, out);
+    match tree.len() {
+        0..=768 => scope_in::<256>(tree, out),
+        769..=1536 => scope_in::<512>(tree, out),
+        1537..=6144 => scope_in::<2048>(tree, out),
+        _ => scope_in::<5462>(tree, out),
     }
-    if tree.len() <= 1536 {
-        let mut spots = [[0u16; 3]; 512];
-        return scope_over(tree, &mut spots, out);
-    }
-    if tree.len() <= 6144 {
-        let mut spots = [[0u16; 3]; 2048];
-        return scope_over(tree, &mut spots, out);
-    }
-    let mut spots = [[0u16; 3]; 5462];
-    scope_over(tree, &mut spots, out)
 }
 
 // scope: tree to the lines `in` and `hid`; an empty file is read as its two lines.

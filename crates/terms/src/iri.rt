@@ -2,48 +2,47 @@
 ghost use Rattle.std.specs.Prelude.{◌≡◌, drop};
 ghost use Rattle.editions.specs.Lexical.{iri_byte, iri_rest, is_iriref};
 
-use crate::utf8::is_utf8;
+use crate::utf8::is_encoded;
 
 fn is_iri_byte(b: u8) -> bool
     ensures { result ≡ iri_byte b }
 {
-    (32 < b)
-        & ((b != 60)
-            & ((b != 34)
-                & ((b != 123)
-                    & ((b != 125) & ((b != 124) & ((b != 94) & ((b != 96) & (b != 92))))))))
+    !matches!(
+        b,
+        0..=b' ' | b'<' | b'"' | b'{' | b'}' | b'|' | b'^' | b'`' | b'\\'
+    )
 }
 
-// What stands behind <, from a place on.
-fn is_iri_rest(f: &[u8], from: usize) -> bool
-    ensures { result ≡ iri_rest (drop from f.now) }
+// What stands behind <.
+#[tactic(auto, unfolding(editions::specs::Lexical::iri_rest))]
+fn is_iri_rest(f: &[u8]) -> bool
+    ensures { result ≡ iri_rest f.now }
 {
-    let mut i = from;
-    while i < f.len() {
-        let b = f[i];
-        if b == 62 {
+    for (i, b) in f.iter().enumerate() {
+        if *b == b'>' {
             return i + 1 == f.len();
         }
-        if !is_iri_byte(b) {
+        if !is_iri_byte(*b) {
             return false;
         }
-        i += 1;
     }
     false
 }
 
-// The bytes from a place on.
+#[tactic(auto, unfolding(editions::specs::Lexical::is_iriref))]
+pub(crate) fn is_reference(f: &[u8]) -> bool
+    ensures { result ≡ is_iriref f.now }
+{
+    match f {
+        [b'<', rest @ ..] => is_iri_rest(rest) && is_encoded(rest),
+        _ => false,
+    }
+}
+
+// The same of the bytes from a place on.
 pub fn is_iriref(f: &[u8], from: usize) -> bool
     ensures { result ≡ is_iriref (drop from f.now) }
 {
-    if f.len() <= from {
-        return false;
-    }
-    if f[from] != 60 {
-        return false;
-    }
-    if !is_iri_rest(f, from + 1) {
-        return false;
-    }
-    is_utf8(f, from + 1)
+    let at = from.min(f.len());
+    is_reference(&f[at..])
 }

@@ -1,11 +1,11 @@
 // Literals as N-Triples writes them, without \u and \U.
-ghost use Rattle.std.specs.Prelude.{◌≡◌, true, false, ◌&&◌, ◌||◌, not, ◌∷◌, drop};
+ghost use Rattle.std.specs.Prelude.{◌≡◌, true, false, ◌&&◌, ◌||◌, not, ◌∷◌};
 ghost use Rattle.text.specs.Text.{Bytes};
 ghost use Rattle.editions.specs.Lexical.{letter, digit, is_tag, is_suffix, is_echar, is_string, unescaped, is_rdf_literal};
-ghost use Rattle.terms.specs.bridge.State.{stays};
+ghost use Rattle.terms.specs.bridge.State.{stays, TagSteps};
 
-use crate::iri::is_iriref;
-use crate::utf8::is_utf8;
+use crate::iri::is_reference;
+use crate::utf8::is_encoded;
 use crate::variable::{is_digit, is_letter};
 
 // A byte of a language tag that is no hyphen.
@@ -15,79 +15,71 @@ fn is_tag_byte(first: bool, b: u8) -> bool
     is_letter(b) | (!first & is_digit(b))
 }
 
-// Whether the byte may stand there; some byte of this part was read then, and it is the first part.
+// Some byte of this part was read, and it is the first part.
 #[derive(Clone, Copy)]
 pub struct Tag {
-    pub good: bool,
     pub more: bool,
     pub first: bool,
 }
 
-// One byte more of a language tag.
-fn tag_step(more: bool, first: bool, b: u8) -> Tag
-    ensures { (s : Bytes) → is_tag more first (b ∷ s) ≡ (result.good && is_tag result.more result.first s) }
+// One byte more of a language tag, unless it may not stand there.
+#[tactic(auto, unfolding(editions::specs::Lexical::is_tag))]
+fn tag_step(t: Tag, b: u8) -> Option<Tag>
+    ensures { TagSteps t b result }
 {
-    if b == 45 {
-        return Tag {
-            good: more,
+    if b == b'-' {
+        if !t.more {
+            return None;
+        }
+        return Some(Tag {
             more: false,
             first: false,
-        };
+        });
     }
-    Tag {
-        good: is_tag_byte(first, b),
+    if !is_tag_byte(t.first, b) {
+        return None;
+    }
+    Some(Tag {
         more: true,
-        first,
-    }
+        first: t.first,
+    })
 }
 
-// What stands behind @, from a place on.
-fn is_tag(f: &[u8], from: usize) -> bool
-    ensures { result ≡ is_tag false true (drop from f.now) }
+// What stands behind @.
+#[tactic(auto, unfolding(editions::specs::Lexical::is_tag))]
+fn is_tag(f: &[u8]) -> bool
+    ensures { result ≡ is_tag false true f.now }
 {
-    let mut more = false;
-    let mut first = true;
-    let mut i = from;
-    while i < f.len() {
-        let t = tag_step(more, first, f[i]);
-        if !t.good {
+    let mut tag = Tag {
+        more: false,
+        first: true,
+    };
+    for b in f {
+        let Some(next) = tag_step(tag, *b) else {
             return false;
-        }
-        more = t.more;
-        first = t.first;
-        i += 1;
+        };
+        tag = next;
     }
-    more
+    tag.more
 }
 
-// What stands behind the closing quote, from a place on.
-fn is_suffix(f: &[u8], from: usize) -> bool
-    ensures { result ≡ is_suffix (drop from f.now) }
+// What stands behind the closing quote.
+#[tactic(auto, unfolding(editions::specs::Lexical::is_suffix))]
+fn is_suffix(f: &[u8]) -> bool
+    ensures { result ≡ is_suffix f.now }
 {
-    if f.len() <= from {
-        return true;
+    match f {
+        [] => true,
+        [b'@', tag @ ..] => is_tag(tag),
+        [b'^', b'^', iri @ ..] => is_reference(iri),
+        _ => false,
     }
-    if f[from] == 64 {
-        return is_tag(f, from + 1);
-    }
-    if f[from] != 94 {
-        return false;
-    }
-    if f.len() <= from + 1 {
-        return false;
-    }
-    if f[from + 1] != 94 {
-        return false;
-    }
-    is_iriref(f, from + 2)
 }
 
 fn is_echar(b: u8) -> bool
     ensures { result ≡ is_echar b }
 {
-    (b == 116)
-        | ((b == 98)
-            | ((b == 110) | ((b == 114) | ((b == 102) | ((b == 92) | ((b == 34) | (b == 39)))))))
+    matches!(b, b't' | b'b' | b'n' | b'r' | b'f' | b'\\' | b'"' | b'\'')
 }
 
 // A byte of a string that doesn't end it; behind a backslash or not.
@@ -97,60 +89,48 @@ fn is_inside(escaped: bool, b: u8) -> bool
     if escaped {
         return is_echar(b);
     }
-    (b != 10) & (b != 13)
+    (b != b'\n') & (b != b'\r')
 }
 
-// What stands behind the opening quote, from a place on.
-fn is_string(f: &[u8], from: usize) -> bool
-    ensures { result ≡ is_string false (drop from f.now) }
+// What stands behind the opening quote.
+#[tactic(auto, unfolding(editions::specs::Lexical::is_string))]
+fn is_string(f: &[u8]) -> bool
+    ensures { result ≡ is_string false f.now }
 {
     let mut escaped = false;
-    let mut i = from;
-    while i < f.len() {
-        let b = f[i];
-        if !escaped & (b == 34) {
-            return is_suffix(f, i + 1);
+    for (i, b) in f.iter().enumerate() {
+        if !escaped & (*b == b'"') {
+            return is_suffix(&f[i + 1..]);
         }
-        if !is_inside(escaped, b) {
+        if !is_inside(escaped, *b) {
             return false;
         }
-        escaped = !escaped & (b == 92);
-        i += 1;
+        escaped = !escaped & (*b == b'\\');
     }
     false
 }
 
-// No \u and no \U from a place on.
-fn is_unescaped(f: &[u8], from: usize) -> bool
-    ensures { result ≡ unescaped (drop from f.now) }
+// No \u and no \U.
+#[tactic(auto, unfolding(editions::specs::Lexical::unescaped))]
+fn is_unescaped(f: &[u8]) -> bool
+    ensures { result ≡ unescaped f.now }
 {
     let mut slash = false;
-    let mut i = from;
-    while i < f.len() {
-        let b = f[i];
-        if slash & ((b == 117) | (b == 85)) {
+    for b in f {
+        if slash & ((*b == b'u') | (*b == b'U')) {
             return false;
         }
-        slash = b == 92;
-        i += 1;
+        slash = *b == b'\\';
     }
     true
 }
 
+#[tactic(auto, unfolding(editions::specs::Lexical::is_rdf_literal))]
 pub fn is_rdf_literal(f: &[u8]) -> bool
     ensures { result ≡ is_rdf_literal f.now }
 {
-    if f.len() < 1 {
-        return false;
+    match f {
+        [b'"', rest @ ..] => is_string(rest) && is_unescaped(rest) && is_encoded(rest),
+        _ => false,
     }
-    if f[0] != 34 {
-        return false;
-    }
-    if !is_string(f, 1) {
-        return false;
-    }
-    if !is_unescaped(f, 1) {
-        return false;
-    }
-    is_utf8(f, 1)
 }

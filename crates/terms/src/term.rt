@@ -4,44 +4,33 @@ ghost use Rattle.text.specs.Field.{is_iri, is_dash, is_blank};
 ghost use Rattle.editions.specs.Spelling.{cell_of};
 ghost use Rattle.editions.specs.Refusals.{allowed_token, allowed};
 
-use crate::iri::is_iriref;
+use crate::iri::is_reference;
 use crate::literal::is_rdf_literal;
 use crate::variable::is_var1;
 use text::is_var;
 
+#[tactic(auto, unfolding(text::specs::Field::is_iri))]
 fn is_iri(f: &[u8]) -> bool
     ensures { result ≡ is_iri f.now }
 {
-    if f.len() < 2 {
-        return false;
-    }
-    if f[0] != 60 {
-        return false;
-    }
-    f[f.len() - 1] == 62
+    matches!(f, [b'<', .., b'>'])
 }
 
+#[tactic(auto, unfolding(text::specs::Field::is_dash))]
 pub fn is_dash(f: &[u8]) -> bool
     ensures { result ≡ is_dash f.now }
 {
-    if f.len() != 1 {
-        return false;
-    }
-    f[0] == 45
+    matches!(f, [b'-'])
 }
 
+#[tactic(auto, unfolding(text::specs::Field::is_blank))]
 pub fn is_blank(f: &[u8]) -> bool
     ensures { result ≡ is_blank f.now }
 {
-    if f.len() < 2 {
-        return false;
-    }
-    if f[0] != 95 {
-        return false;
-    }
-    f[1] == 58
+    matches!(f, [b'_', b':', ..])
 }
 
+#[tactic(auto, unfolding(editions::specs::Refusals::allowed, editions::specs::Spelling::term_of))]
 pub fn is_allowed(f: &[u8]) -> bool
     ensures { result ≡ allowed f.now }
 {
@@ -49,11 +38,12 @@ pub fn is_allowed(f: &[u8]) -> bool
         return is_var1(f);
     }
     if is_iri(f) {
-        return is_iriref(f, 0);
+        return is_reference(f);
     }
     is_rdf_literal(f)
 }
 
+#[tactic(auto, unfolding(editions::specs::Spelling::cell_of))]
 pub fn is_allowed_cell(f: &[u8]) -> bool
     ensures { result ≡ allowed_token (cell_of f.now) }
 {
@@ -61,7 +51,7 @@ pub fn is_allowed_cell(f: &[u8]) -> bool
         return true;
     }
     if is_iri(f) {
-        return is_iriref(f, 0);
+        return is_reference(f);
     }
     is_rdf_literal(f)
 }

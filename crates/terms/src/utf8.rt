@@ -3,7 +3,7 @@ ghost use Rattle.std.specs.Prelude.{◌≡◌, drop};
 ghost use Rattle.editions.specs.Lexical.{lead as leadOf, is_utf8};
 ghost use Rattle.terms.specs.bridge.State.{state_of, Steps};
 
-// So many bytes are still to come, the next of them from low to high; 1 from 1 to 0 is nothing.
+// So many bytes are still to come, the next of them from low to high.
 #[derive(Clone, Copy)]
 pub struct Follow {
     pub count: u8,
@@ -11,122 +11,78 @@ pub struct Follow {
     pub high: u8,
 }
 
-// What follows a first byte.
-fn lead(b: u8) -> Follow
+// What follows a first byte, unless it is none.
+fn lead(b: u8) -> Option<Follow>
     ensures { state_of result ≡ leadOf b }
 {
-    if b < 128 {
-        return Follow {
-            count: 0,
-            low: 0,
-            high: 0,
-        };
-    }
-    if (194 <= b) & (b <= 223) {
-        return Follow {
-            count: 1,
-            low: 128,
-            high: 191,
-        };
-    }
-    if b == 224 {
-        return Follow {
-            count: 2,
-            low: 160,
-            high: 191,
-        };
-    }
-    if b == 237 {
-        return Follow {
-            count: 2,
-            low: 128,
-            high: 159,
-        };
-    }
-    if (225 <= b) & (b <= 239) {
-        return Follow {
-            count: 2,
-            low: 128,
-            high: 191,
-        };
-    }
-    if b == 240 {
-        return Follow {
-            count: 3,
-            low: 144,
-            high: 191,
-        };
-    }
-    if (241 <= b) & (b <= 243) {
-        return Follow {
-            count: 3,
-            low: 128,
-            high: 191,
-        };
-    }
-    if b == 244 {
-        return Follow {
-            count: 3,
-            low: 128,
-            high: 143,
-        };
-    }
-    Follow {
-        count: 1,
-        low: 1,
-        high: 0,
-    }
+    let (count, low, high) = match b {
+        0..=127 => (0, 0, 0),
+        194..=223 => (1, 128, 191),
+        224 => (2, 160, 191),
+        237 => (2, 128, 159),
+        225..=239 => (2, 128, 191),
+        240 => (3, 144, 191),
+        241..=243 => (3, 128, 191),
+        244 => (3, 128, 143),
+        _ => return None,
+    };
+    Some(Follow { count, low, high })
 }
 
-// One byte more.
-fn step(count: u8, low: u8, high: u8, b: u8) -> Follow
-    ensures { Steps count low high b result }
+// One byte more, unless it may not follow.
+#[tactic(auto, using(crate::proofs::Laws::dead), unfolding(editions::specs::Lexical::utf8))]
+fn step(f: Follow, b: u8) -> Option<Follow>
+    ensures { Steps f b result }
 {
-    if count == 0 {
+    if f.count == 0 {
         return lead(b);
     }
-    if (low <= b) & (b <= high) {
-        return Follow {
-            count: count - 1,
+    if f.low <= b && b <= f.high {
+        return Some(Follow {
+            count: f.count - 1,
             low: 128,
             high: 191,
-        };
+        });
     }
-    Follow {
-        count: 1,
-        low: 1,
-        high: 0,
-    }
+    None
 }
 
-// The first place from one on at which a byte over 127 stands, or the end.
-fn ascii_end(f: &[u8], from: usize) -> usize
-    ensures { is_utf8 (drop from f.now) ≡ is_utf8 (drop result f.now) }
+// What stands from the first byte over 127 on.
+#[tactic(auto, unfolding(editions::specs::Lexical::utf8))]
+fn behind_ascii(f: &[u8]) -> &[u8]
+    ensures { is_utf8 f.now ≡ is_utf8 result.now }
 {
-    let mut i = from;
-    while i < f.len() {
-        if 127 < f[i] {
-            return i;
+    for (i, b) in f.iter().enumerate() {
+        if 127 < *b {
+            return &f[i..];
         }
-        i += 1;
     }
-    i
+    &[]
 }
 
-// The bytes from a place on.
+#[tactic(auto, unfolding(editions::specs::Lexical::utf8))]
+pub(crate) fn is_encoded(f: &[u8]) -> bool
+    ensures { result ≡ is_utf8 f.now }
+{
+    let mut state = Follow {
+        count: 0,
+        low: 0,
+        high: 0,
+    };
+    let rest = behind_ascii(f);
+    for b in rest {
+        let Some(next) = step(state, *b) else {
+            return false;
+        };
+        state = next;
+    }
+    state.count == 0
+}
+
+// The same of the bytes from a place on.
 pub fn is_utf8(f: &[u8], from: usize) -> bool
     ensures { result ≡ is_utf8 (drop from f.now) }
 {
-    let mut count = 0;
-    let mut low = 0;
-    let mut high = 0;
-    let mut i = ascii_end(f, from);
-    while i < f.len() {
-        let s = step(count, low, high, f[i]);
-        count = s.count;
-        low = s.low;
-        high = s.high;
-        i += 1;
-    }
-    count == 0
+    let at = from.min(f.len());
+    is_encoded(&f[at..])
 }

@@ -5,36 +5,35 @@ ghost use Rattle.editions.specs.Lexical.{letter, digit, is_var1};
 pub fn is_letter(b: u8) -> bool
     ensures { result ≡ letter b }
 {
-    ((65 <= b) & (b <= 90)) | ((97 <= b) & (b <= 122))
+    matches!(b, b'A'..=b'Z' | b'a'..=b'z')
 }
 
 pub fn is_digit(b: u8) -> bool
     ensures { result ≡ digit b }
 {
-    (48 <= b) & (b <= 57)
+    matches!(b, b'0'..=b'9')
 }
 
 fn is_name_byte(b: u8) -> bool
     ensures { result ≡ (letter b || (digit b || eqb b 95)) }
 {
-    is_letter(b) | (is_digit(b) | (b == 95))
+    is_letter(b) | (is_digit(b) | (b == b'_'))
 }
 
+#[tactic(auto, unfolding(editions::specs::Lexical::is_var1, editions::specs::Lexical::all_name))]
 pub fn is_var1(f: &[u8]) -> bool
     ensures { result ≡ is_var1 f.now }
 {
-    if f.len() < 2 {
+    let [first, name @ ..] = f else {
+        return false;
+    };
+    if *first != b'?' || name.is_empty() {
         return false;
     }
-    if f[0] != 63 {
-        return false;
-    }
-    let mut i = 1;
-    while i < f.len() {
-        if !is_name_byte(f[i]) {
+    for b in name {
+        if !is_name_byte(*b) {
             return false;
         }
-        i += 1;
     }
     true
 }

@@ -11,11 +11,10 @@ use lib.ListN.{length, get_or, take, drop, drop_of_length-le, length-drop}
 use lib.Seq.{drop-cons, take_all, take-nil, get_or-drop}
 use lib.Dec.{leb, eqb}
 use borrow.Author.Tests.{le-leb, lt-leb, eq-eqb, ne_eqb, not-true, not-false}
-use Rattle.text.specs.declared.Number.{Number}
-use Rattle.text.specs.declared.Number.TheVariants.{Is, Not}
+use Rattle.text.specs.bridge.Code.{Number, number_in, kinds, kind_at}
 use Rattle.text.specs.Text.{Bytes, piece}
 use Rattle.text.specs.Field.{digits_of, number_of, given, small, is_region, third, is_tag, Kind, form, is_kind}
-use Rattle.text.specs.bridge.Code.{number_in, kinds, kind_at}
+use Rattle.std.specs.Prelude.{Some, None}
 
 -- ---- integers
 
@@ -50,10 +49,10 @@ number-many [] r h k e q = absurd (h refl)
 number-many (x ∷ []) r h k e q = absurd (k refl)
 number-many (x ∷ y ∷ ys) r h k e q = rw (ne_eqb x 48 e) q
 
-pub number-given : (f : Bytes) (r : Number) (n : ℕ) → number_in r ≡ number_of f → r ≡ Is n → true ≡ given (number_of f)
+pub number-given : (f : Bytes) (r : Number) (n : ℕ) → number_in r ≡ number_of f → r ≡ Some n → true ≡ given (number_of f)
 number-given f r n h e = rw (← h, e)
 
-pub number-absent : (f : Bytes) (r : Number) → number_in r ≡ number_of f → r ≡ Not → false ≡ given (number_of f)
+pub number-absent : (f : Bytes) (r : Number) → number_in r ≡ number_of f → r ≡ None → false ≡ given (number_of f)
 number-absent f r h e = rw (← h, e)
 
 -- ---- language tags

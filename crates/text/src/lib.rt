@@ -104,10 +104,3 @@ pub fn piece(s: &[u8], from: usize, size: usize) -> &[u8]
     let to = from + size;
     &s[from..to]
 }
-
-// What a field is as a number.
-#[derive(Clone, Copy)]
-pub enum Number {
-    Is(u32),
-    Not,
-}

@@ -8,10 +8,11 @@ use borrow.Author.Tests.{le-ltb, lt-ltb}
 use Rattle.text.specs.Text.{Bytes, lines_from}
 use Rattle.text.proofs.Places.{lines_start, lines_end}
 use Rattle.algebra.specs.Reader.{read_text}
-use Rattle.algebra.specs.declared.Answer.TheVariants.{Good, OverBound}
 use Rattle.evaluating.specs.Triples.{most_triples, read_triples}
 use Rattle.triples.specs.bridge.Triples.{triples_in, wholes_in, TriplesChecked}
 use Rattle.triples.proofs.Reading.{line_in, told, told-start, told-end}
+use Rattle.std.specs.Prelude.{Ok, Err}
+use Rattle.algebra.specs.declared.Fault.TheVariants.{OverBound}
 
 -- a line with its end
 abbrev pub closed : Bytes → Bytes
@@ -26,7 +27,7 @@ pub record Going (s : Bytes) (keys : List (List ℕ)) (at n : ℕ) : Type 0 wher
   pub so : read_triples s ≡ told (most_triples - n) (triples_in s keys n) (lines_from s at)
 
 -- a text over the bound on bytes
-pub too_long : (s : Bytes) (keys : List (List ℕ)) → 16384 < length s → TriplesChecked s keys OverBound
+pub too_long : (s : Bytes) (keys : List (List ℕ)) → 16384 < length s → TriplesChecked s keys (Err OverBound)
 unfolding TriplesChecked read_triples read_text
 too_long s keys k = rw (lt-ltb 16384 (length s) k)
 
@@ -43,6 +44,6 @@ going_start s keys at z k e =
     }
 
 -- no line is left
-pub done_end : (s : Bytes) (keys : List (List ℕ)) (at n : ℕ) → Going s keys at n → length s ≤ at → TriplesChecked s keys (Good n)
+pub done_end : (s : Bytes) (keys : List (List ℕ)) (at n : ℕ) → Going s keys at n → length s ≤ at → TriplesChecked s keys (Ok n)
 unfolding TriplesChecked
 done_end s keys at n g e = record { room = g.room; few = g.most; read = g.so ∙ rw (lines_end s at e) (told-end (most_triples - n) (triples_in s keys n)) }

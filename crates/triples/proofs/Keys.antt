@@ -6,7 +6,7 @@ use mathlib.Core.Bool.{Bool, true, false, ◌||◌}
 use native.Mathlib.Numerals.{add-one}
 use native.Mathlib.Omega.{arith}
 use lib.ListN.{length, get_or, set, take, drop, length-map, drop_of_length-le, get_or-map}
-use lib.Seq.{length-take-le, take-suc-set, drop-cons, get_or-take}
+use lib.Seq.{length-take-le, take-suc-set, drop-cons}
 use Rattle.text.specs.Text.{Bytes, same, part, piece}
 use Rattle.algebra.specs.Tree.{Triple}
 use Rattle.algebra.specs.Valid.{mem}
@@ -16,17 +16,6 @@ module _ (s : Bytes) (keys : List (List ℕ)) (n : ℕ) where
   pub triples-long : n ≤ length keys → length (triples_in s keys n) ≡ n
   unfolding triples_in
   triples-long h = length-map (take n keys) (triple_at s) ∙ length-take-le n keys h
-
-  wholes-long : n ≤ length keys → length (wholes_in s keys n) ≡ n
-  unfolding wholes_in
-  wholes-long h = length-map (take n keys) (whole_at s) ∙ length-take-le n keys h
-
-  -- the line at a place is what the entry there tells
-  whole-at : (i : ℕ) → n ≤ length keys → i < n → drop i (wholes_in s keys n) ≡ whole_at s (get_or keys i []) ∷ drop (i + 1) (wholes_in s keys n)
-  unfolding wholes_in
-  whole-at i h l =
-      let long : i < length (map (whole_at s) (take n keys)) = rw (length-map (take n keys) (whole_at s), length-take-le n keys h) l in
-      rw (add-one, ← get_or-take n keys i [] l, ← get_or-map (whole_at s) (take n keys) i []) (drop-cons (map (whole_at s) (take n keys)) i (whole_at s []) long)
 
   -- one more
   module _ (from to mid end : ℕ) (room : n < length keys) (a : from ≤ to) (b : to < mid) (c : mid < end) where
@@ -62,22 +51,28 @@ module _ (s : Bytes) (keys : List (List ℕ)) (n : ℕ) where
 abbrev pub Left : Bytes → List Bytes → ℕ → Type 0
 Left f ls i = mem f (drop i ls) ≡ mem f ls
 
-module _ (s f : Bytes) (keys : List (List ℕ)) (n i : ℕ) (room : n ≤ length keys) (left : Left f (wholes_in s keys n) i) where
-  module _ (l : i < n) (b : Bool) (e : b ≡ same f (whole_at s (get_or keys i []))) where
-    step : mem f (drop i (wholes_in s keys n)) ≡ (b || mem f (drop (i + 1) (wholes_in s keys n)))
+-- the line at a place is what the entry there tells
+whole-at : (s : Bytes) (es : List (List ℕ)) (i : ℕ) → i < length es → drop i (map (whole_at s) es) ≡ whole_at s (get_or es i []) ∷ drop (i + 1) (map (whole_at s) es)
+whole-at s es i l =
+    let long : i < length (map (whole_at s) es) = rw (length-map es (whole_at s)) l in
+    rw (add-one, ← get_or-map (whole_at s) es i []) (drop-cons (map (whole_at s) es) i (whole_at s []) long)
+
+module _ (s f : Bytes) (es : List (List ℕ)) (i : ℕ) (left : Left f (map (whole_at s) es) i) where
+  module _ (l : i < length es) (b : Bool) (e : b ≡ same f (whole_at s (get_or es i []))) where
+    step : mem f (drop i (map (whole_at s) es)) ≡ (b || mem f (drop (i + 1) (map (whole_at s) es)))
     unfolding mem
-    step = rw (whole-at s keys n i room l, e)
+    step = rw (whole-at s es i l, e)
 
     -- it is here
-    pub found_here : b ≡ true → false ≡ fresh f (wholes_in s keys n)
+    pub found_here : b ≡ true → false ≡ fresh f (map (whole_at s) es)
     unfolding fresh
     found_here h = rw (← left, step, h)
 
-    pub not-here : b ≡ false → Left f (wholes_in s keys n) (i + 1)
+    pub not-here : b ≡ false → Left f (map (whole_at s) es) (i + 1)
     not-here h = sym (rw h at step) ∙ left
 
-  pub found_nowhere : n ≤ i → true ≡ fresh f (wholes_in s keys n)
+  pub found_nowhere : length es ≤ i → true ≡ fresh f (map (whole_at s) es)
   unfolding fresh mem
   found_nowhere h =
-      let past : length (wholes_in s keys n) ≤ i = let z = wholes-long s keys n room in omega arith in
-      rw (← left, drop_of_length-le (wholes_in s keys n) past)
+      let past : length (map (whole_at s) es) ≤ i = rw (length-map es (whole_at s)) h in
+      rw (← left, drop_of_length-le (map (whole_at s) es) past)

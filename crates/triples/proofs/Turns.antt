@@ -12,18 +12,17 @@ use Rattle.text.proofs.Texts.{AllClean, glue, glue-split, ended-glue}
 use Rattle.text.proofs.Places.{lines-open}
 use Rattle.algebra.specs.Tree.{Triple}
 use Rattle.algebra.specs.Valid.{mem}
-use Rattle.algebra.specs.declared.Answer.TheVariants.{Malformed, OverBound}
 use Rattle.cursor.specs.bridge.Cursor.{left}
 use Rattle.cursor.proofs.Laws.{left-all}
 use Rattle.cursor.specs.declared.Cursor.{Cursor}
 use Rattle.lists.proofs.Lines.{line-next, line_clean}
 use Rattle.evaluating.specs.Triples.{most_triples, line_of, read_triples}
-use Rattle.triples.specs.declared.Ends.{Ends}
-use Rattle.triples.specs.declared.Ends.TheVariants.{At, None}
-use Rattle.triples.specs.bridge.Triples.{entry_of, triples_in, wholes_in, is_three, Finds, TriplesChecked, fresh}
+use Rattle.triples.specs.bridge.Triples.{Search, ends, entry_of, triples_in, wholes_in, is_three, Finds, TriplesChecked, fresh}
 use Rattle.triples.proofs.Keys.{triples-long, triples-more, wholes-more}
 use Rattle.triples.proofs.Reading.{line_in, told, told-bad, told-twice, told_over, told-next}
 use Rattle.triples.proofs.Going.{closed, Going}
+use Rattle.std.specs.Prelude.{Some, None, Err}
+use Rattle.algebra.specs.declared.Fault.TheVariants.{Malformed, OverBound}
 
 -- ---- lines with their ends
 
@@ -70,11 +69,11 @@ module _ (s : Bytes) (keys : List (List ℕ)) (at n : ℕ) (g : Going s keys at 
 
   module _ (c : Cursor) (same_at : c.at ≡ at) (f : First 10 s at (length s) c.end) where
     -- the line is not ended
-    pub done-open : (keys' : List (List ℕ)) → at < length s → c.end ≡ length s → TriplesChecked s keys' Malformed
+    pub done-open : (keys' : List (List ℕ)) → at < length s → c.end ≡ length s → TriplesChecked s keys' (Err Malformed)
     unfolding is_three TriplesChecked
     done-open keys' k e = g.so ∙ rw (lines-open s at c.end k f e) (told-bad before [] (most_triples - n) [] tt refl)
 
-    module _ (x : Ends) (finds : Finds s c x) (ended-line : c.end ≡ length s → ⊥) where
+    module _ (x : Search) (finds : Finds s c x) (ended-line : c.end ≡ length s → ⊥) where
       less : c.end < length s
       less = let q = f.high in omega arith
 
@@ -88,11 +87,11 @@ module _ (s : Bytes) (keys : List (List ℕ)) (at n : ℕ) (g : Going s keys at 
       neat = rw same_at (line_clean s at c.end f)
 
       -- it is not three IRIs or literals
-      pub done-bad : (keys' : List (List ℕ)) → x ≡ None → TriplesChecked s keys' Malformed
+      pub done-bad : (keys' : List (List ℕ)) → x ≡ None → TriplesChecked s keys' (Err Malformed)
       unfolding Finds TriplesChecked
       done-bad keys' e = line ∙ told-bad before rest (most_triples - n) (left s c.at c.end) neat (rw e at finds)
 
-      module _ (to mid : ℕ) (is : x ≡ At to mid) where
+      module _ (to mid : ℕ) (is : x ≡ Some (ends to mid)) where
         abbrev one : Bytes
         one = part c.at to s
 
@@ -102,7 +101,7 @@ module _ (s : Bytes) (keys : List (List ℕ)) (at n : ℕ) (g : Going s keys at 
         abbrev three : Bytes
         three = part (mid + 1) c.end s
 
-        all : Finds s c (At to mid)
+        all : Finds s c (Some (ends to mid))
         all = rw is at finds
 
         -- where its fields end
@@ -131,7 +130,7 @@ module _ (s : Bytes) (keys : List (List ℕ)) (at n : ℕ) (g : Going s keys at 
 
         module _ (b : Bool) (new : b ≡ fresh (part c.at c.end s) (wholes_in s keys n)) where
           -- it stands already
-          pub done-twice : (keys' : List (List ℕ)) → not b ≡ true → TriplesChecked s keys' Malformed
+          pub done-twice : (keys' : List (List ℕ)) → not b ≡ true → TriplesChecked s keys' (Err Malformed)
           unfolding TriplesChecked fresh
           done-twice keys' e =
               let z : mem (part c.at c.end s) (wholes_in s keys n) ≡ true = not-false _ (sym new ∙ not-true b e) in
@@ -143,7 +142,7 @@ module _ (s : Bytes) (keys : List (List ℕ)) (at n : ℕ) (g : Going s keys at 
             unseen = seen ∙ not-true _ (sym new ∙ not-false b e)
 
             -- it is a line too many
-            pub done-over : (keys' : List (List ℕ)) → n ≡ most_triples → TriplesChecked s keys' OverBound
+            pub done-over : (keys' : List (List ℕ)) → n ≡ most_triples → TriplesChecked s keys' (Err OverBound)
             unfolding TriplesChecked
             done-over keys' k =
                 let z : most_triples - n ≡ 0 = omega arith in

@@ -3,11 +3,12 @@
 // 7 filters, 8 without and 9 namespaces.
 #![tactic(auto)]
 
-ghost use Rattle.std.specs.Prelude.{◌<◌, IfOk};
+ghost use Rattle.std.specs.Prelude.{◌<◌, IfOk, IfSome};
 
 use algebra::ENTRIES;
 use answering::{answer, write_answer, write_left};
-use records::{LIMIT, NONE, read_record};
+use answers::{answer_of, many_of};
+use records::{Entry, LIMIT, read_record};
 use std::fs::File;
 use std::io;
 use std::io::{Read, Seek};
@@ -17,27 +18,31 @@ use text::piece;
 fn tell(rt: &impl Print, call: u32, input: &[u8], out: &mut [u8]) -> io::Result<()> {
     let mut list = [0u16; ENTRIES];
     let listed = answer(call, input, out, &mut list);
-    let many = listed.many;
-    write_answer(rt, listed.answer, out)?;
+    let many = many_of(listed);
+    write_answer(rt, answer_of(listed), out)?;
     write_left(rt, &list, many, out)
 }
 
-// The record at a place of the file, and where the next one starts.
+// The record at a place of the file, and where the next one starts, if one can.
 fn turn<F: Read + Seek>(
     rt: &impl Print,
     file: &mut F,
     at: u64,
     window: &mut [u8],
     out: &mut [u8],
-) -> io::Result<u64>
+) -> io::Result<Option<u64>>
     requires { at < 1099511627776 }
-    ensures { IfOk result (λ next. at < next) }
+    ensures { IfOk result (λ next. IfSome next (λ place. at < place)) }
 {
-    let r = read_record(file, at, window)?;
-    let next = r.next;
-    if r.kind == NONE {
-        return Ok(next);
-    }
+    let r = match read_record(file, at, window)? {
+        Entry::Record(r) => r,
+        Entry::Bad => {
+            rt.write_all(b"bad record\n")?;
+            return Ok(None);
+        }
+        Entry::End => return Ok(None),
+    };
+    let next = Some(r.next);
     if 9 < r.kind {
         rt.write_all(b"bad record\n")?;
         return Ok(next);
@@ -56,7 +61,10 @@ fn run<F: Read + Seek>(
 ) -> io::Result<()> {
     let mut at: u64 = 0;
     while at < LIMIT {
-        at = turn(rt, file, at, window, out)?;
+        let Some(next) = turn(rt, file, at, window, out)? else {
+            return Ok(());
+        };
+        at = next;
     }
     Ok(())
 }

@@ -1,16 +1,15 @@
 -- Laws of the numbers in a line, of the table of names and of notes. Assumes nothing.
 use Prim.Native.Nat.{ℕ, zero, suc, ◌+◌, ◌≤◌, ◌<◌}
-use mathlib.Core.Path.{◌≡◌, refl, sym, ap, subst, ◌∙◌}
+use mathlib.Core.Path.{◌≡◌, refl, sym, ap, ◌∙◌}
 use mathlib.Core.List.{List, [], ◌∷◌}
 use mathlib.Core.Bool.{true, false}
 use native.Mathlib.Omega.{arith}
-use lib.ListN.{length, get_or, set, drop, get_or-append}
-use lib.Seq.{get_or_at, get_or-drop}
+use lib.ListN.{length, get_or, set, drop}
+use lib.Seq.{get_or-drop}
 use Rattle.text.specs.Text.{Bytes, same, part, split, First}
 use Rattle.text.specs.Field.{number_of}
 use Rattle.text.specs.bridge.Code as N
-use Rattle.text.specs.declared.Number.{Number}
-use Rattle.text.specs.declared.Number.TheVariants.{Is, Not}
+use Rattle.text.specs.bridge.Code.{Number}
 use Rattle.text.proofs.Basics.{same-eq}
 use Rattle.algebra.specs.Valid.{mem}
 use Rattle.names.specs.bridge.Names.{name_at, listing, Hinted}
@@ -23,6 +22,7 @@ use Rattle.scoping.proofs.Index.{index_at}
 use Rattle.scoping.specs.bridge.Walk.{number_in}
 use Rattle.walking.specs.bridge.Walk.{flagged}
 use Rattle.walking.specs.bridge.Code.{Named}
+use Rattle.std.specs.Prelude.{Some, None}
 
 -- ---- the number in a field
 
@@ -35,10 +35,10 @@ module _ (s : Bytes) (at end e : ℕ) (k : end < length s) (h : at ≤ end) (f :
   next_field = left-next s at end e (omega arith) h f
 
   module _ (r : Number) (is : N.number_in r ≡ number_of (part at e s)) where
-    pub count-is : (v : ℕ) → r ≡ Is v → v ≡ number_in (get_or (left s at end) 0 [])
+    pub count-is : (v : ℕ) → r ≡ Some v → v ≡ number_in (get_or (left s at end) 0 [])
     count-is v q = rw (next_field, ← is, q)
 
-    pub count-not : r ≡ Not → 0 ≡ number_in (get_or (left s at end) 0 [])
+    pub count-not : r ≡ None → 0 ≡ number_in (get_or (left s at end) 0 [])
     count-not q = rw (next_field, ← is, q)
 
   pub count_next : left s (e + 1) end ≡ drop 1 (left s at end)

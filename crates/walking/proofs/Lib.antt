@@ -13,3 +13,4 @@ pub mod Sizes
 pub mod Fields
 pub mod Grown
 pub mod Remarked
+pub mod Tabbed

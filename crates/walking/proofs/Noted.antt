@@ -37,7 +37,6 @@ use Rattle.walking.specs.bridge.Code.{Inside}
 use Rattle.descending.specs.bridge.Renamed.{Shaped}
 use Rattle.walking.specs.bridge.Flags.{flag_all}
 use Rattle.walking.specs.bridge.Rewritten.{rewritten, flag_spots, Stands}
-use Rattle.walking.proofs.After.{line}
 use Rattle.walking.proofs.Parts.{heading}
 use Rattle.walking.proofs.Written.{variable-is}
 use Rattle.walking.proofs.Together.{tree-both}

@@ -14,7 +14,10 @@ use Rattle.text.specs.Text.{Bytes, part, piece}
 use Rattle.names.specs.bridge.Names.{name_at, listing}
 use Rattle.names.proofs.Laws.{listing-long, listing-at}
 use Rattle.emit.specs.bridge.Emit.{Em, puts}
+use Rattle.emit.specs.declared.Writer.{Writer}
+use Rattle.emit.specs.bridge.Writer.{Wrote}
 use Rattle.emit.proofs.Laws.{puts-append}
+use Rattle.emit.proofs.Writing.{wrote-as}
 use Rattle.scoping.specs.bridge.Sets.{Once}
 use Rattle.scoping.specs.Sets.{index_of}
 use Rattle.scoping.proofs.Index.{index_at, mem-at}
@@ -119,11 +122,11 @@ pub piece-size : (s : Bytes) (a b x y : ℕ) (f : Bytes) → x ≡ a → y ≡ b
 piece-size s a b x y f p q e = ap length (e ∙ λ i. piece (p i) (q i) s)
 
 -- a new name, generated or a piece of the pool
-pub name-put : (s : Bytes) (a b : ℕ) (e e' : Em) → length s ≡ 0 → e' ≡ puts (named a b) e → e' ≡ puts (spelled s a b) e
-name-put s a b e e' h put = put ∙ ap (λ (z : Bytes). puts z e) (sym (spelled_none s a b h))
+pub name-put : {u v : Writer} (s : Bytes) (a b : ℕ) → length s ≡ 0 → Wrote u v (named a b) → Wrote u v (spelled s a b)
+name-put s a b h p = wrote-as (sym (spelled_none s a b h)) p
 
-pub piece-put : (s : Bytes) (a b x y : ℕ) (f : Bytes) (e e' : Em) → (length s ≡ 0 → ⊥) → x ≡ a → y ≡ b → f ≡ piece x y s → e' ≡ puts f e → e' ≡ puts (spelled s a b) e
-piece-put s a b x y f e e' n p q h put = put ∙ ap (λ (z : Bytes). puts z e) (h ∙ (λ i. piece (p i) (q i) s) ∙ sym (spelled-piece s a b n))
+pub piece-put : {u v : Writer} (s : Bytes) (a b x y : ℕ) (f : Bytes) → (length s ≡ 0 → ⊥) → x ≡ a → y ≡ b → f ≡ piece x y s → Wrote u v f → Wrote u v (spelled s a b)
+piece-put s a b x y f n p q h put = wrote-as (h ∙ (λ i. piece (p i) (q i) s) ∙ sym (spelled-piece s a b n)) put
 
 -- ---- the text under new names
 

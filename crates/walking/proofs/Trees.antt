@@ -5,7 +5,7 @@ use mathlib.Core.List.{List, [], ◌∷◌, append-nil}
 use mathlib.Core.Bool.{Bool, true, false}
 use native.Mathlib.Omega.{arith}
 use lib.ListN.{length}
-use Rattle.text.specs.Text.{Bytes, Line, same, text_of}
+use Rattle.text.specs.Text.{Bytes, Line, same}
 use Rattle.text.specs.Word.{bytes}
 use Rattle.text.proofs.Basics.{deeper}
 use Rattle.text.proofs.Numbers.{number-back}
@@ -14,7 +14,7 @@ use Rattle.algebra.specs.Tree.{Pattern, bgp, path, join, union, minus, leftjoin,
 use Rattle.algebra.specs.Tree.{Expression, term, bound, exists, apply, call, Condition, always, provided, Expressions, eend, econs, Orders, oend, ocons, Aggregates, aend, agg, aggall}
 use Rattle.algebra.specs.Word.{arity, BGP, PATH, JOIN, UNION, MINUS, LEFTJOIN, FILTER, GRAPH, EXTEND, VALUES, ORDERBY, PROJECT, DISTINCT, REDUCED, SLICE, GROUP, SERVICE}
 use Rattle.algebra.specs.Word.{TERM, BOUND, EXISTS, CALL, OP, AGG, AGGALL, spell_o}
-use Rattle.algebra.specs.Layout.{put_rows, put_arity, put, put_e, put_c, put_es, put_os, put_as, layout}
+use Rattle.algebra.specs.Layout.{put_rows, put_arity, put, put_e, put_c, put_es, put_os, put_as}
 use Rattle.algebra.specs.Valid.{Valid, ValidE, ValidC, ValidEs, ValidOs, ValidAs, mem}
 use Rattle.algebra.specs.Depth.{depth, depth_e, depth_c, depth_es, depth_os, depth_as}
 use Rattle.algebra.specs.bridge.Table.{Sort, triples, columns, patterns, expressions, rows, orders, aggregates, row_in, arity_row}

@@ -2,9 +2,9 @@
 use Prim.Native.Nat.{ℕ, suc, ◌≤◌}
 use mathlib.Core.Path.{◌≡◌, refl, sym, ap, ◌∙◌}
 use mathlib.Core.List.{List, [], ◌∷◌, map}
-use mathlib.Core.Bool.{Bool, true, false, cond, true≢false}
+use mathlib.Core.Bool.{Bool, true, false, cond}
 use Rattle.text.specs.Text.{Bytes, ended}
-use Rattle.text.specs.Field.{most, digits_of, number_of, decimal, clean, is_var, is_iri, is_literal, is_dash, variable, cell, is_kind, fits, all_fit}
+use Rattle.text.specs.Field.{most, decimal, clean, is_var, variable, cell, is_kind, fits, all_fit}
 use Rattle.text.proofs.Basics.{and_left, and_right}
 use Rattle.text.proofs.Numbers.{number-back}
 use Rattle.algebra.specs.Valid.{Fits, AllFit, mem}

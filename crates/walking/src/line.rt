@@ -4,7 +4,7 @@ ghost use Rattle.cursor.specs.bridge.Cursor.{left};
 ghost use Rattle.scoping.specs.bridge.Walk.{number_in};
 
 use cursor::field_end;
-use text::{Number, number_of};
+use text::number_of;
 
 // The number that the field from here on is, or 0; and where the next field starts.
 #[derive(Clone, Copy)]
@@ -26,10 +26,10 @@ pub fn count_at(text: &[u8], at: usize, end: usize) -> Count
     let e = field_end(text, at, end);
     let next = e + 1;
     match number_of(&text[at..e]) {
-        Number::Is(v) => Count {
+        Some(v) => Count {
             number: v as usize,
             next,
         },
-        Number::Not => Count { number: 0, next },
+        None => Count { number: 0, next },
     }
 }

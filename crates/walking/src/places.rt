@@ -2,7 +2,7 @@
 ghost use Rattle.std.specs.Prelude.{◌≡◌, ◌≤◌, ◌<◌, List, length, get_or, drop};
 ghost use Rattle.text.specs.Text.{Bytes};
 ghost use Rattle.names.specs.bridge.Names.{starts_of, sizes_of, names_in, name_in};
-ghost use Rattle.emit.specs.bridge.Emit.{em, puts};
+ghost use Rattle.emit.specs.bridge.Writer.{Wrote, WroteBy};
 ghost use Rattle.naming.specs.bridge.New.{spelled};
 ghost use Rattle.scoping.specs.bridge.Sets.{Once};
 ghost use Rattle.lines.specs.bridge.Spotted.{mark_at, spots_of};
@@ -10,7 +10,7 @@ ghost use Rattle.walking.specs.bridge.Walk.{flagged};
 ghost use Rattle.walking.specs.bridge.Code.{renames, Inside, Marked, NextMarked};
 ghost use Rattle.walking.specs.bridge.Rewritten.{rewritten, flag_spots, Stands};
 
-use emit::put_all;
+use emit::Writer;
 use lines::fields::Spot;
 use names::{Entry, wide};
 use naming::numbers::put_name;
@@ -21,27 +21,26 @@ fn next_renamed(spots: &[Spot], i: usize, k: usize) -> usize
     requires { (k ≤ length spots.now) × (i ≤ k) }
     ensures { NextMarked spots.now i k result }
 {
-    let mut j = i;
-    while j < k {
+    for j in i..k {
         let s = spots[j];
         if s[2] == 4 {
             return j;
         }
-        j += 1;
     }
     k
 }
 
 // What the name at an entry becomes: a piece of the pool, or a generated name where there is no pool.
-fn put_new(pool: &[u8], news: &[Entry; 1024], entry: usize, out: &mut [u8], at: usize) -> usize
+fn put_new(pool: &[u8], news: &[Entry; 1024], entry: usize, w: &mut Writer)
     requires { entry < 1024 }
-    ensures { em result out.new ≡ puts (spelled pool.now (get_or (starts_of news.now) entry 0) (get_or (sizes_of news.now) entry 0)) (em at out.old) }
+    ensures { Wrote w.old w.new (spelled pool.now (get_or (starts_of news.now) entry 0) (get_or (sizes_of news.now) entry 0)) }
 {
     let e = news[entry];
     if pool.len() == 0 {
-        return put_name(out, at, e);
+        put_name(w, e);
+        return;
     }
-    put_all(out, at, piece(pool, wide(e[0]), wide(e[1])))
+    w.put_all(piece(pool, wide(e[0]), wide(e[1])));
 }
 
 // How many bytes the name at an entry has.
@@ -65,25 +64,23 @@ pub fn put_renamed(
     n: usize,
     pool: &[u8],
     news: &[Entry; 1024],
-    out: &mut [u8],
-    at: usize,
-) -> usize
+    w: &mut Writer,
+)
     requires { (n ≤ 1024) × Once (names_in text.now table.now n) × Inside n spots.now k × Marked (sizes_of news.now) spots.now k × (i ≤ k) × Stands text.now from to (drop i (spots_of (names_in text.now table.now n) spots.now k)) }
-    ensures { em result out.new ≡ rewritten (renames text.now (starts_of table.now) (sizes_of table.now) n pool.now (starts_of news.now) (sizes_of news.now)) text.now (drop i (spots_of (names_in text.now table.now n) spots.now k)) from to (em at out.old) }
+    ensures { WroteBy w.old w.new (rewritten (renames text.now (starts_of table.now) (sizes_of table.now) n pool.now (starts_of news.now) (sizes_of news.now)) text.now (drop i (spots_of (names_in text.now table.now n) spots.now k)) from to) }
 {
     let mut done = from;
-    let mut put = at;
     let mut j = next_renamed(spots, i, k);
     while j < k {
         let s = spots[j];
         let start = wide(s[0]);
         let entry = wide(s[1]);
-        let copied = put_all(out, put, &text[done..start]);
-        put = put_new(pool, news, entry, out, copied);
+        w.put_all(&text[done..start]);
+        put_new(pool, news, entry, w);
         done = start + name_size(text, table, entry);
         j = next_renamed(spots, j + 1, k);
     }
-    put_all(out, put, &text[done..to])
+    w.put_all(&text[done..to]);
 }
 
 // Notes the name at an entry of the table as standing visible or covered.
@@ -105,10 +102,8 @@ pub fn note_places(spots: &[Spot], k: usize, flags: &mut [u8; 2048])
     requires { Inside 1024 spots.now k }
     ensures { (ns : List Bytes) → Once ns → Inside (length ns) spots.now k → flags.new ≡ flag_spots ns (spots_of ns spots.now k) flags.old }
 {
-    let mut j = 0;
-    while j < k {
+    for j in 0..k {
         let s = spots[j];
         note(flags, s[2], wide(s[1]));
-        j += 1;
     }
 }

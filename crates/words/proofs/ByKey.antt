@@ -12,10 +12,9 @@ use Rattle.text.specs.Text.{Bytes, same}
 use Rattle.text.proofs.Basics.{and_left, and_right, same-eq}
 use Rattle.algebra.specs.Valid.{mem}
 use Rattle.algebra.specs.bridge.Table.{Row, Entry, Sort, triples, columns, patterns, expressions, rows, orders, aggregates, heads, sets, positions, value_rows, parts, rows_of, table, row_in, row_for}
-use Rattle.words.specs.declared.Found.{Found}
-use Rattle.words.specs.declared.Found.TheVariants.{Is, None}
-use Rattle.words.specs.bridge.Code.{sort_at, row_of, row_found, flag_of, Flags}
+use Rattle.words.specs.bridge.Code.{Found, sort_at, row_of, row_found, flag_of, Flags}
 use Rattle.words.specs.bridge.Key.{key_of, Small, Told, Keyed, key_in, row_by, flag_by, Flagged}
+use Rattle.std.specs.Prelude.{Some, None}
 
 -- ---- every word of the table is one that a key tells
 
@@ -92,7 +91,7 @@ flag_is (e ∷ es) f k r h t q = go (eqb k (key_of 0 e.word)) refl (λ w. flag_i
     go false p on w = on w
 
 pub flag-by-key : (s : ℕ) (f : Bytes) (k : ℕ) (r : Found) → Keyed f k → row_found r ≡ row_by k (rows_of (sort_at s)) → Flagged k (rows_of (sort_at s)) r → Flags f r
-flag-by-key s f k (Is c) t w q = q ∙ flag_is (rows_of (sort_at s)) f k (row_of c) (words-tell (sort_at s)) t w
+flag-by-key s f k (Some c) t w q = q ∙ flag_is (rows_of (sort_at s)) f k (row_of c) (words-tell (sort_at s)) t w
 flag-by-key s f k None t w q = tt
 
 -- ---- numbers that are told apart

@@ -11,12 +11,11 @@ use borrow.Author.Tests.{eqb-true, eqb-false, eq-eqb, ne_eqb}
 use Rattle.text.specs.Text.{Bytes}
 use Rattle.text.proofs.Basics.{and_left, and_right}
 use Rattle.algebra.specs.bridge.Table.{Entry, rows_of, table, row_in, row_for}
-use Rattle.words.specs.declared.Found.{Found}
-use Rattle.words.specs.declared.Found.TheVariants.{Is, None}
-use Rattle.words.specs.bridge.Code.{sort_at, found, row_found, Tidy, fits_in, sorts_in, in_tree, flag_of, Flags}
+use Rattle.words.specs.bridge.Code.{Found, sort_at, found, row_found, Tidy, fits_in, sorts_in, in_tree, flag_of, Flags}
 use Rattle.words.specs.bridge.Key.{key_of, Keyed, row_by, flag_by, Flagged}
 use Rattle.words.specs.bridge.Words.{code_at, code_by, first_of, words_of, Saying, said, told, flag_found, is_tidy, all_tidy, tidy_sorts, Worded}
 use Rattle.words.proofs.ByKey.{row-by-key, row-by-any, flag-by-key}
+use Rattle.std.specs.Prelude.{Some, None}
 
 -- a row as a number says what these words say of a key
 abbrev Says : List Entry → ℕ → ℕ → Type 0
@@ -69,16 +68,16 @@ step_end k to i ws l h =
 -- ---- what is found is what the table of algebra has
 
 flag-of : (f : Found) (k : ℕ) (es : List Entry) → flag_found f ≡ flag_by k es → Flagged k es f
-flag-of (Is c) k es e = e
+flag-of (Some c) k es e = e
 flag-of None k es e = tt
 
 flag-past : (f : Found) (k : ℕ) (x : Entry) (xs : List Entry) → eqb k (key_of 0 x.word) ≡ false → Flagged k xs f → Flagged k (x ∷ xs) f
 unfolding flag_by
-flag-past (Is c) k x xs o h = rw o h
+flag-past (Some c) k x xs o h = rw o h
 flag-past None k x xs o h = tt
 
 tidy_of : (s : ℕ) (f : Found) → is_tidy s f ≡ true → Tidy s f
-tidy_of s (Is c) t =
+tidy_of s (Some c) t =
     let r = and_right (fits_in 3 c.fields) (sorts_in 11 3 c.below && in_tree s c) t in (
       and_left (fits_in 3 c.fields) (sorts_in 11 3 c.below && in_tree s c) t,
       and_left (sorts_in 11 3 c.below) (in_tree s c) r,

@@ -22,12 +22,6 @@ pub struct Row {
     pub below: u64,
 }
 
-#[derive(Clone, Copy)]
-pub enum Found {
-    Is(Row),
-    None,
-}
-
 // The domains of values.
 const PLAIN_STRING: [u8; 11] = *b"PlainString";
 
@@ -175,12 +169,10 @@ fn extra_at(i: usize) -> u8
 pub fn extra_kind(f: &[u8]) -> u8
     ensures { extra_found result ≡ extra_of f.now }
 {
-    let mut i = 0;
-    while i < 16 {
+    for i in 0..16 {
         if is_domain(f, i) {
             return extra_at(i);
         }
-        i += 1;
     }
     0
 }

@@ -7,7 +7,7 @@ ghost use Rattle.words.specs.bridge.Key.{Keyed};
 ghost use Rattle.words.specs.bridge.Words.{code_at, code_by, first_of, Worded};
 
 use crate::codes::*;
-use crate::{Found, Row, keys};
+use crate::{Row, keys};
 
 // A word's key and its row.
 pub type WordRow = [u64; 2];
@@ -105,13 +105,11 @@ fn word_in(words: &[WordRow; 56], from: usize, to: usize, key: u64) -> usize
     requires { (to ≤ 56) × Worded words.now }
     ensures { (result ≤ 56) × (code_at words.now result ≡ code_by key (take (to - from) (drop from words.now))) }
 {
-    let mut i = from;
-    while i < to {
+    for i in from..to {
         let w = words[i];
         if w[0] == key {
             return i;
         }
-        i += 1;
     }
     56
 }
@@ -137,18 +135,18 @@ pub fn any_word(words: &[WordRow; 56], key: u64) -> usize
 }
 
 // The row of the word with this number among those of a list; none past its end.
-fn row_in(words: &[WordRow], number: usize) -> Found
+fn row_in(words: &[WordRow], number: usize) -> Option<Row>
     ensures { result ≡ found (code_at words.now number) }
 {
     if words.len() <= number {
-        return Found::None;
+        return None;
     }
     let w = words[number];
     let code = w[1];
     if code == 0 {
-        return Found::None;
+        return None;
     }
-    Found::Is(Row {
+    Some(Row {
         fields: code % 0x100_0000,
         behind: (code / 0x100_0000 % 16) as u8,
         flag: (code / 0x1000_0000 % 16) as u8,
@@ -157,7 +155,7 @@ fn row_in(words: &[WordRow], number: usize) -> Found
 }
 
 // The row of the word with this number.
-pub fn row_at(words: &[WordRow; 56], number: usize) -> Found
+pub fn row_at(words: &[WordRow; 56], number: usize) -> Option<Row>
     ensures { result ≡ found (code_at words.now number) }
 {
     row_in(words, number)

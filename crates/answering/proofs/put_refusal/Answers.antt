@@ -1,8 +1,12 @@
 -- `answering::put_refusal` meets its contract. Assumes nothing.
+use Rattle.std.proofs.Common.{rules}
 use native.Mathlib.Omega.{arith}
-use Rattle.answering.proofs.Printed.{line-front}
+use Rattle.emit.proofs.Writing.{wrote-then, wrote-as, wrote-from}
+use Rattle.answering.proofs.Printed.{line-is, front}
 use Rattle.answering.proofs.put_refusal.Goals as goal
 
 pub returns : goal.returns
 returns c =
-    line-front _ _ _ _ _ _ _ _ c.put_all-a.ensures c.put_decimal-b.ensures c.put.ensures (let g = c.well_formed in omega (arith, g))
+    let g = c.well_formed in
+    let e = wrote-from (wrote-as (line-is c.args.number) (wrote-then (wrote-then c.put_all.ensures c.put_decimal.ensures) c.put.ensures)) c.new-w.ensures.starts in
+    front _ _ c.args.out.now _ (search rules) (omega (arith, g))

@@ -1,5 +1,5 @@
 -- What the code finds in a list of pairs that was checked. Assumes nothing.
-use Rattle.std.specs.Prelude.{ℕ, zero, suc, ◌≤◌, ◌<◌, ◌≡◌, List, [], ◌∷◌, ◌++◌, map, Bool, true, false, cond, length, get_or, take, drop, ltb}
+use Rattle.std.specs.Prelude.{Option, ℕ, zero, suc, ◌≤◌, ◌<◌, ◌≡◌, List, [], ◌∷◌, ◌++◌, map, Bool, true, false, cond, length, get_or, take, drop, ltb, Some, None}
 use Rattle.text.specs.Text.{Bytes, lines_of, lines_from}
 use Rattle.algebra.specs.Query.{Pair}
 use Rattle.algebra.specs.Layout.{put_pairs}
@@ -7,8 +7,6 @@ use Rattle.algebra.specs.Tally.{bounds}
 use Rattle.scoping.specs.Sets.{all}
 use Rattle.merging.specs.Request.{position}
 use Rattle.merging.specs.Names.{place_in}
-use Rattle.columns.specs.declared.list.Positions.{Positions}
-use Rattle.columns.specs.declared.list.Positions.TheVariants.{Outside, Are}
 
 -- the text is a list of these pairs, within the bounds
 pub record Listed (s : Bytes) (xs : List Pair) : Type 0 where
@@ -26,10 +24,14 @@ pub record Kept (s : Bytes) (xs : List Pair) (second : Bool) (at lines : List �
   pub positions : take m at ≡ positions_in second xs
   pub places : (k : ℕ) → k < m → lines_from s (get_or lines k 0) ≡ put_pairs (drop k xs) []
 
+-- how many positions there are, if none is outside
+abbrev pub Positions : Type 0
+Positions = Option ℕ
+
 -- all are below c, and kept; or one is not
 unfoldable pub Found : Bytes → List Pair → Bool → ℕ → List ℕ → List ℕ → Positions → Type 0
-Found s xs second c at lines Outside = all (λ i. ltb i c) (positions_in second xs) ≡ false
-Found s xs second c at lines (Are m) = (all (λ i. ltb i c) (positions_in second xs) ≡ true) × Kept s xs second at lines m
+Found s xs second c at lines None = all (λ i. ltb i c) (positions_in second xs) ≡ false
+Found s xs second c at lines (Some m) = (all (λ i. ltb i c) (positions_in second xs) ≡ true) × Kept s xs second at lines m
 
 -- an array has the place of each position among some, and a number from their number on for any other
 pub record Ordered (ps order : List ℕ) : Type 0 where

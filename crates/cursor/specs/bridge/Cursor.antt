@@ -1,17 +1,24 @@
 -- What the cursor's steps find. Assumes nothing.
-use Rattle.std.specs.Prelude.{ℕ, ◌+◌, ◌-◌, ◌<◌, ◌≡◌, List, [], cond, leb}
+use Rattle.std.specs.Prelude.{Option, ℕ, ◌+◌, ◌-◌, ◌<◌, ◌≡◌, List, [], cond, leb, Some, None}
 use Rattle.text.specs.Text.{Bytes, split, part, First}
 use Rattle.cursor.specs.declared.Cursor.{Cursor}
 use Rattle.cursor.specs.declared.Field.{Field}
-use Rattle.cursor.specs.declared.Field.TheVariants.{At, None}
 
 -- the fields of the line that ends at `end` which stand from `at` on
 unfoldable pub left : Bytes → ℕ → ℕ → List Bytes
 left s at end = cond (leb at end) (split 9 (part at end s)) []
 
+-- what a step to the next field found
+abbrev pub Reading : Type 0
+Reading = Option Field
+
+-- a field with its end and the cursor behind it
+abbrev pub field : ℕ → Cursor → Field
+field e d = record { end = e; behind = d }
+
 -- a field up to its tab or the line's end, and the cursor behind it; or none is left
-unfoldable pub Reads : Bytes → Cursor → Field → Type 0
-Reads s c (At e d) = First 9 s c.at c.end e × (d.at ≡ e + 1) × (d.end ≡ c.end) × (d.awaited ≡ c.awaited)
+unfoldable pub Reads : Bytes → Cursor → Reading → Type 0
+Reads s c (Some f) = First 9 s c.at c.end f.end × (f.behind.at ≡ f.end + 1) × (f.behind.end ≡ c.end) × (f.behind.awaited ≡ c.awaited)
 Reads s c None = c.end < c.at
 
 -- the cursor at another place

@@ -1,18 +1,6 @@
 -- `emit::copy` meets its contract. Assumes nothing.
-use native.Mathlib.Nat.{add-zero}
-use native.Mathlib.Omega.{arith}
-use mathlib.Core.Path.{refl, sym, ◌∙◌}
-use Rattle.emit.proofs.Laws.{sets-next, sets-done}
-use lib.ListN.{length-set}
+use Rattle.emit.proofs.Laws.{sets-mid}
 use Rattle.emit.proofs.copy.Goals as goal
 
-pub loop-i-init : goal.loop-i-init
-loop-i-init c = (refl, rw add-zero)
-
-pub loop-i-preserved : goal.loop-i-preserved
-loop-i-preserved c =
-    (simp length-set c.loop-i.invariant.0, sets-next c.args.piece.now c.args.at c.loop-i.i c.loop-i.out (omega arith) ∙ c.loop-i.invariant.1)
-
 pub returns : goal.returns
-returns c =
-    sym (sets-done c.args.piece.now c.args.at c.loop-i.i c.loop-i.out (omega arith)) ∙ c.loop-i.invariant.1
+returns c = sets-mid _ _ _ _ c.requires c.copy_from_slice.ensures.after

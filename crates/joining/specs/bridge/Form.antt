@@ -1,5 +1,5 @@
 -- The two forms of a merge's texts, trees (false) or queries (true), and its two ways, by a join (false) or by a minus (true): one reading, one outcome, and what the code knows of a text of each. Assumes nothing.
-use Rattle.std.specs.Prelude.{ℕ, ◌≤◌, ◌≡◌, List, [], ◌++◌, Bool, true, false, cond, ltb, length, take}
+use Rattle.std.specs.Prelude.{ℕ, ◌*◌, ◌/◌, ◌≤◌, ◌≡◌, List, [], ◌++◌, Bool, true, false, cond, ltb, length, take, Ok, Err}
 use Rattle.text.specs.Text.{Bytes, ended}
 use Rattle.algebra.specs.Tree.{Pattern}
 use Rattle.algebra.specs.Query.{Query}
@@ -7,8 +7,7 @@ use Rattle.algebra.specs.Layout.{layout}
 use Rattle.algebra.specs.Reader.{Outcome as Reading, reads, refuses, malformed, over_bound}
 use Rattle.algebra.specs.Given.{empty_text, read_given_tree, read_given_query}
 use Rattle.answers.specs.Outcome.{Outcome, written, then, refused_unless}
-use Rattle.checking.specs.declared.check.Noting.{Noting}
-use Rattle.checking.specs.declared.check.Noting.TheVariants.{Good, Malformed, OverBound}
+use Rattle.checking.specs.bridge.Walks.{Noting}
 use Rattle.heads.specs.bridge.TreeAt.{head_line, HeadOf, Starts}
 use Rattle.descending.specs.bridge.Renamed.{Shaped}
 use Rattle.merging.specs.Request.{made, read_constants}
@@ -17,6 +16,7 @@ use Rattle.merging.specs.Push.{push_constants}
 use Rattle.merging.specs.bridge.Combined.{combine_trees}
 use Rattle.sides.specs.bridge.Side.{Stands}
 use Rattle.projects.specs.bridge.Joining.{HasRoom, HasNodes, HalfRoom, HalfNodes}
+use Rattle.algebra.specs.declared.Fault.TheVariants.{Malformed, OverBound}
 
 -- a tree without a head, as a query
 abbrev pub headless : Pattern → Query
@@ -97,6 +97,11 @@ pub record HalvesFor (s : Bytes) (spots nodes : List (List ℕ)) : Type 0 where
   pub spots_empty : HalfRoom empty_text spots
   pub nodes_empty : HalfNodes empty_text nodes
 
+-- half of so many nodes and spots has room for the lines and the variables of a text
+pub record RoomInHalf (s : Bytes) (nodes spots : ℕ) : Type 0 where
+  pub spots_in : length s ≤ 16384 → length s ≤ 3 * (spots / 2)
+  pub nodes_in : length s ≤ 16384 → (m : ℕ) → 3 * m ≤ length s → m ≤ 2048 → m ≤ nodes / 2
+
 -- a tree whose names, variables and lines were noted: it stands in its text where there was room for its variables; and for its lines
 pub record NotedTree (s : Bytes) (at : ℕ) (a l : List ℕ) (before after words b : List (List ℕ)) (n k m : ℕ) (p : Pattern) : Type 0 where
   pub few : HasRoom s before → k ≤ length after
@@ -114,6 +119,6 @@ pub record GoodForm (query : Bool) (s : Bytes) (from : ℕ) (a l : List ℕ) (be
 -- the check of a text
 unfoldable pub NotedForm : Bool → Bytes → ℕ → List ℕ → List ℕ → List (List ℕ) → List (List ℕ) → List (List ℕ) → List (List ℕ) → Noting → Type 0
 unfolding read_given_tree read_given_query
-NotedForm query s from a l before after words b (Good n k m) = GoodForm query s from a l before after words b n k m
-NotedForm query s from a l before after words b Malformed = read_form query s ≡ refuses malformed
-NotedForm query s from a l before after words b OverBound = read_form query s ≡ refuses over_bound
+NotedForm query s from a l before after words b (Ok c) = GoodForm query s from a l before after words b c.names c.spots c.nodes
+NotedForm query s from a l before after words b (Err Malformed) = read_form query s ≡ refuses malformed
+NotedForm query s from a l before after words b (Err OverBound) = read_form query s ≡ refuses over_bound

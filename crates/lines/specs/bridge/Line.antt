@@ -1,5 +1,5 @@
 -- What one line says, field by field, as the code takes it: the line machine's reading of a line without the rest of the text. Assumes nothing.
-use Rattle.std.specs.Prelude.{ℕ, zero, suc, ◌+◌, List, [], ◌∷◌, ◌++◌, cond, ◌&&◌, length}
+use Rattle.std.specs.Prelude.{ℕ, zero, suc, List, [], ◌∷◌, ◌++◌, cond, ◌&&◌, length}
 use Rattle.std.proofs.Math.Option.{Option, none, some}
 use Rattle.text.specs.Text.{Bytes}
 use Rattle.text.specs.Field.{variable, lexical, number_of, fits, all_fit}

@@ -1,5 +1,5 @@
 -- What the code has noted at a place of the text, and what a step along a line adds. Assumes nothing.
-use Rattle.std.specs.Prelude.{ℕ, ◌+◌, ◌*◌, ◌≤◌, ◌<◌, ◌≡◌, List, [], ◌∷◌, ◌++◌, cond, length, set, eqb}
+use Rattle.std.specs.Prelude.{ℕ, ◌+◌, ◌*◌, ◌≤◌, ◌<◌, ◌≡◌, List, [], ◌∷◌, ◌++◌, cond, length, set, eqb, Ok, Err}
 use Rattle.text.specs.Text.{Bytes, Line, split, part}
 use Rattle.text.specs.Field.{is_var}
 use Rattle.algebra.specs.bridge.Table.{Slot, Sort}
@@ -10,10 +10,10 @@ use Rattle.cursor.specs.declared.Cursor.{Cursor}
 use Rattle.words.specs.bridge.Code.{sort_at, row_of}
 use Rattle.names.specs.bridge.Names.{listing, starts_of, sizes_of}
 use Rattle.lines.specs.declared.line.Asked.{Asked}
-use Rattle.lines.specs.declared.line.Line.{Line as Read}
-use Rattle.lines.specs.declared.line.Line.TheVariants.{Asks, Malformed, OverBound}
+use Rattle.lines.specs.bridge.Says.{Line as Read}
 use Rattle.lines.specs.bridge.Spotted.{mark_at, Spotted}
 use Rattle.lines.specs.bridge.Steps.{left_at}
+use Rattle.algebra.specs.declared.Fault.TheVariants.{Malformed, OverBound}
 
 -- the table of names, and the spots
 pub record Store : Type 0 where
@@ -61,11 +61,11 @@ line_node sort k q = cond (noted (sort_at sort)) (node k (groups_below (row_of q
 
 -- a good line up to c.end: its spots were noted, and what it asks for is still to be walked, once the line is noted itself
 unfoldable pub LineNotes : Bytes → List ℕ → List ℕ → ℕ → List (List ℕ) → ℕ → List ℕ → List ℕ → List (List ℕ) → Cursor → ℕ → ℕ → Read → Type 0
-LineNotes s a l n p k a' l' p' c sort mark (Asks q) =
+LineNotes s a l n p k a' l' p' c sort mark (Ok q) =
     (xs : List Spot) → Keeps s (store a l n p k) c.at xs →
     (ys : List Spot) × Keeps s (store a' l' q.names p' q.spots) (c.end + 1) ys
     × ((trees : Sort → Mark → State Trace → State Trace) (ls : List Line) (ns : List Node)
     → beneath spot_line trees (eqb q.row.flag 1) (mark_at mark) (row_of q.row).below (q.first ∷ q.second ∷ []) (state ls (trace (c.end + 1) ys (ns ++ line_node sort (length xs) q)))
     ≡ whole spot_line trees (sort_at sort) (mark_at mark) (split 9 (part c.at c.end s) ∷ ls) (trace c.at xs ns))
-LineNotes s a l n p k a' l' p' c sort mark Malformed = Unit {0}
-LineNotes s a l n p k a' l' p' c sort mark OverBound = Unit {0}
+LineNotes s a l n p k a' l' p' c sort mark (Err Malformed) = Unit {0}
+LineNotes s a l n p k a' l' p' c sort mark (Err OverBound) = Unit {0}

@@ -33,36 +33,36 @@ returns-in_default c =
 
 pub is_fresh-requires : goal.is_fresh-requires
 is_fresh-requires c =
-    let told = T.found _ _ _ _ _ _ _ c.loop-c.invariant.0 _ (ap at c.next_line-l.ensures.0) c.next_line-l.ensures.1 _ c.pair_at.ensures c.if-l-text.false _ _ c.in-At.is in let high = c.next_line-l.ensures.1.high in (told.0, omega arith, c.loop-c.invariant.0.room)
+    let told = T.found _ _ _ _ _ _ _ c.loop-c.invariant.0 _ (ap at c.next_line-l.ensures.0) c.next_line-l.ensures.1 _ c.pair_at.ensures c.if-l-text.false _ _ c.in-Some.is in let high = c.next_line-l.ensures.1.high in (told.0, omega arith, c.loop-c.invariant.0.room)
 
 pub shape_of-keys-then-not-is_fresh : goal.shape_of-keys-then-not-is_fresh
 shape_of-keys-then-not-is_fresh c = c.loop-c.invariant.1
 
 pub returns-then-not-is_fresh : goal.returns-then-not-is_fresh
 returns-then-not-is_fresh c =
-    T.done-twice _ _ _ _ _ _ _ c.loop-c.invariant.0 _ (ap at c.next_line-l.ensures.0) c.next_line-l.ensures.1 _ c.pair_at.ensures c.if-l-text.false _ _ c.in-At.is _ c.is_fresh.ensures _ c.if-not-is_fresh.true-raw
+    T.done-twice _ _ _ _ _ _ _ c.loop-c.invariant.0 _ (ap at c.next_line-l.ensures.0) c.next_line-l.ensures.1 _ c.pair_at.ensures c.if-l-text.false _ _ c.in-Some.is _ c.is_fresh.ensures _ c.if-not-is_fresh.true-raw
 
 pub shape_of-keys-then-n-eq-ENTRIES : goal.shape_of-keys-then-n-eq-ENTRIES
 shape_of-keys-then-n-eq-ENTRIES c = c.loop-c.invariant.1
 
 pub returns-then-n-eq-ENTRIES : goal.returns-then-n-eq-ENTRIES
 returns-then-n-eq-ENTRIES c =
-    T.done-over _ _ _ _ _ _ _ c.loop-c.invariant.0 _ (ap at c.next_line-l.ensures.0) c.next_line-l.ensures.1 _ c.pair_at.ensures c.if-l-text.false _ _ c.in-At.is _ c.is_fresh.ensures c.if-not-is_fresh.false-raw _ (omega (arith, c.loop-c.invariant.0.most, c.if-n-eq-ENTRIES.true))
+    T.done-over _ _ _ _ _ _ _ c.loop-c.invariant.0 _ (ap at c.next_line-l.ensures.0) c.next_line-l.ensures.1 _ c.pair_at.ensures c.if-l-text.false _ _ c.in-Some.is _ c.is_fresh.ensures c.if-not-is_fresh.false-raw _ (omega (arith, c.loop-c.invariant.0.most, c.if-n-eq-ENTRIES.true))
 
 pub keep-requires : goal.keep-requires
 keep-requires c =
-    let told = T.found _ _ _ _ _ _ _ c.loop-c.invariant.0 _ (ap at c.next_line-l.ensures.0) c.next_line-l.ensures.1 _ c.pair_at.ensures c.if-l-text.false _ _ c.in-At.is in let high = c.next_line-l.ensures.1.high in (T.roomy _ _ _ _ _ _ _ c.loop-c.invariant.0 _ (ap at c.next_line-l.ensures.0) c.next_line-l.ensures.1 _ c.pair_at.ensures c.if-l-text.false _ _ c.in-At.is (omega (arith, c.loop-c.invariant.0.most, c.if-n-eq-ENTRIES.false)), told.0, told.1, omega (arith, c.if-text-gt16384.false))
+    let told = T.found _ _ _ _ _ _ _ c.loop-c.invariant.0 _ (ap at c.next_line-l.ensures.0) c.next_line-l.ensures.1 _ c.pair_at.ensures c.if-l-text.false _ _ c.in-Some.is in let high = c.next_line-l.ensures.1.high in (T.roomy _ _ _ _ _ _ _ c.loop-c.invariant.0 _ (ap at c.next_line-l.ensures.0) c.next_line-l.ensures.1 _ c.pair_at.ensures c.if-l-text.false _ _ c.in-Some.is (omega (arith, c.loop-c.invariant.0.most, c.if-n-eq-ENTRIES.false)), told.0, told.1, omega (arith, c.if-text-gt16384.false))
 
 pub overflow_add-n : goal.overflow_add-n
 overflow_add-n c = let most = c.loop-c.invariant.0.most in omega arith
 
 pub loop-c-smaller : goal.loop-c-smaller
 loop-c-smaller c =
-    let told = T.found _ _ _ _ _ _ _ c.loop-c.invariant.0 _ (ap at c.next_line-l.ensures.0) c.next_line-l.ensures.1 _ c.pair_at.ensures c.if-l-text.false _ _ c.in-At.is in let high = c.next_line-l.ensures.1.high in let low = c.next_line-l.ensures.1.low in omega (arith, c.loop-c-test.true)
+    let told = T.found _ _ _ _ _ _ _ c.loop-c.invariant.0 _ (ap at c.next_line-l.ensures.0) c.next_line-l.ensures.1 _ c.pair_at.ensures c.if-l-text.false _ _ c.in-Some.is in let high = c.next_line-l.ensures.1.high in let low = c.next_line-l.ensures.1.low in omega (arith, c.loop-c-test.true)
 
 pub loop-c-preserved : goal.loop-c-preserved
 loop-c-preserved c =
-    (T.going_next _ _ _ _ _ _ _ c.loop-c.invariant.0 _ (ap at c.next_line-l.ensures.0) c.next_line-l.ensures.1 _ c.pair_at.ensures c.if-l-text.false _ _ c.in-At.is _ c.is_fresh.ensures c.if-not-is_fresh.false-raw _ (omega (arith, c.loop-c.invariant.0.most, c.if-n-eq-ENTRIES.false)) c.keep.ensures, c.keep.auto.keys ∙ c.loop-c.invariant.1)
+    (T.going_next _ _ _ _ _ _ _ c.loop-c.invariant.0 _ (ap at c.next_line-l.ensures.0) c.next_line-l.ensures.1 _ c.pair_at.ensures c.if-l-text.false _ _ c.in-Some.is _ c.is_fresh.ensures c.if-not-is_fresh.false-raw _ (omega (arith, c.loop-c.invariant.0.most, c.if-n-eq-ENTRIES.false)) c.keep.ensures, c.keep.auto.keys ∙ c.loop-c.invariant.1)
 
 pub shape_of-keys : goal.shape_of-keys
 shape_of-keys c = c.loop-c.invariant.1

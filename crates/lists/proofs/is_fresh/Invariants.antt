@@ -1,12 +1,10 @@
 -- What the loops of `is_fresh` keep. Assumes nothing.
-use Prim.Native.Nat.{◌-◌}
+use mathlib.Core.List.{map}
+use lib.ListN.{take}
 use Rattle.text.specs.Text.{part}
-use Rattle.lists.specs.bridge.Pairs.{pairs_in}
+use Rattle.lists.specs.bridge.Pairs.{pair_at}
 use Rattle.lists.proofs.Keys as K
 use Rattle.lists.proofs.is_fresh.Given as goal
 
-abbrev pub invariant-loop-i : goal.invariant-loop-i
-invariant-loop-i l = K.Left (part l.from l.to l.text) (pairs_in l.text l.keys l.n) l.i
-
-abbrev pub decreases-loop-i : goal.decreases-loop-i
-decreases-loop-i l = l.n - l.i
+abbrev pub invariant-loop-e : goal.invariant-loop-e
+invariant-loop-e l = K.Left (part l.from l.to l.text) (map (pair_at l.text) (take l.n l.keys)) l.e-index

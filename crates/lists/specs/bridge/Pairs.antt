@@ -1,5 +1,5 @@
 -- What the checks of the lists of pairs promise of a text, and what their steps find on a line. Assumes nothing.
-use Rattle.std.specs.Prelude.{ℕ, ◌+◌, ◌*◌, ◌-◌, ◌≤◌, ◌<◌, ◌≡◌, List, [], ◌∷◌, map, Bool, true, false, cond, not, ◌&&◌, length, get_or, take}
+use Rattle.std.specs.Prelude.{ℕ, ◌+◌, ◌*◌, ◌-◌, ◌≤◌, ◌<◌, ◌≡◌, List, [], ◌∷◌, map, Bool, true, false, cond, not, ◌&&◌, length, get_or, take, Some, None, Ok, Err}
 use Rattle.text.specs.Text.{Bytes, Line, part, piece}
 use Rattle.text.specs.Field.{Kind, is_kind}
 use Rattle.text.specs.bridge.Code.{kind_at}
@@ -7,13 +7,11 @@ use Rattle.algebra.specs.Query.{PairList, Pair, first_kind, second_kind, unique}
 use Rattle.algebra.specs.Valid.{mem}
 use Rattle.algebra.specs.Reader.{reads, refuses, malformed, over_bound}
 use Rattle.algebra.specs.Texts.{read_pairs}
-use Rattle.algebra.specs.declared.Answer.{Answer}
-use Rattle.algebra.specs.declared.Answer.TheVariants.{Good, Malformed, OverBound}
+use Rattle.algebra.specs.bridge.Answers.{Answer}
 use Rattle.algebra.specs.Tally.{bounds}
-use Rattle.cursor.specs.bridge.Cursor.{left}
+use Rattle.cursor.specs.bridge.Cursor.{left, Reading, field}
 use Rattle.cursor.specs.declared.Cursor.{Cursor}
-use Rattle.cursor.specs.declared.Field.{Field}
-use Rattle.cursor.specs.declared.Field.TheVariants.{At, None}
+use Rattle.algebra.specs.declared.Fault.TheVariants.{Malformed, OverBound}
 
 -- the pair that an entry tells: the start and the size of its first field, then those of its second
 abbrev pub pair_at : Bytes → List ℕ → Pair
@@ -39,9 +37,9 @@ pub record PairsTold (κ : PairList) (s : Bytes) (keys : List (List ℕ)) (n : �
 
 -- entries tell the pairs of a good text; else the answer is its refusal
 unfoldable pub PairsChecked : PairList → Bytes → List (List ℕ) → Answer → Type 0
-PairsChecked κ s keys (Good n) = PairsTold κ s keys n
-PairsChecked κ s keys Malformed = read_pairs κ s ≡ refuses malformed
-PairsChecked κ s keys OverBound = read_pairs κ s ≡ refuses over_bound
+PairsChecked κ s keys (Ok n) = PairsTold κ s keys n
+PairsChecked κ s keys (Err Malformed) = read_pairs κ s ≡ refuses malformed
+PairsChecked κ s keys (Err OverBound) = read_pairs κ s ≡ refuses over_bound
 
 -- the list has fields of the kinds with these numbers, and its first fields may not be repeated, or may
 pub record Stands (κ : PairList) (first second : ℕ) (apart : Bool) : Type 0 where
@@ -57,8 +55,8 @@ is_pair k j (f ∷ g ∷ []) = is_kind k f && is_kind j g
 is_pair k j (f ∷ g ∷ h ∷ fs) = false
 
 -- such a line: the end of its first field, and the cursor behind it; or it is none
-unfoldable pub Finds : Bytes → Kind → Kind → Cursor → Field → Type 0
-Finds s k j c (At e d) = (c.at ≤ e) × (e < c.end) × (d.at ≡ c.end + 1) × (left s c.at c.end ≡ part c.at e s ∷ part (e + 1) c.end s ∷ []) × (is_pair k j (left s c.at c.end) ≡ true)
+unfoldable pub Finds : Bytes → Kind → Kind → Cursor → Reading → Type 0
+Finds s k j c (Some f) = (c.at ≤ f.end) × (f.end < c.end) × (f.behind.at ≡ c.end + 1) × (left s c.at c.end ≡ part c.at f.end s ∷ part (f.end + 1) c.end s ∷ []) × (is_pair k j (left s c.at c.end) ≡ true)
 Finds s k j c None = is_pair k j (left s c.at c.end) ≡ false
 
 -- the first fields, in order

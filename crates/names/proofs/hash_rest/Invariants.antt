@@ -7,6 +7,3 @@ use Rattle.names.proofs.hash_rest.Given as goal
 
 abbrev pub invariant-loop-i : goal.invariant-loop-i
 invariant-loop-i l = (l.i ≤ length l.f) × (l.h < 4294967296) × (hash_of l.hash (drop l.from l.f) ≡ hash_of l.h (drop l.i l.f))
-
-abbrev pub decreases-loop-i : goal.decreases-loop-i
-decreases-loop-i l = length l.f - l.i

@@ -1,6 +1,6 @@
 -- `names::scan` meets its contract. Assumes nothing.
 use borrow.Author.Rules.{rules}
-use mathlib.Core.Path.{sym, ◌∙◌}
+use mathlib.Core.Path.{◌≡◌, sym, ◌∙◌}
 use native.Mathlib.Omega.{arith}
 use Rattle.names.proofs.Laws as L
 use mathlib.Core.Bool.{false}
@@ -16,4 +16,4 @@ pub loop-i-preserved : goal.loop-i-preserved
 loop-i-preserved c = (search rules, L.scan-more _ _ _ _ _ _ c.loop-i.invariant.1 c.is_name.ensures c.if-is_name.false)
 
 pub returns : goal.returns
-returns c = (search rules, λ h. absurd (omega arith), λ e. L.all_seen _ _ _ _ _ _ c.loop-i.invariant.1 e)
+returns c = (search rules, λ h. absurd (omega arith), λ e. L.all_seen _ _ _ _ _ _ c.loop-i.invariant.1 (let k : c.loop-i.i ≡ c.args.n = omega (arith, c.loop-i.invariant.0, c.loop-i-test.false) in k))

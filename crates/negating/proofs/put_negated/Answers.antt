@@ -1,6 +1,7 @@
 -- `negating::put_negated` meets its contract. Assumes nothing.
 use mathlib.Core.Path.{sym}
 use lib.Seq.{length-take-le}
+use Rattle.emit.proofs.Writing.{wrote-then, wrote-as}
 use Rattle.negating.proofs.Negated as Neg
 use Rattle.negating.proofs.put_negated.Goals as goal
 
@@ -9,4 +10,4 @@ slice_bounds-put_all-end c = sym (length-take-le _ _ c.requires)
 
 pub returns : goal.returns
 returns c =
-    Neg.negated-put _ _ _ _ _ _ _ _ _ _ _ _ c.put_all-a.ensures c.put_all-b.ensures c.put_all-c.ensures c.put_all.ensures
+    wrote-as (Neg.negated-put _ _ _) (wrote-then (wrote-then (wrote-then c.put_all.ensures c.put_all-2.ensures) c.put_all-3.ensures) c.put_all-4.ensures)

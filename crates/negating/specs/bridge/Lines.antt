@@ -1,11 +1,10 @@
 -- The way down to the outermost projection, line by line, and what the code says of it; proofs/TreeLines says what that is of a tree. Assumes nothing.
-use Rattle.std.specs.Prelude.{ℕ, ◌≤◌, ◌<◌, ◌≡◌, Bool, cond, List, [], ◌∷◌, length, get_or}
+use Rattle.std.specs.Prelude.{Option as Maybe, ℕ, ◌≤◌, ◌<◌, ◌≡◌, Bool, cond, List, [], ◌∷◌, length, get_or, Some, None}
 use Rattle.std.proofs.Math.Option.{Option, none, some}
 use Rattle.text.specs.Text.{Bytes, Line, same, lines_from}
 use Rattle.text.specs.Word.{bytes}
 use Rattle.algebra.specs.Valid.{mem}
 use Rattle.negating.specs.declared.Outermost.{Outermost}
-use Rattle.negating.specs.declared.Outermost.TheVariants.{At, None}
 
 abbrev pub word : Line → Bytes
 word l = get_or l 0 []
@@ -33,6 +32,10 @@ pub record Projects (s : Bytes) (from line inner : ℕ) : Type 0 where
   pub here : lines_from s line ≡ (bytes "project" ∷ columns) ∷ lines_from s inner
   pub found : from_project (lines_from s from) ≡ some (lines_from s line)
 
-abbrev pub Finds : Bytes → ℕ → Outermost → Type 0
-Finds s from (At line inner) = Projects s from line inner
+-- what the search for it finds
+abbrev pub Search : Type 0
+Search = Maybe Outermost
+
+abbrev pub Finds : Bytes → ℕ → Search → Type 0
+Finds s from (Some o) = Projects s from o.line o.inner
 Finds s from None = from_project (lines_from s from) ≡ none

@@ -1,14 +1,12 @@
 -- What the calls that join know once their texts are checked, and what is to come of it. Assumes nothing.
-use Rattle.std.specs.Prelude.{ℕ, ◌*◌, ◌-◌, ◌/◌, ◌≤◌, ◌≡◌, List, [], ◌++◌, Bool, length, get_or, take, drop}
+use Rattle.std.specs.Prelude.{ℕ, ◌*◌, ◌-◌, ◌/◌, ◌≤◌, ◌≡◌, List, [], ◌++◌, Bool, length, get_or, take, drop, Ok, Err}
 use Rattle.text.specs.Text.{Bytes}
 use Rattle.algebra.specs.Tree.{Pattern}
 use Rattle.algebra.specs.Query.{Query, Pair}
 use Rattle.algebra.specs.Layout.{layout}
 use Rattle.algebra.specs.Reader.{reads}
 use Rattle.algebra.specs.Texts.{read_tree, read_query}
-use Rattle.algebra.specs.declared.Answer.{Answer as Check}
-use Rattle.algebra.specs.declared.Answer.TheVariants.{Good, Malformed, OverBound}
-use Rattle.algebra.specs.Tally.{bounds}
+use Rattle.algebra.specs.bridge.Answers.{Answer as Check}
 use Rattle.answers.specs.Outcome.{Outcome, refused, written, then, refused_unless}
 use Rattle.names.specs.bridge.Names.{listing, starts_of, sizes_of}
 use Rattle.lines.specs.bridge.Noded.{Roomy}
@@ -17,7 +15,7 @@ use Rattle.scoping.specs.Numbering.{by_place}
 use Rattle.scoping.specs.Premises.{inside}
 use Rattle.heads.specs.bridge.TreeAt.{TreeAt}
 use Rattle.merging.specs.Sides.{Constant, Pair as Joined}
-use Rattle.merging.specs.Request.{Projection, tree, read_joins, read_constants, join_positions, by_position, constants_in, positions, request, all_inside}
+use Rattle.merging.specs.Request.{Projection, read_joins, read_constants, join_positions, by_position, constants_in, positions, request, all_inside}
 use Rattle.merging.specs.Merge.{lists}
 use Rattle.merging.specs.Push.{push_constants_in_project_pattern}
 use Rattle.merging.specs.bridge.Twice.{none_twice}
@@ -26,6 +24,7 @@ use Rattle.sides.specs.declared.side.Standing.{Standing}
 use Rattle.descending.specs.bridge.Renamed.{Shaped}
 use Rattle.columns.specs.bridge.Listed.{Listed}
 use Rattle.sides.specs.bridge.Side.{Stands, Terms}
+use Rattle.algebra.specs.declared.Fault.TheVariants.{Malformed, OverBound}
 
 -- a tree stands in text i of two, whose tables stand in one array
 abbrev pub StandsAt : ℕ → Bytes → Standing → List (List (List ℕ)) → List (List ℕ) → Pattern → Type 0
@@ -132,12 +131,12 @@ both_terms a b k = then (read_constants a) λ ks. then (read_constants b) λ ls.
 
 -- both constant lists are read, or what asks for them is refused
 unfoldable pub TermsChecked : Bytes → Bytes → Check → Type 0
-TermsChecked a b (Good n) = KnownTerms a × KnownTerms b
-TermsChecked a b Malformed = (k : List Constant → List Constant → Outcome) → both_terms a b k ≡ refused 1
-TermsChecked a b OverBound = (k : List Constant → List Constant → Outcome) → both_terms a b k ≡ refused 2
+TermsChecked a b (Ok n) = KnownTerms a × KnownTerms b
+TermsChecked a b (Err Malformed) = (k : List Constant → List Constant → Outcome) → both_terms a b k ≡ refused 1
+TermsChecked a b (Err OverBound) = (k : List Constant → List Constant → Outcome) → both_terms a b k ≡ refused 2
 
 -- all three are read, or what asks for them is refused
 unfoldable pub ListsChecked : Bytes → Bytes → Bytes → Check → Type 0
-ListsChecked pairs a b (Good n) = ListsRead pairs a b
-ListsChecked pairs a b Malformed = (k : List Joined → List Constant → List Constant → Outcome) → lists pairs a b k ≡ refused 1
-ListsChecked pairs a b OverBound = (k : List Joined → List Constant → List Constant → Outcome) → lists pairs a b k ≡ refused 2
+ListsChecked pairs a b (Ok n) = ListsRead pairs a b
+ListsChecked pairs a b (Err Malformed) = (k : List Joined → List Constant → List Constant → Outcome) → lists pairs a b k ≡ refused 1
+ListsChecked pairs a b (Err OverBound) = (k : List Joined → List Constant → List Constant → Outcome) → lists pairs a b k ≡ refused 2

@@ -4,7 +4,11 @@ use Rattle.std.specs.Int.Count.{ones}
 use Rattle.text.specs.Text.{Bytes}
 use Rattle.text.specs.Word.{bytes}
 use Rattle.algebra.specs.Query.{Pair}
-use Rattle.scoping.specs.Label.{prefix_l, prefix_r}
+use Rattle.algebra.specs.Layout.{layout}
+use Rattle.emit.specs.declared.Writer.{Writer}
+use Rattle.emit.specs.bridge.Writer.{Wrote}
+use Rattle.sides.specs.declared.side.FoundSide.{FoundSide}
+use Rattle.scoping.specs.Label.{prefix_l, prefix_r, prefix_v}
 use Rattle.merging.specs.Request.{Projection}
 use Rattle.mask.specs.bridge.Mask.{mask_of}
 use Rattle.mask.specs.bridge.Words.{mask_value}
@@ -12,7 +16,7 @@ use Rattle.columns.specs.bridge.Columns.{columns_of, picked, gone_bits}
 use Rattle.sides.specs.declared.side.Outline.{Outline}
 use Rattle.sides.specs.bridge.Side.{IsNamed}
 use Rattle.projects.specs.declared.merge.FoundPair.{FoundPair}
-use Rattle.projects.specs.bridge.Joining.{rest}
+use Rattle.projects.specs.bridge.Joining.{rest, pushed_tree, combined_tree}
 
 -- the columns of each under their new names
 abbrev pub left_columns : Bytes → FoundPair → List (List (List ℕ)) → List (List ℕ) → List (List (List ℕ)) → List Bytes
@@ -47,3 +51,13 @@ head_columns true cs ds = cs
 unfoldable pub head_word : Bool → Bytes
 head_word false = bytes "join"
 head_word true = bytes "minus"
+
+-- ---- what is written
+
+-- the tree with its constants behind a head, by what stands in the texts
+pub record PushWritten (head s : Bytes) (table v : List (List ℕ)) (constants : Bytes) (news : List (List ℕ)) (f : FoundSide) (w w' : Writer) : Type 0 where
+  pub is : (x : Projection) (ks : List Pair) → IsNamed s table v prefix_v false constants news f x [] ks → Wrote w w' (head ++ layout (pushed_tree x ks))
+
+-- the merged tree behind a head
+pub record MergeWritten (head l r lc rc : Bytes) (p : FoundPair) (tables : List (List (List ℕ))) (v : List (List ℕ)) (news : List (List (List ℕ))) (w w' : Writer) : Type 0 where
+  pub is : (x y : Projection) (js ks ls : List Pair) → LeftNamed l lc p tables v news x js ks → RightNamed r rc p tables v news y js ls → Wrote w w' (head ++ layout (combined_tree p.minus x y js ks ls))

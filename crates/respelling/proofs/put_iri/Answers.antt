@@ -11,12 +11,12 @@ returns-in_default c =
 
 pub offset_bounds-keys-k : goal.offset_bounds-keys-k
 offset_bounds-keys-k c =
-    let t = O.says-by _ _ _ _ _ c.line_over.ensures _ c.in-By.is in let x = t.0 in let f = c.requires.4.few in omega arith
+    let t = O.says-by _ _ _ _ _ c.line_over.ensures _ c.in-Some.is in let x = t.0 in let f = c.requires.4.few in omega arith
 
 pub bounds-keys-k : goal.bounds-keys-k
 bounds-keys-k c =
-    let t = O.says-by _ _ _ _ _ c.line_over.ensures _ c.in-By.is in let x = t.0 in let f = c.requires.4.few in omega arith
+    let t = O.says-by _ _ _ _ _ c.line_over.ensures _ c.in-Some.is in let x = t.0 in let f = c.requires.4.few in omega arith
 
 pub returns : goal.returns
 returns c =
-    let t = O.says-by _ _ _ _ _ c.line_over.ensures _ c.in-By.is in P.iri-put _ _ _ _ _ _ c.requires.0 c.requires.1 c.requires.2 _ t.1 t.2 c.requires.3 _ _ _ _ _ c.put_all-copied.ensures _ c.field_at.ensures c.put_all-at.ensures refl _ c.field_at-2.ensures refl refl
+    let t = O.says-by _ _ _ _ _ c.line_over.ensures _ c.in-Some.is in P.iri-put _ _ _ _ _ _ c.requires.0 c.requires.1 c.requires.2 _ t.1 t.2 c.requires.3 _ _ _ _ _ c.put_all-copied.ensures _ c.field_at.ensures c.put_all-at.ensures refl _ c.field_at-2.ensures refl refl

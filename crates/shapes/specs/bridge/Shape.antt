@@ -1,5 +1,5 @@
 -- A tree's depth from its lines in their order, by the levels at which lines are still to come. Assumes nothing.
-use Rattle.std.specs.Prelude.{ℕ, zero, suc, ◌+◌, ◌≤◌, ◌<◌, max, ◌≡◌, cond, List, [], ◌∷◌, length}
+use Rattle.std.specs.Prelude.{ℕ, zero, suc, ◌+◌, ◌≤◌, max, ◌≡◌, cond, List, [], ◌∷◌, length}
 use Rattle.text.specs.Text.{Bytes, Line, same, lines_from}
 use Rattle.text.specs.Word.{bytes}
 use Rattle.algebra.specs.Valid.{mem}

@@ -11,7 +11,8 @@ use Rattle.algebra.specs.Depth.{depth}
 use Rattle.algebra.specs.Layout.{put}
 use Rattle.algebra.specs.Tally.{bounds}
 use Rattle.names.specs.bridge.Names.{listing, starts_of, sizes_of}
-use Rattle.emit.specs.bridge.Emit.{Em, puts}
+use Rattle.emit.specs.declared.Writer.{Writer}
+use Rattle.emit.specs.bridge.Writer.{Left}
 use Rattle.scoping.specs.Numbering.{by_place}
 use Rattle.scoping.specs.Premises.{side_name, inside, different_positions}
 use Rattle.scoping.specs.Rename.{rename_in_graph_pattern}
@@ -142,8 +143,8 @@ abbrev pub values_lines : ℕ → ℕ → List Bytes → List Bytes → List Lin
 values_lines zero n cs ts t = t
 values_lines (suc m) n cs ts t = (bytes "values" ∷ decimal n ∷ decimal 1 ∷ []) ∷ (bytes "cols" ∷ cs) ∷ (bytes "row" ∷ ts) ∷ t
 
--- the lines of a side are written, from one state of the output to another
-abbrev pub SideWritten : Bytes → List (List ℕ) → List (List ℕ) → Bytes → List (List ℕ) → FoundSide → Em → Em → Type 0
-SideWritten s table v constants news f e e' =
+-- the lines of a side are written, before whatever lines are written next
+abbrev pub SideWritten : Bytes → List (List ℕ) → List (List ℕ) → Bytes → List (List ℕ) → FoundSide → Writer → Writer → Type 0
+SideWritten s table v constants news f w w' =
     (prefix : ℕ) (second : Bool) (x : Projection) (js ks : List Pair) → IsNamed s table v prefix second constants news f x js ks → (t : List Line)
-    → puts (text_of t) e' ≡ puts (text_of (join_line f.outline.constants (put (rename_in_graph_pattern (new_names prefix second x js) x.inner) (values_lines f.outline.constants (ones (mask_value f.outline.constant)) (picked 1 (mask_value f.outline.constant) (columns_of s table news v f.outline.columns)) (terms_from ks 0 bounds.columns) t)))) e
+    → Left w w' (text_of (join_line f.outline.constants (put (rename_in_graph_pattern (new_names prefix second x js) x.inner) (values_lines f.outline.constants (ones (mask_value f.outline.constant)) (picked 1 (mask_value f.outline.constant) (columns_of s table news v f.outline.columns)) (terms_from ks 0 bounds.columns) t)))) (text_of t)

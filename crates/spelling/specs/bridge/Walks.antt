@@ -5,6 +5,10 @@ use Rattle.text.specs.Text.{Bytes, same, lines_from}
 use Rattle.text.specs.Word.{bytes}
 use Rattle.emit.specs.bridge.Emit.{Em, puts}
 use Rattle.editions.specs.Token.{Keyword, DISTINCT, REDUCED, text}
+use Rattle.spelling.specs.declared.before.Manner.{Manner}
+use Rattle.spelling.specs.declared.before.Manner.TheVariants.{Distinct, Plain, Reduced}
+use Rattle.spelling.specs.declared.say.Sort.{Sort}
+use Rattle.spelling.specs.declared.say.Sort.TheVariants.{Expression, Flat}
 use Rattle.spelling.specs.bridge.Saying.{shallow, Said}
 use Rattle.spelling.specs.bridge.Seeking.{Sought}
 
@@ -13,19 +17,25 @@ pub record Writes (s : Bytes) (w : Said) (before after : Em) (from : ℕ) : Type
   pub tokens : after ≡ puts (text w.tokens) before
   pub left : lines_from s from ≡ w.left
 
--- a line's sort by its word, as the code's number: 0 where it adds no depth, 1 where no manner matters to it
-pub record Sorted (w : Bytes) (n : ℕ) : Type 0 where
-  pub flat : n ≡ 0 → shallow w ≡ true
-  pub deep : (n ≡ 0 → ⊥) → shallow w ≡ false
-  pub plain : n ≡ 1 → same w (bytes "project") ≡ false
+-- a line's sort by its word: a flat one adds no depth, and to an expression no manner matters
+pub record Sorted (w : Bytes) (sort : Sort) : Type 0 where
+  pub flat : sort ≡ Flat → shallow w ≡ true
+  pub deep : (sort ≡ Flat → ⊥) → shallow w ≡ false
+  pub plain : sort ≡ Expression → same w (bytes "project") ≡ false
 
 -- it was found or not, and the lines behind start there
 pub record Seeks (s : Bytes) (w : Sought) (b : Bool) (from : ℕ) : Type 0 where
   pub found : b ≡ w.found
   pub left : lines_from s from ≡ w.left
 
--- a manner as the code's number
-abbrev pub manner_at : ℕ → Option Keyword
-manner_at zero = none
-manner_at (suc zero) = some DISTINCT
-manner_at (suc (suc n)) = some REDUCED
+-- a manner as the code has it
+abbrev pub manner_at : Manner → Option Keyword
+manner_at Plain = none
+manner_at Distinct = some DISTINCT
+manner_at Reduced = some REDUCED
+
+-- a manner by its number: 2 and any higher one is the last
+abbrev pub manner_told : ℕ → Option Keyword
+manner_told zero = none
+manner_told (suc zero) = some DISTINCT
+manner_told (suc (suc n)) = some REDUCED

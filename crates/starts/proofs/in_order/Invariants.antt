@@ -1,10 +1,6 @@
 -- What the loops of `in_order` keep. Assumes nothing.
-use Prim.Native.Nat.{◌-◌}
 use Rattle.starts.proofs.Ordering as O
 use Rattle.starts.proofs.in_order.Given as goal
 
 abbrev pub invariant-loop-i : goal.invariant-loop-i
 invariant-loop-i l = O.Left l.text l.keys l.n l.i
-
-abbrev pub decreases-loop-i : goal.decreases-loop-i
-decreases-loop-i l = l.n - l.i

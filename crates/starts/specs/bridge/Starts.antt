@@ -1,20 +1,16 @@
 -- What the check of a namespace table promises, what its steps find on a line, and what a search in it tells. Assumes nothing.
-use Rattle.std.specs.Prelude.{ℕ, ◌+◌, ◌≤◌, ◌<◌, ◌≡◌, List, [], ◌∷◌, map, Bool, true, false, cond, not, ◌&&◌, length, get_or, take, leb, eqb}
+use Rattle.std.specs.Prelude.{Option, ℕ, ◌+◌, ◌≤◌, ◌<◌, ◌≡◌, List, [], ◌∷◌, map, Bool, true, false, cond, not, ◌&&◌, length, get_or, take, leb, eqb, Some, None, Ok, Err}
 use Rattle.std.proofs.Math.Option.{none, some}
 use Rattle.text.specs.Text.{Bytes, Line, part, piece}
-use Rattle.algebra.specs.Reader.{Outcome as Reading, reads, refuses, malformed, over_bound, refusal_number}
-use Rattle.algebra.specs.declared.Answer.{Answer}
-use Rattle.algebra.specs.declared.Answer.TheVariants.{Good, Malformed, OverBound}
-use Rattle.cursor.specs.bridge.Cursor.{left}
+use Rattle.algebra.specs.Reader.{Outcome, reads, refuses, malformed, over_bound, refusal_number}
+use Rattle.algebra.specs.bridge.Answers.{Answer}
+use Rattle.cursor.specs.bridge.Cursor.{left, Reading}
 use Rattle.cursor.specs.declared.Cursor.{Cursor}
-use Rattle.cursor.specs.declared.Field.{Field}
-use Rattle.cursor.specs.declared.Field.TheVariants.{At, None}
 use Rattle.scoping.specs.Sets.{all}
 use Rattle.converting.specs.Starts.{Start, start_bounds, read_starts, old_starts, in_order}
 use Rattle.converting.specs.Namespaces.{covering_line}
 use Rattle.converting.specs.bridge.Order.{neighbours}
-use Rattle.starts.specs.declared.Covering.{Covering}
-use Rattle.starts.specs.declared.Covering.TheVariants as C
+use Rattle.algebra.specs.declared.Fault.TheVariants.{Malformed, OverBound}
 
 -- the line that an entry tells: the place and the size of its old start, then those of its new one
 abbrev pub start_at : Bytes → List ℕ → Start
@@ -32,12 +28,12 @@ pub record StartsTold (s : Bytes) (keys : List (List ℕ)) (n : ℕ) : Type 0 wh
 
 -- entries tell the lines of a good table; else the answer is its refusal
 unfoldable pub StartsChecked : Bytes → List (List ℕ) → Answer → Type 0
-StartsChecked s keys (Good n) = StartsTold s keys n
-StartsChecked s keys Malformed = read_starts s ≡ refuses malformed
-StartsChecked s keys OverBound = read_starts s ≡ refuses over_bound
+StartsChecked s keys (Ok n) = StartsTold s keys n
+StartsChecked s keys (Err Malformed) = read_starts s ≡ refuses malformed
+StartsChecked s keys (Err OverBound) = read_starts s ≡ refuses over_bound
 
 -- a table's number by itself: its refusal, then 14 if its lines are not in order
-abbrev ordered : Reading (List Start) → ℕ
+abbrev ordered : Outcome (List Start) → ℕ
 ordered (reads ss) = cond (in_order (old_starts ss)) 0 14
 ordered (refuses n) = refusal_number n
 
@@ -61,8 +57,8 @@ is_two (f ∷ g ∷ []) = is_start_field f && is_start_field g
 is_two (f ∷ g ∷ h ∷ fs) = false
 
 -- such a line: the end of its first field, and the cursor behind it; or it is none
-unfoldable pub Finds : Bytes → Cursor → Field → Type 0
-Finds s c (At e d) = (c.at ≤ e) × (e < c.end) × (d.at ≡ c.end + 1) × (left s c.at c.end ≡ part c.at e s ∷ part (e + 1) c.end s ∷ []) × (is_two (left s c.at c.end) ≡ true)
+unfoldable pub Finds : Bytes → Cursor → Reading → Type 0
+Finds s c (Some f) = (c.at ≤ f.end) × (f.end < c.end) × (f.behind.at ≡ c.end + 1) × (left s c.at c.end ≡ part c.at f.end s ∷ part (f.end + 1) c.end s ∷ []) × (is_two (left s c.at c.end) ≡ true)
 Finds s c None = is_two (left s c.at c.end) ≡ false
 
 -- ---- a table in order
@@ -80,7 +76,11 @@ pub record Ordered (s : Bytes) (keys : List (List ℕ)) (n : ℕ) : Type 0 where
   pub few : n ≤ start_bounds.entries
   pub ordered : neighbours (old_starts (starts_in s keys n)) ≡ true
 
+-- the entry of the line that covers an IRI, if one does
+abbrev pub Covering : Type 0
+Covering = Option ℕ
+
 -- the entry of the line that covers an IRI; or none does
 unfoldable pub Found : Bytes → List (List ℕ) → ℕ → Bytes → Covering → Type 0
-Found s keys n x (C.By k) = (k < n) × (covering_line (starts_in s keys n) x ≡ some (start_at s (get_or keys k []))) × (length (start_at s (get_or keys k [])).old < length x)
-Found s keys n x C.None = covering_line (starts_in s keys n) x ≡ none
+Found s keys n x (Some k) = (k < n) × (covering_line (starts_in s keys n) x ≡ some (start_at s (get_or keys k []))) × (length (start_at s (get_or keys k [])).old < length x)
+Found s keys n x None = covering_line (starts_in s keys n) x ≡ none

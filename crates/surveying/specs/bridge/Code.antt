@@ -4,7 +4,6 @@ use Rattle.text.specs.Text.{Bytes, text_of}
 use Rattle.text.specs.Word.{bytes}
 use Rattle.names.specs.bridge.Names.{listing}
 use Rattle.lines.specs.bridge.Spotted.{Noted}
-use Rattle.emit.specs.bridge.Emit.{Em, puts}
 use Rattle.scoping.specs.bridge.Flagged.{chosen}
 use Rattle.heads.specs.bridge.Known.{Known}
 
@@ -13,12 +12,6 @@ pub record Surveyed (tree : Bytes) (starts sizes : List ℕ) (n : ℕ) (spots : 
   pub hints : List ℕ
   pub known : Known tree starts sizes hints n
   pub noted : Noted tree 0 (listing tree starts sizes n) spots k
-
--- fields, each after a tab
-unfoldable pub tabbed : List Bytes → Em → Em
-unfolding puts
-tabbed [] e = e
-tabbed (f ∷ fs) e = tabbed fs (puts f (puts (9 ∷ []) e))
 
 -- the two lines of scope, by the flags of the table's names
 unfoldable pub chosen_text : List ℕ → List Bytes → Bytes

@@ -1,4 +1,5 @@
 -- `triples::check_triples` meets its contract. Assumes nothing.
+use borrow.Author.Rules.{rules}
 use mathlib.Core.Path.{ap}
 use native.Mathlib.Omega.{arith}
 use Rattle.triples.proofs.Going as G
@@ -10,7 +11,7 @@ pub returns-then-text-gt16384 : goal.returns-then-text-gt16384
 returns-then-text-gt16384 c = G.too_long _ _ (omega (arith, c.if-text-gt16384.true))
 
 pub loop-c-init : goal.loop-c-init
-loop-c-init c = G.going_start _ _ _ c.new-c.ensures.0 (omega (arith, c.if-text-gt16384.false)) c.no_triples.ensures
+loop-c-init c = G.going_start _ _ _ c.new-c.ensures.0 (omega (arith, c.if-text-gt16384.false)) (search rules)
 
 pub returns-then-l-text : goal.returns-then-l-text
 returns-then-l-text c =
@@ -26,19 +27,19 @@ returns-in_default c =
 
 pub is_fresh-requires : goal.is_fresh-requires
 is_fresh-requires c =
-    let l = c.next_line-l in let same = ap at l.ensures.0 in let low = l.ensures.1.low in let high = l.ensures.1.high in let g = c.loop-c.invariant in (omega arith, omega arith, g.room, g.most)
+    let l = c.next_line-l in let same = ap at l.ensures.0 in let low = l.ensures.1.low in let high = l.ensures.1.high in let g = c.loop-c.invariant in let most = g.most in (omega arith, omega arith, g.room, omega arith)
 
 pub returns-then-not-is_fresh : goal.returns-then-not-is_fresh
 returns-then-not-is_fresh c =
-    T.done-twice _ _ _ _ c.loop-c.invariant _ (ap at c.next_line-l.ensures.0) c.next_line-l.ensures.1 _ c.triple_at.ensures c.if-l-text.false _ _ c.in-At.is _ c.is_fresh.ensures _ c.if-not-is_fresh.true-raw
+    T.done-twice _ _ _ _ c.loop-c.invariant _ (ap at c.next_line-l.ensures.0) c.next_line-l.ensures.1 _ c.triple_at.ensures c.if-l-text.false _ _ c.in-Some.is _ c.is_fresh.ensures _ c.if-not-is_fresh.true-raw
 
 pub returns-then-n-eq-TRIPLES : goal.returns-then-n-eq-TRIPLES
 returns-then-n-eq-TRIPLES c =
-    T.done-over _ _ _ _ c.loop-c.invariant _ (ap at c.next_line-l.ensures.0) c.next_line-l.ensures.1 _ c.triple_at.ensures c.if-l-text.false _ _ c.in-At.is _ c.is_fresh.ensures c.if-not-is_fresh.false-raw _ (omega (arith, c.loop-c.invariant.most, c.if-n-eq-TRIPLES.true))
+    T.done-over _ _ _ _ c.loop-c.invariant _ (ap at c.next_line-l.ensures.0) c.next_line-l.ensures.1 _ c.triple_at.ensures c.if-l-text.false _ _ c.in-Some.is _ c.is_fresh.ensures c.if-not-is_fresh.false-raw _ (omega (arith, c.loop-c.invariant.most, c.if-n-eq-TRIPLES.true))
 
 pub keep-requires : goal.keep-requires
 keep-requires c =
-    let f = T.found _ _ _ _ c.loop-c.invariant _ (ap at c.next_line-l.ensures.0) c.next_line-l.ensures.1 _ c.triple_at.ensures c.if-l-text.false _ _ c.in-At.is in let high = c.next_line-l.ensures.1.high in let most = c.loop-c.invariant.most in (omega (arith, c.if-n-eq-TRIPLES.false), f.0, f.1, f.2, omega (arith, c.if-text-gt16384.false))
+    let f = T.found _ _ _ _ c.loop-c.invariant _ (ap at c.next_line-l.ensures.0) c.next_line-l.ensures.1 _ c.triple_at.ensures c.if-l-text.false _ _ c.in-Some.is in let high = c.next_line-l.ensures.1.high in let most = c.loop-c.invariant.most in (omega (arith, c.if-n-eq-TRIPLES.false), f.0, f.1, f.2, omega (arith, c.if-text-gt16384.false))
 
 pub overflow_add-n : goal.overflow_add-n
 overflow_add-n c = let most = c.loop-c.invariant.most in omega arith
@@ -52,7 +53,7 @@ loop-c-smaller c =
 
 pub loop-c-preserved : goal.loop-c-preserved
 loop-c-preserved c =
-    T.going_next _ _ _ _ c.loop-c.invariant _ (ap at c.next_line-l.ensures.0) c.next_line-l.ensures.1 _ c.triple_at.ensures c.if-l-text.false _ _ c.in-At.is _ c.is_fresh.ensures c.if-not-is_fresh.false-raw _ c.line_done-c.result (omega (arith, c.loop-c.invariant.most, c.if-n-eq-TRIPLES.false)) c.keep.ensures (ap at c.line_done-c.ensures)
+    T.going_next _ _ _ _ c.loop-c.invariant _ (ap at c.next_line-l.ensures.0) c.next_line-l.ensures.1 _ c.triple_at.ensures c.if-l-text.false _ _ c.in-Some.is _ c.is_fresh.ensures c.if-not-is_fresh.false-raw _ c.line_done-c.result (omega (arith, c.loop-c.invariant.most, c.if-n-eq-TRIPLES.false)) c.keep.ensures (ap at c.line_done-c.ensures)
 
 pub returns : goal.returns
 returns c = G.done_end _ _ _ _ c.loop-c.invariant c.loop-c-test.false

@@ -1,5 +1,5 @@
 -- How the code writes the table of words, and what its numbers mean. Assumes nothing.
-use Rattle.std.specs.Prelude.{ℕ, zero, suc, ◌/◌, ◌%◌, ◌≡◌, Bool, true, false, cond, not, ◌&&◌, ◌||◌, eqb, leb, ltb, List, [], ◌∷◌, ◌++◌, map, get_or}
+use Rattle.std.specs.Prelude.{ℕ, zero, suc, ◌/◌, ◌%◌, ◌≡◌, Bool, true, false, cond, not, ◌&&◌, ◌||◌, eqb, leb, ltb, List, [], ◌∷◌, ◌++◌, map, get_or, Some, None}
 use Rattle.std.proofs.Math.Option.{Option, none, some}
 use Rattle.text.specs.Text.{Bytes, same}
 use Rattle.text.specs.Word.{bytes, spelled}
@@ -9,8 +9,7 @@ use Rattle.algebra.specs.Query.{extra_kind}
 use Rattle.algebra.specs.Word.{spell_v, domains}
 use Rattle.algebra.specs.bridge.Table.{Slot, term, text, count, choice, Tail, nothing, columns, variables, texts, values, value, Sort, parts, sorts, Amount, always, given, more, Below, Row}
 use Rattle.words.specs.declared.Row.{Row as Code}
-use Rattle.words.specs.declared.Found.{Found}
-use Rattle.words.specs.declared.Found.TheVariants.{Is, None}
+use Rattle.std.specs.Prelude.{Option as Maybe, Some, None}
 
 -- the sorts by their numbers
 abbrev pub sort_at : ℕ → Sort
@@ -59,13 +58,17 @@ slots_under value ss = ss
 abbrev pub row_of : Code → Row
 row_of c = record { slots = slots_under (tail_of c.behind) (slots_in 3 c.fields); tail = tail_of c.behind; below = groups_in 3 c.below }
 
+-- the row of a word, if it has one
+abbrev pub Found : Type 0
+Found = Maybe Code
+
 abbrev pub row_found : Found → Option Row
-row_found (Is c) = some (row_of c)
+row_found (Some c) = some (row_of c)
 row_found None = none
 
 -- a row as one number of the table, which has 0 where there is none
 abbrev pub found : ℕ → Found
-found n = cond (eqb n 0) None (Is (record { fields = n % 16777216; behind = n / 16777216 % 16; flag = n / 268435456 % 16; below = n / 4294967296 }))
+found n = cond (eqb n 0) None (Some (record { fields = n % 16777216; behind = n / 16777216 % 16; flag = n / 268435456 % 16; below = n / 4294967296 }))
 
 -- no more than k fields
 unfoldable pub fits_in : ℕ → ℕ → Bool
@@ -92,7 +95,7 @@ in_tree s c = ltb 7 s || (sorts_in 6 3 c.below && (leb c.behind 3 && counts_in c
 
 -- a row of the table has three fields and three groups at most, of known sorts
 abbrev pub Tidy : ℕ → Found → Type 0
-Tidy s (Is c) = (fits_in 3 c.fields ≡ true) × (sorts_in 11 3 c.below ≡ true) × (in_tree s c ≡ true)
+Tidy s (Some c) = (fits_in 3 c.fields ≡ true) × (sorts_in 11 3 c.below ≡ true) × (in_tree s c ≡ true)
 Tidy s None = Unit {0}
 
 -- what a word means for the names under it: 1 its last pattern hides them, 2 those of its own line stay as they are, 0 neither
@@ -101,7 +104,7 @@ unfolding same
 flag_of w = cond (same w (bytes "project") || (same w (bytes "group") || same w (bytes "minus"))) 1 (cond (same w (bytes "service")) 2 0)
 
 abbrev pub Flags : Bytes → Found → Type 0
-Flags w (Is c) = c.flag ≡ flag_of w
+Flags w (Some c) = c.flag ≡ flag_of w
 Flags w None = Unit {0}
 
 -- the kind of the extra that stands with a domain

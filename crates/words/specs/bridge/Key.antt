@@ -1,12 +1,10 @@
 -- A word as one number, by which the code finds its row. Assumes nothing.
-use Rattle.std.specs.Prelude.{ℕ, ◌+◌, ◌*◌, ◌%◌, ◌≤◌, ◌<◌, ◌≡◌, Bool, false, cond, ◌||◌, List, [], ◌∷◌, eqb, length, get_or}
+use Rattle.std.specs.Prelude.{ℕ, ◌+◌, ◌*◌, ◌%◌, ◌≤◌, ◌<◌, ◌≡◌, Bool, false, cond, ◌||◌, List, [], ◌∷◌, eqb, length, get_or, Some, None}
 use Rattle.std.proofs.Math.Option.{Option, none, some}
 use Rattle.text.specs.Text.{Bytes, same, part}
 use Rattle.algebra.specs.bridge.Table.{Row, Entry}
 use Rattle.words.specs.declared.Word.{Word}
-use Rattle.words.specs.declared.Found.{Found}
-use Rattle.words.specs.declared.Found.TheVariants.{Is, None}
-use Rattle.words.specs.bridge.Code.{flag_of}
+use Rattle.words.specs.bridge.Code.{Found, flag_of}
 
 -- the bytes behind those of k as one number, of which 64 bits are kept
 unfoldable pub key_of : ℕ → Bytes → ℕ
@@ -52,5 +50,5 @@ flag_by k [] = 0
 flag_by k (e ∷ es) = cond (eqb k (key_of 0 e.word)) (flag_of e.word) (flag_by k es)
 
 abbrev pub Flagged : ℕ → List Entry → Found → Type 0
-Flagged k es (Is c) = c.flag ≡ flag_by k es
+Flagged k es (Some c) = c.flag ≡ flag_by k es
 Flagged k es None = Unit {0}

@@ -1,10 +1,8 @@
 -- The table of words as the code has it: each word's key and its row as one number, the words of a sort together. Assumes nothing.
-use Rattle.std.specs.Prelude.{ℕ, zero, suc, ◌+◌, ◌-◌, ◌/◌, ◌%◌, ◌≡◌, Bool, true, cond, ◌&&◌, ◌||◌, List, [], ◌∷◌, map, eqb, ltb, get_or, take, drop}
+use Rattle.std.specs.Prelude.{ℕ, zero, suc, ◌+◌, ◌-◌, ◌/◌, ◌%◌, ◌≡◌, Bool, true, cond, ◌&&◌, ◌||◌, List, [], ◌∷◌, map, eqb, ltb, get_or, take, drop, Some, None}
 use Rattle.std.proofs.Math.Option.{Option, some}
 use Rattle.algebra.specs.bridge.Table.{Row, Entry, table}
-use Rattle.words.specs.declared.Found.{Found}
-use Rattle.words.specs.declared.Found.TheVariants.{Is, None}
-use Rattle.words.specs.bridge.Code.{found, row_found, fits_in, sorts_in, in_tree, flag_of}
+use Rattle.words.specs.bridge.Code.{Found, found, row_found, fits_in, sorts_in, in_tree, flag_of}
 use Rattle.words.specs.bridge.Key.{key_of}
 
 -- the row of the word with this number, 0 where there is none
@@ -32,7 +30,7 @@ pub record Saying : Type 0 where
   pub flag : ℕ
 
 abbrev pub flag_found : Found → ℕ
-flag_found (Is c) = c.flag
+flag_found (Some c) = c.flag
 flag_found None = 0
 
 -- by the code's table
@@ -46,7 +44,7 @@ told e = record { key = key_of 0 e.word; row = some e.row; flag = flag_of e.word
 
 -- a row has three fields and three groups at most, of known sorts
 abbrev pub is_tidy : ℕ → Found → Bool
-is_tidy s (Is c) = fits_in 3 c.fields && (sorts_in 11 3 c.below && in_tree s c)
+is_tidy s (Some c) = fits_in 3 c.fields && (sorts_in 11 3 c.below && in_tree s c)
 is_tidy s None = true
 
 unfoldable pub all_tidy : ℕ → List (List ℕ) → Bool

@@ -15,19 +15,19 @@ returns-in_default c =
 
 pub read_columns-n-requires : goal.read_columns-n-requires
 read_columns-n-requires c =
-    let p = c.requires.0 in let x = c.requires.1 in (R.tree-short _ p.0 p.1, I.columns-low _ p.0 p.1 _ _ (S.says_at _ _ _ _ _ c.outermost_projection.ensures c.in-At.is), search rules)
+    let p = c.requires.0 in let x = c.requires.1 in (R.tree-short _ p.0 p.1, I.columns-low _ p.0 p.1 _ _ (S.says_at _ _ _ _ c.outermost_projection.ensures c.in-Some.is), search rules)
 
 pub returns-then-not-judged : goal.returns-then-not-judged
 returns-then-not-judged c =
-    let p = c.requires.0 in let x = c.requires.1 in Wh.outside _ _ p.0 x.0 p.1 x.1 _ _ (S.says_at _ _ _ _ _ c.outermost_projection.ensures c.in-At.is) _ _ c.read_columns-n.ensures.1 (listing-long _ _ _ _) c.judge-judged.result c.judge-judged.ensures _ c.if-not-judged.true
+    let p = c.requires.0 in let x = c.requires.1 in Wh.outside _ _ p.0 x.0 p.1 x.1 _ _ (S.says_at _ _ _ _ c.outermost_projection.ensures c.in-Some.is) _ _ c.read_columns-n.ensures.1 (listing-long _ _ _ _) c.judge-judged.result c.judge-judged.ensures _ c.if-not-judged.true
 
 pub returns-then-not-judged-2 : goal.returns-then-not-judged-2
 returns-then-not-judged-2 c =
-    let p = c.requires.0 in let x = c.requires.1 in Wh.unusable _ _ p.0 x.0 p.1 x.1 _ _ (S.says_at _ _ _ _ _ c.outermost_projection.ensures c.in-At.is) _ _ c.read_columns-n.ensures.1 (listing-long _ _ _ _) c.judge-judged.result c.judge-judged.ensures c.if-not-judged.false _ c.if-not-judged-2.true
+    let p = c.requires.0 in let x = c.requires.1 in Wh.unusable _ _ p.0 x.0 p.1 x.1 _ _ (S.says_at _ _ _ _ c.outermost_projection.ensures c.in-Some.is) _ _ c.read_columns-n.ensures.1 (listing-long _ _ _ _) c.judge-judged.result c.judge-judged.ensures c.if-not-judged.false _ c.if-not-judged-2.true
 
 pub inner_end-end-requires : goal.inner_end-end-requires
 inner_end-end-requires c =
-    let p = c.requires.0 in let x = c.requires.1 in (p, (_, S.says_at _ _ _ _ _ c.outermost_projection.ensures c.in-At.is), c.requires.2)
+    let p = c.requires.0 in let x = c.requires.1 in (p, (_, S.says_at _ _ _ _ c.outermost_projection.ensures c.in-Some.is), c.requires.2)
 
 pub has_room-requires : goal.has_room-requires
 has_room-requires c =
@@ -35,7 +35,7 @@ has_room-requires c =
 
 pub returns-then-not-has_room : goal.returns-then-not-has_room
 returns-then-not-has_room c =
-    let p = c.requires.0 in let x = c.requires.1 in Wh.bindings-short _ _ p.0 x.0 p.1 x.1 _ _ (S.says_at _ _ _ _ _ c.outermost_projection.ensures c.in-At.is) _ _ c.read_columns-n.ensures.1 (listing-long _ _ _ _) c.judge-judged.result c.judge-judged.ensures c.if-not-judged.false c.if-not-judged-2.false _ c.inner_end-end.ensures _ _ c.has_room.ensures c.if-not-has_room.true-raw
+    let p = c.requires.0 in let x = c.requires.1 in Wh.bindings-short _ _ p.0 x.0 p.1 x.1 _ _ (S.says_at _ _ _ _ c.outermost_projection.ensures c.in-Some.is) _ _ c.read_columns-n.ensures.1 (listing-long _ _ _ _) c.judge-judged.result c.judge-judged.ensures c.if-not-judged.false c.if-not-judged-2.false _ c.inner_end-end.ensures _ _ c.has_room.ensures c.if-not-has_room.true-raw
 
 pub put_bindings-put-requires : goal.put_bindings-put-requires
 put_bindings-put-requires c =
@@ -43,4 +43,4 @@ put_bindings-put-requires c =
 
 pub returns : goal.returns
 returns c =
-    let p = c.requires.0 in let x = c.requires.1 in let g = c.well_formed in Wh.bindings-all _ _ p.0 x.0 p.1 x.1 _ _ (S.says_at _ _ _ _ _ c.outermost_projection.ensures c.in-At.is) _ _ c.read_columns-n.ensures.1 (listing-long _ _ _ _) c.judge-judged.result c.judge-judged.ensures c.if-not-judged.false c.if-not-judged-2.false _ c.inner_end-end.ensures _ _ c.has_room.ensures _ _ c.if-not-has_room.false-raw (omega (arith, g)) c.put_bindings-put.ensures
+    let p = c.requires.0 in let x = c.requires.1 in let g = c.well_formed in Wh.bindings-all _ _ p.0 x.0 p.1 x.1 _ _ (S.says_at _ _ _ _ c.outermost_projection.ensures c.in-Some.is) _ _ c.read_columns-n.ensures.1 (listing-long _ _ _ _) c.judge-judged.result c.judge-judged.ensures c.if-not-judged.false c.if-not-judged-2.false _ c.inner_end-end.ensures _ _ c.has_room.ensures _ _ c.if-not-has_room.false-raw (omega (arith, g)) c.put_bindings-put.ensures

@@ -2,15 +2,19 @@
 use Rattle.reading.specs.bridge.Variables.{tree_names}
 use Rattle.reading.proofs.Said as Said
 use Rattle.binding.proofs.Whole as Wh
+use mathlib.Core.Logic.{inl, inr}
+use Rattle.std.proofs.lemmas.Result.{err_from_is_err_and}
+use Rattle.algebra.proofs.Faults.{which}
 use Rattle.binding.proofs.bindings.bindings_text.Goals as goal
 
 pub bindings_by-requires : goal.bindings_by-requires
 bindings_by-requires c =
-    let g = Said.said-good tree_names _ _ _ _ _ _ _ c.check_tree.ensures c.in-Good.is in ((g.value, g.read), c.all_words-words.ensures)
+    let g = Said.said-good tree_names _ _ _ _ _ _ _ c.check_tree.ensures c.in_ok-check_tree.was in ((g.value, g.read), c.all_words-words.ensures)
 
-pub returns-in-Malformed : goal.returns-in-Malformed
-returns-in-Malformed c =
-    Wh.tree-malformed _ _ _ (Said.said-malformed tree_names _ _ _ _ _ _ c.check_tree.ensures c.in-Malformed.is)
-
-pub returns-in-OverBound : goal.returns-in-OverBound
-returns-in-OverBound c = Wh.tree_over _ _ _ (Said.said-over tree_names _ _ _ _ _ _ c.check_tree.ensures c.in-OverBound.is)
+pub returns-in_err-check_tree : goal.returns-in_err-check_tree
+returns-in_err-check_tree c =
+    let exit = err_from_is_err_and c.from_residual.result c.from_residual.ensures.1 in
+    elim (which _ _ c.in_err-check_tree.was) [
+      | inl fault ↦ rw (exit.1, exit.2, fault.1) (Wh.tree-malformed _ _ _ (Said.said-malformed tree_names _ _ _ _ _ _ c.check_tree.ensures fault.0))
+      | inr fault ↦ rw (exit.1, exit.2, fault.1) (Wh.tree_over _ _ _ (Said.said-over tree_names _ _ _ _ _ _ c.check_tree.ensures fault.0))
+    ]

@@ -2,6 +2,7 @@
 use mathlib.Core.Path.{refl, ◌∙◌}
 use native.Mathlib.Omega.{arith}
 use Rattle.words.specs.bridge.Code.{sort_at}
+use Rattle.std.proofs.lemmas.Result.{err_from_is_err_and}
 use Rattle.checking.proofs.CheckLaw as K
 use Rattle.checking.proofs.check.check_list.Goals as goal
 
@@ -12,21 +13,20 @@ pub loop-p-init : goal.loop-p-init
 loop-p-init c =
     (K.started-ready _ _ c.start-p.ensures c.if-s-gt16384.false, K.went-begun _ _ _ _ c.if-s-gt16384.false c.requires.1 _ c.start-p.ensures _ _, refl, refl)
 
-pub check_entry-p-requires : goal.check_entry-p-requires
-check_entry-p-requires c = (c.requires.0, c.loop-p.invariant.0, c.requires.2)
+pub check_entry-requires : goal.check_entry-requires
+check_entry-requires c = (c.requires.0, c.loop-p.invariant.0, c.requires.2)
 
-pub returns-then-p-ne0 : goal.returns-then-p-ne0
-returns-then-p-ne0 c =
-    K.told-fault _ _ _ _ _ _ _ (c.told.ensures _ c.is_left.ensures) _ _ (K.list-next _ _ _ _ _ _ _ (sort_at c.args.sort) c.args.level _ _ _ _ _ _ c.entry_level-d.ensures c.fewer-left.ensures c.loop-p.invariant.1 c.loop-p.invariant.0.going c.loop-p-test.true (c.check_entry-p.ensures.runs refl)) c.if-p-ne0.true
+pub returns-in_err-p : goal.returns-in_err-p
+returns-in_err-p c =
+    let p = err_from_is_err_and c.from_residual.result c.from_residual.ensures.1 in rw (p.1, p.2) (K.told-stop _ _ _ _ _ _ _ _ (K.list-next _ _ _ _ _ _ _ (sort_at c.args.sort) c.args.level _ _ _ _ _ _ c.entry_level-d.ensures c.fewer-left.ensures c.loop-p.invariant.1 c.loop-p-test.true (c.in_err-p.ensures.runs refl)))
 
 pub loop-p-smaller : goal.loop-p-smaller
 loop-p-smaller c =
-    let w = c.check_entry-p.ensures.ready c.if-p-ne0.false in let v = w.0 in let q = c.loop-p-test.true in let o = c.loop-p.invariant.0.short in omega (arith, v, q, o)
+    let v = c.in_ok-p.ensures.ready.behind in let q = c.loop-p-test.true in let o = c.loop-p.invariant.0.short in omega (arith, v, q, o)
 
 pub loop-p-preserved : goal.loop-p-preserved
 loop-p-preserved c =
-    ((c.check_entry-p.ensures.ready c.if-p-ne0.false).1, (K.list-next _ _ _ _ _ _ _ (sort_at c.args.sort) c.args.level _ _ _ _ _ _ c.entry_level-d.ensures c.fewer-left.ensures c.loop-p.invariant.1 c.loop-p.invariant.0.going c.loop-p-test.true (c.check_entry-p.ensures.runs refl)), c.check_entry-p.auto.spots ∙ c.loop-p.invariant.2, c.check_entry-p.auto.nodes ∙ c.loop-p.invariant.3)
+    (c.in_ok-p.ensures.ready.ready, K.list-next _ _ _ _ _ _ _ (sort_at c.args.sort) c.args.level _ _ _ _ _ _ c.entry_level-d.ensures c.fewer-left.ensures c.loop-p.invariant.1 c.loop-p-test.true (c.in_ok-p.ensures.runs refl), c.check_entry.auto.spots ∙ c.loop-p.invariant.2, c.check_entry.auto.nodes ∙ c.loop-p.invariant.3)
 
 pub returns : goal.returns
-returns c =
-    K.told-whole _ _ _ _ _ _ _ (c.told-2.ensures _ c.is_left-2.ensures) _ c.loop-p.invariant.1 c.loop-p.invariant.0.going c.loop-p-test.false
+returns c = K.told-whole _ _ _ _ _ _ _ c.loop-p.invariant.1 c.loop-p-test.false

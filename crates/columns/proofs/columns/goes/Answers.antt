@@ -1,6 +1,5 @@
 -- `columns::columns/goes` meets its contract. Assumes nothing.
-use mathlib.Core.Path.{refl, sym, ◌∙◌}
-use native.Mathlib.Omega.{arith}
+use mathlib.Core.Path.{sym, ◌∙◌}
 use Rattle.algebra.specs.Valid.{mem}
 use Rattle.mask.specs.bridge.Words.{mask_value}
 use Rattle.columns.specs.bridge.Columns.{new_in, columns_of, picked}
@@ -19,15 +18,9 @@ pub returns-then-e-eq0 : goal.returns-then-e-eq0
 returns-then-e-eq0 c =
     L.goes-joined c.args.constant _ _ _ _ c.if-constant.false c.is_marked.ensures (N.new-stays c.args.text.now c.args.table.now c.args.news.now c.args.entry c.if-e-eq0.true _ _ _ c.wide.ensures c.wide-then-e-eq0.ensures c.piece.ensures)
 
-pub slice_bounds-room-end : goal.slice_bounds-room-end
-slice_bounds-room-end c = let z = c.put_name-size.ensures.short in omega arith
-
-pub slice_bounds-is_marked-end : goal.slice_bounds-is_marked-end
-slice_bounds-is_marked-end c = let n = c.put_name-size in N.room-long _ _ _ n.auto.out refl n.ensures.short
-
 pub is_marked-requires-2 : goal.is_marked-requires-2
 is_marked-requires-2 c = c.requires.1
 
 pub returns : goal.returns
 returns c =
-    let n = c.put_name-size in L.goes-joined c.args.constant _ _ _ _ c.if-constant.false c.is_marked-2.ensures (N.new-named c.args.text.now c.args.table.now c.args.news.now c.args.entry c.if-e-eq0.false ∙ sym (N.room-is _ _ _ _ _ refl n.ensures.short n.ensures.out_after))
+    L.goes-joined c.args.constant _ _ _ _ c.if-constant.false c.is_marked-2.ensures (N.new-named c.args.text.now c.args.table.now c.args.news.now c.args.entry c.if-e-eq0.false ∙ sym c.write_name-size.ensures.stands)

@@ -40,14 +40,6 @@ unfolding mem
 returns-then-is_column c =
     L.marked-here _ _ _ _ _ (N.columns-left _ c.args.spots.now _ c.requires.many _ c.loop-i-test.true) _ c.bit_at-marked.ensures _ _ (rw (← c.wide.ensures) c.is_column.ensures) c.if-is_column.true ∙ c.loop-i.invariant.1
 
-pub overflow_add-i : goal.overflow_add-i
-unfolding mem
-overflow_add-i c = search rules
-
-pub loop-i-smaller : goal.loop-i-smaller
-unfolding mem
-loop-i-smaller c = search rules
-
 pub loop-i-preserved : goal.loop-i-preserved
 unfolding mem
 loop-i-preserved c =

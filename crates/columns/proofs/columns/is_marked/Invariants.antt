@@ -1,5 +1,5 @@
 -- What the loops of `columns.is_marked` keep. Assumes nothing.
-use Prim.Native.Nat.{◌-◌, ◌/◌, ◌^◌, ◌≤◌}
+use Prim.Native.Nat.{◌/◌, ◌^◌, ◌≤◌}
 use mathlib.Core.Path.{◌≡◌}
 use mathlib.Core.List.{map}
 use lib.ListN.{get_or, take, drop}
@@ -10,6 +10,3 @@ use Rattle.columns.proofs.columns.is_marked.Given as goal
 
 abbrev pub invariant-loop-i : goal.invariant-loop-i
 invariant-loop-i l = (l.i ≤ l.columns) × (mem l.name (picked 1 (mask_value l.mask / 2 ^ l.i) (map (λ x. new_in l.text l.table l.news (get_or x 1 0)) (drop l.i (take l.columns l.spots)))) ≡ mem l.name (picked 1 (mask_value l.mask) (columns_of l.text l.table l.news l.spots l.columns)))
-
-abbrev pub decreases-loop-i : goal.decreases-loop-i
-decreases-loop-i l = l.columns - l.i

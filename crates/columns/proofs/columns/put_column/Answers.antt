@@ -3,7 +3,7 @@ use Rattle.columns.proofs.Picked as L
 use Rattle.columns.proofs.columns.put_column.Goals as goal
 
 pub returns-then-not-chosen : goal.returns-then-not-chosen
-returns-then-not-chosen c = L.column-none _ c.args.chosen _ c.if-not-chosen.true-raw
+returns-then-not-chosen c = L.column-none _ c.args.chosen c.if-not-chosen.true-raw
 
 pub returns : goal.returns
-returns c = L.column-put _ c.args.chosen _ _ _ c.if-not-chosen.false-raw c.put-a.ensures c.put_new.ensures
+returns c = L.column-put _ c.args.chosen c.if-not-chosen.false-raw c.put.ensures c.put_new.ensures

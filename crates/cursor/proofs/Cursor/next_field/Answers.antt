@@ -8,9 +8,9 @@ pub returns-then-end-at : goal.returns-then-end-at
 unfolding Reads
 returns-then-end-at c = c.if-end-at.true
 
-pub field_end-e-requires : goal.field_end-e-requires
+pub field_end-to-requires : goal.field_end-to-requires
 unfolding Reads
-field_end-e-requires c = search rules
+field_end-to-requires c = search rules
 
 pub overflow_add-result : goal.overflow_add-result
 unfolding Reads
@@ -18,4 +18,4 @@ overflow_add-result c = search rules
 
 pub returns : goal.returns
 unfolding Reads
-returns c = (c.field_end-e.ensures, refl, refl, refl)
+returns c = (c.field_end-to.ensures, refl, refl, refl)

@@ -1,5 +1,6 @@
 -- The descent over noted lines: a pattern, what stands below it group by group, an expression, an order or an aggregate. The remaining depth falls from a line to what stands below it. Assumes nothing.
-use mathlib.Core.Path.{refl, ◌∙◌}
+use Prim.Native.Nat.{◌+◌, ◌-◌}
+use mathlib.Core.Path.{◌≡◌, refl, ◌∙◌}
 use native.Mathlib.Omega.{arith}
 use Rattle.descending.proofs.ByNumber as N
 use Rattle.descending.proofs.Descent as L
@@ -61,25 +62,23 @@ pub rename_group-returns-then-not-is_noted : goal.rename_group-returns-then-not-
 rename_group-returns-then-not-is_noted t c =
     L.nothing _ (N.group-none _ c.args.sort c.args.times _ _ c.is_noted.ensures c.if-not-is_noted.true-raw) c.requires.0
 
-pub rename_group-loop-rest-init : goal.rename_group-loop-rest-init
-rename_group-loop-rest-init t c = L.times-begin _ _ c.requires.0
+pub rename_group-loop-done-init : goal.rename_group-loop-done-init
+rename_group-loop-done-init t c =
+    let none : c.args.times - 0 ≡ c.args.times = omega arith in rw none (L.times-begin _ _ c.requires.0)
 
 pub rename_group-rename_child-r-requires : goal.rename_group-rename_child-r-requires
 rename_group-rename_child-r-requires t c =
-    (let p = c.decreases in omega (arith, p), (L.went-in c.loop-rest.invariant.went, c.requires.1, N.group-noted c.args.sort _ c.is_noted.ensures c.if-not-is_noted.false-raw))
+    (let p = c.decreases in omega (arith, p), (L.went-in c.loop-done.invariant.went, c.requires.1, N.group-noted c.args.sort _ c.is_noted.ensures c.if-not-is_noted.false-raw))
 
-pub rename_group-loop-rest-smaller : goal.rename_group-loop-rest-smaller
-rename_group-loop-rest-smaller t c = let z = c.loop-rest-test.true in omega (arith, z)
-
-pub rename_group-loop-rest-preserved : goal.rename_group-loop-rest-preserved
-rename_group-loop-rest-preserved t c =
-    L.times-next _ _ c.loop-rest.invariant (let z = c.loop-rest-test.true in omega (arith, z)) c.rename_child-r.ensures
+pub rename_group-loop-done-preserved : goal.rename_group-loop-done-preserved
+rename_group-loop-done-preserved t c =
+    let less : c.args.times - (c.loop-done.done + 1) ≡ c.args.times - c.loop-done.done - 1 = omega arith in rw less (L.times-next _ _ c.loop-done.invariant (let z = c.loop-done-test.true in omega (arith, z)) c.rename_child-r.ensures)
 
 pub rename_group-shape_of-spots : goal.rename_group-shape_of-spots
-rename_group-shape_of-spots t c = c.loop-rest.invariant.went.all.all.long
+rename_group-shape_of-spots t c = c.loop-done.invariant.went.all.all.long
 
 pub rename_group-returns : goal.rename_group-returns
-rename_group-returns t c = L.times-done _ _ c.loop-rest.invariant c.loop-rest-test.false
+rename_group-returns t c = L.times-done _ _ c.loop-done.invariant (let z = c.loop-done-test.false in omega (arith, z))
 
 pub rename_in_expression-returns-then-depth-eq0 : goal.rename_in_expression-returns-then-depth-eq0
 rename_in_expression-returns-then-depth-eq0 t c = L.stopped _ _ c.if-depth-eq0.true c.requires.0
@@ -104,32 +103,30 @@ pub rename_in_expression-returns-then-h-eq2 : goal.rename_in_expression-returns-
 rename_in_expression-returns-then-h-eq2 t c =
     L.exists-line c.if-nodes-i.false c.rename_line-h.ensures.went c.rename_line-h.ensures.head _ c.if-depth-eq0.false c.if-h-eq2.true c.rename_in_graph_pattern.ensures
 
-pub rename_in_expression-amount-left-requires : goal.rename_in_expression-amount-left-requires
-rename_in_expression-amount-left-requires t c = let head = c.rename_line-h.ensures.head in (head.first_small, head.second_small)
+pub rename_in_expression-amount-below-requires : goal.rename_in_expression-amount-below-requires
+rename_in_expression-amount-below-requires t c = let head = c.rename_line-h.ensures.head in (head.first_small, head.second_small)
 
-pub rename_in_expression-loop-left-init : goal.rename_in_expression-loop-left-init
-rename_in_expression-loop-left-init t c = L.times-begin _ _ (L.went-in c.rename_line-h.ensures.went)
+pub rename_in_expression-loop-done-init : goal.rename_in_expression-loop-done-init
+rename_in_expression-loop-done-init t c =
+    let none : c.amount-below.result - 0 ≡ c.amount-below.result = omega arith in rw none (L.times-begin _ _ (L.went-in c.rename_line-h.ensures.went))
 
-pub rename_in_expression-overflow_sub-depth-in-loop-left : goal.rename_in_expression-overflow_sub-depth-in-loop-left
-rename_in_expression-overflow_sub-depth-in-loop-left t c = let z = c.if-depth-eq0.false in omega (arith, z)
+pub rename_in_expression-overflow_sub-depth-in-loop-done : goal.rename_in_expression-overflow_sub-depth-in-loop-done
+rename_in_expression-overflow_sub-depth-in-loop-done t c = let z = c.if-depth-eq0.false in omega (arith, z)
 
 pub rename_in_expression-rename_in_expression-r-requires : goal.rename_in_expression-rename_in_expression-r-requires
 rename_in_expression-rename_in_expression-r-requires t c =
-    (let z = c.if-depth-eq0.false in let p = c.decreases in omega (arith, p), (L.went-in c.loop-left.invariant.went, c.requires.1))
+    (let z = c.if-depth-eq0.false in let p = c.decreases in omega (arith, p), (L.went-in c.loop-done.invariant.went, c.requires.1))
 
-pub rename_in_expression-loop-left-smaller : goal.rename_in_expression-loop-left-smaller
-rename_in_expression-loop-left-smaller t c = let z = c.loop-left-test.true in omega (arith, z)
-
-pub rename_in_expression-loop-left-preserved : goal.rename_in_expression-loop-left-preserved
-rename_in_expression-loop-left-preserved t c =
-    L.times-next _ _ c.loop-left.invariant (let z = c.loop-left-test.true in omega (arith, z)) c.rename_in_expression-r.ensures
+pub rename_in_expression-loop-done-preserved : goal.rename_in_expression-loop-done-preserved
+rename_in_expression-loop-done-preserved t c =
+    let less : c.amount-below.result - (c.loop-done.done + 1) ≡ c.amount-below.result - c.loop-done.done - 1 = omega arith in rw less (L.times-next _ _ c.loop-done.invariant (let z = c.loop-done-test.true in omega (arith, z)) c.rename_in_expression-r.ensures)
 
 pub rename_in_expression-shape_of-spots : goal.rename_in_expression-shape_of-spots
-rename_in_expression-shape_of-spots t c = c.loop-left.invariant.went.all.all.long ∙ c.rename_line-h.ensures.went.all.all.long
+rename_in_expression-shape_of-spots t c = c.loop-done.invariant.went.all.all.long ∙ c.rename_line-h.ensures.went.all.all.long
 
 pub rename_in_expression-returns : goal.rename_in_expression-returns
 rename_in_expression-returns t c =
-    L.expression-line c.if-nodes-i.false c.rename_line-h.ensures.went c.rename_line-h.ensures.head _ _ c.if-depth-eq0.false c.if-h-eq2.false c.amount-left.ensures (L.times-done _ _ c.loop-left.invariant c.loop-left-test.false)
+    L.expression-line c.if-nodes-i.false c.rename_line-h.ensures.went c.rename_line-h.ensures.head _ _ c.if-depth-eq0.false c.if-h-eq2.false c.amount-below.ensures (L.times-done _ _ c.loop-done.invariant (let z = c.loop-done-test.false in omega (arith, z)))
 
 pub rename_in_graph_pattern-returns-then-depth-eq0 : goal.rename_in_graph_pattern-returns-then-depth-eq0
 rename_in_graph_pattern-returns-then-depth-eq0 t c = L.stopped _ _ c.if-depth-eq0.true c.requires.0

@@ -34,14 +34,8 @@ invariant-rename_below-loop-groups l = L.Groups l.words l.nodes (sizes_of l.news
 abbrev pub decreases-rename_below-loop-groups : goal.decreases-rename_below-loop-groups
 decreases-rename_below-loop-groups l = l.groups
 
-abbrev pub invariant-rename_group-loop-rest : goal.invariant-rename_group-loop-rest
-invariant-rename_group-loop-rest l = L.Going l.words l.nodes (sizes_of l.news) (skip_times (skip_child (skip l.depth) (sort_at l.sort)) l.rest) (skip_times (skip_child (skip l.depth) (sort_at l.sort)) l.times (nodes_from l.words l.nodes l.i)) l.initial.spots l.i l.j l.spots l.r.node l.r.spot
+abbrev pub invariant-rename_group-loop-done : goal.invariant-rename_group-loop-done
+invariant-rename_group-loop-done l = L.Going l.words l.nodes (sizes_of l.news) (skip_times (skip_child (skip l.depth) (sort_at l.sort)) (l.times - l.done)) (skip_times (skip_child (skip l.depth) (sort_at l.sort)) l.times (nodes_from l.words l.nodes l.i)) l.initial.spots l.i l.j l.spots l.r.node l.r.spot
 
-abbrev pub decreases-rename_group-loop-rest : goal.decreases-rename_group-loop-rest
-decreases-rename_group-loop-rest l = l.rest
-
-abbrev pub invariant-rename_in_expression-loop-left : goal.invariant-rename_in_expression-loop-left
-invariant-rename_in_expression-loop-left l = L.Going l.words l.nodes (sizes_of l.news) (skip_times (skip (l.depth - 1) expressions) l.left) (skip_times (skip (l.depth - 1) expressions) l.initial.left (nodes_from l.words l.nodes l.initial.r.node)) l.initial.spots l.initial.r.node l.initial.r.spot l.spots l.r.node l.r.spot
-
-abbrev pub decreases-rename_in_expression-loop-left : goal.decreases-rename_in_expression-loop-left
-decreases-rename_in_expression-loop-left l = l.left
+abbrev pub invariant-rename_in_expression-loop-done : goal.invariant-rename_in_expression-loop-done
+invariant-rename_in_expression-loop-done l = L.Going l.words l.nodes (sizes_of l.news) (skip_times (skip (l.depth - 1) expressions) (l.below - l.done)) (skip_times (skip (l.depth - 1) expressions) l.below (nodes_from l.words l.nodes l.initial.r.node)) l.initial.spots l.initial.r.node l.initial.r.spot l.spots l.r.node l.r.spot

@@ -2,6 +2,7 @@
 use borrow.Author.Rules.{rules}
 use mathlib.Core.Path.{sym}
 use native.Mathlib.Omega.{arith}
+use Rattle.answers.specs.Both.{answer_of, many_of}
 use Rattle.answers.proofs.Both as Both
 use Rattle.filtering.proofs.Read as R
 use Rattle.placing.proofs.Inner as I
@@ -27,7 +28,7 @@ slice_bounds-copy_listed-end c = let k = c.note_filters-noted in sym (C.numbers-
 
 pub returns-then-many-eq0 : goal.returns-then-many-eq0
 returns-then-many-eq0 c =
-    let p = c.requires in let k = c.note_filters-noted in Both.answered-both _ _ _ _ _ _ _ _ c.copy_listed.result.answer c.copy_listed.result.many (Wh.none-placed _ _ p.0.0 p.1.0 p.0.1 p.1.1 _ _ p.2 _ _ c.read_columns-n.ensures.1 (listing-long _ _ _ _) _ c.are_inside.ensures c.if-not-are_inside.false-raw _ _ k.result k.ensures c.if-many-eq0.true) (Wh.others-listed _ _ p.0.0 p.1.0 p.0.1 p.1.1 _ _ p.2 _ _ c.read_columns-n.ensures.1 (listing-long _ _ _ _) _ c.are_inside.ensures c.if-not-are_inside.false-raw _ _ k.result k.ensures) c.copy_listed.ensures
+    let p = c.requires in let k = c.note_filters-noted in Both.answered-both _ _ _ _ _ _ _ _ (answer_of c.copy_listed.result) (many_of c.copy_listed.result) (Wh.none-placed _ _ p.0.0 p.1.0 p.0.1 p.1.1 _ _ p.2 _ _ c.read_columns-n.ensures.1 (listing-long _ _ _ _) _ c.are_inside.ensures c.if-not-are_inside.false-raw _ _ k.result k.ensures c.if-many-eq0.true) (Wh.others-listed _ _ p.0.0 p.1.0 p.0.1 p.1.1 _ _ p.2 _ _ c.read_columns-n.ensures.1 (listing-long _ _ _ _) _ c.are_inside.ensures c.if-not-are_inside.false-raw _ _ k.result k.ensures) c.copy_listed.ensures
 
 pub inner_end-end-requires : goal.inner_end-end-requires
 inner_end-end-requires c = let p = c.requires in (p.0, (_, p.2), p.3)
@@ -52,4 +53,4 @@ put_listed-requires c =
 
 pub returns : goal.returns
 returns c =
-    let p = c.requires in let k = c.note_filters-noted in Both.answered-both _ _ _ _ _ _ _ _ c.put_listed.result.answer c.put_listed.result.many (Wh.some-placed-is _ _ p.0.0 p.1.0 p.0.1 p.1.1 _ _ p.2 _ _ c.read_columns-n.ensures.1 (listing-long _ _ _ _) _ c.are_inside.ensures c.if-not-are_inside.false-raw _ _ k.result k.ensures c.if-many-eq0.false _ c.inner_end-end.ensures _ (C.starts-many _ _ _ _ _ k.result k.ensures)) (Wh.others-listed _ _ p.0.0 p.1.0 p.0.1 p.1.1 _ _ p.2 _ _ c.read_columns-n.ensures.1 (listing-long _ _ _ _) _ c.are_inside.ensures c.if-not-are_inside.false-raw _ _ k.result k.ensures) c.put_listed.ensures
+    let p = c.requires in let k = c.note_filters-noted in Both.answered-both _ _ _ _ _ _ _ _ (answer_of c.put_listed.result) (many_of c.put_listed.result) (Wh.some-placed-is _ _ p.0.0 p.1.0 p.0.1 p.1.1 _ _ p.2 _ _ c.read_columns-n.ensures.1 (listing-long _ _ _ _) _ c.are_inside.ensures c.if-not-are_inside.false-raw _ _ k.result k.ensures c.if-many-eq0.false _ c.inner_end-end.ensures _ (C.starts-many _ _ _ _ _ k.result k.ensures)) (Wh.others-listed _ _ p.0.0 p.1.0 p.0.1 p.1.1 _ _ p.2 _ _ c.read_columns-n.ensures.1 (listing-long _ _ _ _) _ c.are_inside.ensures c.if-not-are_inside.false-raw _ _ k.result k.ensures) c.put_listed.ensures

@@ -1,6 +1,7 @@
 -- `expressing::filters/filters_not_found` meets its contract. Assumes nothing.
 use mathlib.Core.Path.{sym}
 use native.Mathlib.Omega.{arith}
+use Rattle.answers.specs.Both.{answer_of, many_of}
 use Rattle.answers.proofs.Both as Both
 use Rattle.expressing.proofs.Counted as C
 use Rattle.expressing.proofs.Whole as Wh
@@ -15,4 +16,4 @@ slice_bounds-copy_listed-end c = let k = c.note_filters-noted in sym (C.numbers-
 
 pub returns : goal.returns
 returns c =
-    let p = c.requires in let k = c.note_filters-noted in Both.answered-both _ _ _ _ _ _ _ _ c.copy_listed.result.answer c.copy_listed.result.many (Wh.not_found _ _ p.0.0 p.1.0 p.0.1 p.1.1 p.2) (Wh.all_listed _ _ p.0.0 p.1.0 p.0.1 p.1.1 p.2 _ _ _ k.result k.ensures) c.copy_listed.ensures
+    let p = c.requires in let k = c.note_filters-noted in Both.answered-both _ _ _ _ _ _ _ _ (answer_of c.copy_listed.result) (many_of c.copy_listed.result) (Wh.not_found _ _ p.0.0 p.1.0 p.0.1 p.1.1 p.2) (Wh.all_listed _ _ p.0.0 p.1.0 p.0.1 p.1.1 p.2 _ _ _ k.result k.ensures) c.copy_listed.ensures

@@ -7,4 +7,4 @@ filters_not_found-requires c =
     let p = c.requires in (p.0, p.1, S.says_none _ _ _ c.outermost_projection.ensures c.in_default.is, p.2)
 
 pub filters_found-requires : goal.filters_found-requires
-filters_found-requires c = let p = c.requires in (p.0, p.1, S.says_at _ _ _ _ _ c.outermost_projection.ensures c.in-At.is, p.2)
+filters_found-requires c = let p = c.requires in (p.0, p.1, S.says_at _ _ _ _ c.outermost_projection.ensures c.in-Some.is, p.2)

@@ -10,6 +10,3 @@ use Rattle.expressing.proofs.place.put_expressions.Given as goal
 
 abbrev pub invariant-loop-j : goal.invariant-loop-j
 invariant-loop-j l = (length l.out ≡ length l.initial.out) × (puts (text_of (lines_at (names_in l.tree l.columns l.n) l.filters (drop l.j l.starts))) (em l.to l.out) ≡ puts (text_of (lines_at (names_in l.tree l.columns l.n) l.filters l.starts)) (em l.at l.initial.out))
-
-abbrev pub decreases-loop-j : goal.decreases-loop-j
-decreases-loop-j l = length l.starts - l.j

@@ -7,6 +7,3 @@ use Rattle.expressing.proofs.place.put_numbers.Given as goal
 
 abbrev pub invariant-loop-j : goal.invariant-loop-j
 invariant-loop-j l = (length l.list ≡ length l.initial.list) × (sets l.list l.j (drop l.j l.numbers) ≡ sets l.initial.list 0 l.numbers)
-
-abbrev pub decreases-loop-j : goal.decreases-loop-j
-decreases-loop-j l = length l.numbers - l.j

@@ -1,6 +1,7 @@
 -- `lines::fields/text_fields` meets its contract. Assumes nothing.
+use Prim.Native.Nat.{◌+◌, ◌-◌}
 use borrow.Author.Rules.{rules}
-use mathlib.Core.Path.{refl}
+use mathlib.Core.Path.{◌≡◌, refl}
 use native.Mathlib.Omega.{arith}
 use Rattle.lines.proofs.RepeatLaw as R
 use Rattle.lines.specs.bridge.Steps.{rest_of, rest_in}
@@ -9,24 +10,26 @@ use Rattle.algebra.specs.bridge.Table.{text}
 use Rattle.text.specs.bridge.Code.{kind_at}
 use Rattle.lines.proofs.fields.text_fields.Goals as goal
 
-pub loop-k-init : goal.loop-k-init
-loop-k-init c = (c.requires.0, (refl, refl), search rules, c.requires.1, refl)
+pub loop-done-init : goal.loop-done-init
+loop-done-init c =
+    let none : c.args.times - 0 ≡ c.args.times = omega arith in rw none (c.requires.0, (refl, refl), search rules, c.requires.1, refl)
 
 pub text_field-d-requires : goal.text_field-d-requires
-text_field-d-requires c = c.loop-k.invariant.0
+text_field-d-requires c = c.loop-done.invariant.0
 
 pub overflow_add-d : goal.overflow_add-d
 overflow_add-d c =
-    let x = (R.follows-along _ _ _ _ c.text_field-d.ensures).0 in let y = c.loop-k.invariant.0.ends in let z = c.loop-k.invariant.0.short in omega arith
+    let x = (R.follows-along _ _ _ _ c.text_field-d.ensures).0 in let y = c.loop-done.invariant.0.ends in let z = c.loop-done.invariant.0.short in omega arith
 
 pub returns-then-d : goal.returns-then-d
 returns-then-d c =
-    R.repeat-fault _ _ _ _ (λ l. rest_of (take_field (text (kind_at c.args.kind)) l)) (λ k l. rest_in (take_times k (text (kind_at c.args.kind)) l)) _ _ (R.times_more (text (kind_at c.args.kind))) c.loop-k.invariant.4 c.loop-k.invariant.1 c.loop-k.invariant.2 c.text_field-d.ensures c.loop-k-test.true c.if-d.true
+    R.repeat-fault _ _ _ _ (λ l. rest_of (take_field (text (kind_at c.args.kind)) l)) (λ k l. rest_in (take_times k (text (kind_at c.args.kind)) l)) _ _ (R.times_more (text (kind_at c.args.kind))) c.loop-done.invariant.4 c.loop-done.invariant.1 c.loop-done.invariant.2 c.text_field-d.ensures (omega (arith, c.loop-done-test.true)) c.if-d.true
 
-pub loop-k-preserved : goal.loop-k-preserved
-loop-k-preserved c =
-    let x = R.repeat-next _ _ _ _ (λ l. rest_of (take_field (text (kind_at c.args.kind)) l)) (λ k l. rest_in (take_times k (text (kind_at c.args.kind)) l)) _ _ (R.times_more (text (kind_at c.args.kind))) c.loop-k.invariant.4 c.loop-k.invariant.1 c.loop-k.invariant.2 c.text_field-d.ensures c.loop-k-test.true c.if-d.false in (R.follows-line _ _ _ _ c.loop-k.invariant.0 c.text_field-d.ensures, x.1, x.2, x.3, x.0)
+pub loop-done-preserved : goal.loop-done-preserved
+loop-done-preserved c =
+    let less : c.args.times - (c.loop-done.done + 1) ≡ c.args.times - c.loop-done.done - 1 = omega arith in
+    let x = R.repeat-next _ _ _ _ (λ l. rest_of (take_field (text (kind_at c.args.kind)) l)) (λ k l. rest_in (take_times k (text (kind_at c.args.kind)) l)) _ _ (R.times_more (text (kind_at c.args.kind))) c.loop-done.invariant.4 c.loop-done.invariant.1 c.loop-done.invariant.2 c.text_field-d.ensures (omega (arith, c.loop-done-test.true)) c.if-d.false in rw less (R.follows-line _ _ _ _ c.loop-done.invariant.0 c.text_field-d.ensures, x.1, x.2, x.3, x.0)
 
 pub returns : goal.returns
 returns c =
-    R.repeat-end _ _ _ (λ k l. rest_in (take_times k (text (kind_at c.args.kind)) l)) _ _ (R.times-end (text (kind_at c.args.kind))) c.loop-k.invariant.4 c.loop-k-test.false c.loop-k.invariant.1 c.loop-k.invariant.2 c.loop-k.invariant.3
+    R.repeat-end _ _ _ (λ k l. rest_in (take_times k (text (kind_at c.args.kind)) l)) _ _ (R.times-end (text (kind_at c.args.kind))) c.loop-done.invariant.4 (omega (arith, c.loop-done-test.false)) c.loop-done.invariant.1 c.loop-done.invariant.2 c.loop-done.invariant.3

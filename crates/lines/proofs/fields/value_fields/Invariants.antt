@@ -1,12 +1,9 @@
 -- What the loops of `fields.value_fields` keep. Assumes nothing.
-use Prim.Native.Nat.{◌+◌, ◌≤◌}
+use Prim.Native.Nat.{◌+◌, ◌-◌, ◌≤◌}
 use mathlib.Core.Path.{◌≡◌}
 use Rattle.lines.specs.bridge.Steps.{left_at, rest_in, Along, InLine}
 use Rattle.lines.specs.bridge.Line.{take_values}
 use Rattle.lines.proofs.fields.value_fields.Given as goal
 
-abbrev pub invariant-loop-k : goal.invariant-loop-k
-invariant-loop-k l = InLine l.s l.d × Along l.initial.d l.d × (l.initial.d.at ≤ l.d.at) × (l.d.at ≤ l.initial.d.end + 1) × (rest_in (take_values l.times (left_at l.s l.initial.d)) ≡ rest_in (take_values l.k (left_at l.s l.d)))
-
-abbrev pub decreases-loop-k : goal.decreases-loop-k
-decreases-loop-k l = l.k
+abbrev pub invariant-loop-done : goal.invariant-loop-done
+invariant-loop-done l = InLine l.s l.d × Along l.initial.d l.d × (l.initial.d.at ≤ l.d.at) × (l.d.at ≤ l.initial.d.end + 1) × (rest_in (take_values l.times (left_at l.s l.initial.d)) ≡ rest_in (take_values (l.times - l.done) (left_at l.s l.d)))

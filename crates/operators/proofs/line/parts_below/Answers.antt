@@ -10,4 +10,4 @@ returns-in_default c =
 
 pub returns : goal.returns
 returns c =
-    λ f k. let r = c.row_at in H.parts_are f _ r.result (ap row_found r.ensures ∙ c.word_by.ensures.row f k) _ c.in-Is.is _ c.lines_asked.ensures.0
+    λ f k. let r = c.row_at in H.parts_are f _ r.result (ap row_found r.ensures ∙ c.word_by.ensures.row f k) _ c.in-Some.is _ c.lines_asked.ensures.0

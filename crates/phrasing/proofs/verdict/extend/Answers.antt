@@ -1,6 +1,5 @@
 -- `phrasing::verdict/extend` meets its contract. Assumes nothing.
 use native.Mathlib.Omega.{arith}
-use Rattle.phrasing.proofs.Placed as P
 use Rattle.phrasing.proofs.verdict.extend.Goals as goal
 
 pub field_at-field-requires : goal.field_at-field-requires
@@ -20,4 +19,4 @@ slice_bounds-v-end c =
 
 pub returns : goal.returns
 returns c =
-    let i = c.field_at-field.ensures.is in let e = P.eleven c.args.eleven in let f = c.seek_pattern-sought.ensures.found in cc
+    let i = c.field_at-field.ensures.is in let f = c.seek_pattern-sought.ensures.found in cc

@@ -15,8 +15,8 @@ abbrev pub at : Cursor → ℕ
 at d = d.at
 
 -- the columns that were noted and those to come are all
-abbrev pub invariant-loop-to : goal.invariant-loop-to
-invariant-loop-to l = (length l.columns ≡ bounds.columns) × (l.c.end < length l.tree) × (l.n + length (left l.tree l.c.at l.c.end) ≡ length (columns_on l.tree l.line)) × (names_in l.tree l.columns l.n ++ left l.tree l.c.at l.c.end ≡ columns_on l.tree l.line)
+abbrev pub invariant-loop-field : goal.invariant-loop-field
+invariant-loop-field l = (length l.columns ≡ bounds.columns) × (l.c.end < length l.tree) × (l.n + length (left l.tree l.c.at l.c.end) ≡ length (columns_on l.tree l.line)) × (names_in l.tree l.columns l.n ++ left l.tree l.c.at l.c.end ≡ columns_on l.tree l.line)
 
-abbrev pub decreases-loop-to : goal.decreases-loop-to
-decreases-loop-to l = l.c.end + 1 - l.c.at
+abbrev pub decreases-loop-field : goal.decreases-loop-field
+decreases-loop-field l = l.c.end + 1 - l.c.at

@@ -10,4 +10,4 @@ returns-in_default c =
 
 pub returns : goal.returns
 returns c =
-    λ f k. let r = c.row_at in C.row_is _ r.result (ap row_found r.ensures ∙ c.any_word.ensures.row f k) _ c.in-Is.is
+    λ f k. let r = c.row_at in C.row_is _ r.result (ap row_found r.ensures ∙ c.any_word.ensures.row f k) _ c.in-Some.is

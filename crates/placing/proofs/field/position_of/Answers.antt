@@ -3,8 +3,8 @@ use native.Mathlib.Omega.{arith}
 use Rattle.placing.proofs.Next as F
 use Rattle.placing.proofs.field.position_of.Goals as goal
 
-pub returns-in-Is : goal.returns-in-Is
-returns-in-Is c = (F.position-is _ _ c.number_of.ensures _ c.in-Is.is, omega arith)
+pub returns-in-Some : goal.returns-in-Some
+returns-in-Some c = (F.position-is _ _ c.number_of.ensures _ c.in-Some.is, omega arith)
 
-pub returns-in-Not : goal.returns-in-Not
-returns-in-Not c = (F.position-not _ _ c.number_of.ensures c.in-Not.is, omega arith)
+pub returns-in-None : goal.returns-in-None
+returns-in-None c = (F.position-not _ _ c.number_of.ensures c.in-None.is, omega arith)

@@ -11,15 +11,14 @@ slice_bounds-put_columns-end c = sym (KN.taken-long _ _ c.requires.2)
 pub width-requires : goal.width-requires
 width-requires c = c.requires.3.left_room
 
-pub put_columns-c-requires : goal.put_columns-c-requires
-put_columns-c-requires c = let p = c.requires in (p.0, c.width.ensures ∙ p.3.left)
-
-pub shape_of-out-then-pair : goal.shape_of-out-then-pair
-shape_of-out-then-pair c = c.put_all.auto.out ∙ c.put_columns-c.auto.out ∙ c.put_all-b.auto.out ∙ c.put_all-a.auto.out
+pub put_columns-requires : goal.put_columns-requires
+put_columns-requires c = let p = c.requires in (p.0, c.width.ensures ∙ p.3.left)
 
 pub returns-then-pair : goal.returns-then-pair
-returns-then-pair c =
-    W.left-head _ _ _ _ _ _ _ _ _ c.if-pair.true c.put_all-a.ensures c.put_all-b.ensures c.put_columns-c.ensures c.put_all.ensures
+returns-then-pair c = λ t. record {
+  same = c.put_all-then-pair.ensures.same ∙ c.put_columns.ensures.same ∙ c.put_all-2.ensures.same ∙ c.put_all.ensures.same;
+  puts = W.left-head _ _ _ _ _ _ _ _ _ c.if-pair.true c.put_all.ensures.puts c.put_all-2.ensures.puts c.put_columns.ensures.puts c.put_all-then-pair.ensures.puts t;
+}
 
 pub offset_bounds-spots-k : goal.offset_bounds-spots-k
 offset_bounds-spots-k c = let g = c.well_formed in let p = c.requires.2 in omega (arith, g, p)
@@ -33,13 +32,11 @@ slice_bounds-put_columns-start c = c.requires.2
 pub width-requires-2 : goal.width-requires-2
 width-requires-2 c = c.requires.3.right_room
 
-pub put_columns-d-requires : goal.put_columns-d-requires
-put_columns-d-requires c = let p = c.requires in (p.1, c.width-2.ensures ∙ p.3.right)
-
-pub shape_of-out : goal.shape_of-out
-shape_of-out c =
-    c.put_all-2.auto.out ∙ c.put_columns-d.auto.out ∙ c.put_columns-c.auto.out ∙ c.put_all-b.auto.out ∙ c.put_all-a.auto.out
+pub put_columns-requires-2 : goal.put_columns-requires-2
+put_columns-requires-2 c = let p = c.requires in (p.1, c.width-2.ensures ∙ p.3.right)
 
 pub returns : goal.returns
-returns c =
-    W.two-heads _ _ _ _ _ _ _ _ _ _ c.if-pair.false c.put_all-a.ensures c.put_all-b.ensures c.put_columns-c.ensures c.put_columns-d.ensures c.put_all-2.ensures
+returns c = λ t. record {
+  same = c.put_all-3.ensures.same ∙ c.put_columns-2.ensures.same ∙ c.put_columns.ensures.same ∙ c.put_all-2.ensures.same ∙ c.put_all.ensures.same;
+  puts = W.two-heads _ _ _ _ _ _ _ _ _ _ c.if-pair.false c.put_all.ensures.puts c.put_all-2.ensures.puts c.put_columns.ensures.puts c.put_columns-2.ensures.puts c.put_all-3.ensures.puts t;
+}

@@ -1,9 +1,11 @@
 -- `projects::push/push_found` meets its contract. Assumes nothing.
 use borrow.Author.Rules.{rules}
-use mathlib.Core.List.{[]}
+use mathlib.Core.List.{[], ◌++◌}
+use Rattle.algebra.specs.Layout.{layout}
+use Rattle.projects.specs.bridge.Joining.{pushed_tree}
 use mathlib.Core.Bool.{false}
-use native.Mathlib.Omega.{arith}
 use Rattle.names.proofs.Cleared.{no_size}
+use Rattle.projects.specs.bridge.Pair.{PushWritten}
 use Rattle.projects.proofs.OneSide as OS
 use Rattle.projects.proofs.Pass as P
 use Rattle.projects.proofs.push.push_found.Goals as goal
@@ -16,18 +18,16 @@ pub returns-then-not-name_found : goal.returns-then-not-name_found
 returns-then-not-name_found c =
     λ x ks o. OS.never-repeated (OS.refused _ _ _ _ _ _ _ _ _ _ _ _ (c.name_found.ensures _ _ x [] ks o) c.if-not-name_found.true-raw)
 
-pub put_pushed-size-requires : goal.put_pushed-size-requires
-put_pushed-size-requires c =
-    let p = c.requires.0 in (p.0, p.1, OS.named _ _ _ _ _ _ _ _ _ _ _ _ (c.name_found.ensures _ _ _ _ _ p.2) c.if-not-name_found.false-raw)
-
-pub returns-then-out-size : goal.returns-then-out-size
-returns-then-out-size c =
-    λ x ks o. let z = OS.named _ _ _ _ _ _ _ _ _ _ _ _ (c.name_found.ensures _ _ x [] ks o) c.if-not-name_found.false-raw in P.push-short c.args.query.now c.args.table.now _ c.args.constants.now _ c.args.found x ks z c.args.head.now [] c.put_pushed-size.new.out c.args.out.now c.put_pushed-size.result (c.put_pushed-size.ensures x ks z) c.if-out-size.true
-
-pub put_pushed-put-requires : goal.put_pushed-put-requires
-put_pushed-put-requires c =
-    let p = c.requires.0 in (p.0, p.1, OS.named _ _ _ _ _ _ _ _ _ _ _ _ (c.name_found.ensures _ _ _ _ _ p.2) c.if-not-name_found.false-raw)
+pub write_answer-requires : goal.write_answer-requires
+write_answer-requires c =
+    let p = c.requires.0 in
+    let q = OS.named _ _ _ _ _ _ _ _ _ _ _ _ (c.name_found.ensures _ _ _ _ _ p.2) c.if-not-name_found.false-raw in
+    search rules
 
 pub returns : goal.returns
 returns c =
-    λ x ks o. let z = OS.named _ _ _ _ _ _ _ _ _ _ _ _ (c.name_found.ensures _ _ x [] ks o) c.if-not-name_found.false-raw in P.push-put c.args.query.now c.args.table.now _ c.args.constants.now _ c.args.found x ks z c.args.head.now [] c.put_pushed-size.new.out c.args.out.now c.put_pushed-size.result (c.put_pushed-size.ensures x ks z) c.put_pushed-put.result c.put_pushed-put.new.out (c.put_pushed-put.ensures x ks z) c.if-out-size.false (let g = c.well_formed in omega (arith, g))
+    λ x ks o. let z = OS.named _ _ _ _ _ _ _ _ _ _ _ _ (c.name_found.ensures _ _ x [] ks o) c.if-not-name_found.false-raw in
+    P.push-answered c.args.query.now c.args.table.now _ c.args.constants.now _ c.args.found x ks z c.args.head.now _ _ _
+    (c.write_answer.ensures (c.args.head.now ++ layout (pushed_tree x ks)) (λ w w' p.
+    let q : PushWritten c.args.head.now c.args.query.now c.args.table.now c.name_found.new.spots c.args.constants.now c.name_found.new.news c.args.found w.now w'.now = search rules in
+    q.is x ks z))

@@ -2,7 +2,6 @@
 use mathlib.Core.Path.{◌∙◌}
 use mathlib.Core.List.{[]}
 use mathlib.Core.Bool.{false}
-use Rattle.emit.specs.bridge.Emit.{em}
 use Rattle.scoping.specs.Label.{prefix_v}
 use Rattle.sides.proofs.Sides.{side-inside, side-room, side-width}
 use Rattle.projects.proofs.Whole as W
@@ -12,8 +11,8 @@ use Rattle.projects.proofs.push.put_pushed.Goals as goal
 pub width-requires : goal.width-requires
 width-requires c = side-room _ _ _ _ _ _ _ _ _ _ _ _ _ _ _ _ _ _ c.requires.2
 
-pub put_columns-c-requires : goal.put_columns-c-requires
-put_columns-c-requires c =
+pub put_columns-requires : goal.put_columns-requires
+put_columns-requires c =
     let d = c.requires.2 in (side-inside _ _ _ _ _ _ _ _ _ _ _ _ _ _ _ _ _ _ d, c.width.ensures ∙ side-width _ _ _ _ _ _ _ _ _ _ _ _ _ _ _ _ _ _ d)
 
 pub put_side-requires : goal.put_side-requires
@@ -21,4 +20,10 @@ put_side-requires c = let p = c.requires in (prefix_v, false, p.0, [], p.1, p.2)
 
 pub returns : goal.returns
 returns c =
-    λ x ks d. P.push-pass c.args.query.now c.args.table.now c.args.spots.now c.args.constants.now c.args.news.now c.args.found x ks d c.args.head.now (em 0 c.args.out.now) (em c.put-d.result c.put-d.new.out) (em c.put_side.result c.put_side.new.out) (W.one-head _ _ _ _ _ _ _ c.put_all-a.ensures c.put_all-b.ensures c.put_columns-c.ensures c.put-d.ensures) c.put_side.ensures
+    record {
+      is = λ x ks d. P.push-pass c.args.query.now c.args.table.now c.args.spots.now c.args.constants.now c.args.news.now c.args.found x ks d c.args.head.now
+          (λ t. record {
+            same = c.put.ensures.same ∙ c.put_columns.ensures.same ∙ c.put_all-2.ensures.same ∙ c.put_all.ensures.same;
+            puts = W.one-head _ _ _ _ _ _ _ c.put_all.ensures.puts c.put_all-2.ensures.puts c.put_columns.ensures.puts c.put.ensures.puts t;
+          }) c.put_side.ensures;
+    }

@@ -2,14 +2,19 @@
 use Rattle.surveying.proofs.Tables as S
 use Rattle.renaming.proofs.Tables as T
 use Rattle.renaming.proofs.Renamed as R
+use mathlib.Core.Logic.{inl, inr}
+use Rattle.std.proofs.lemmas.Result.{err_from_is_err_and}
+use Rattle.algebra.proofs.Faults.{which}
 use Rattle.renaming.proofs.rename.rename_with.Goals as goal
 
 pub rename_by-requires : goal.rename_by-requires
 rename_by-requires c =
-    T.good-recorded _ _ _ _ c.args.spots.now _ _ _ _ c.note_tree.ensures _ _ _ c.args.nodes.now c.all_words-words.ensures c.requires c.in-Good.is c.note_tree.auto.nodes
+    T.good-recorded _ _ _ _ c.args.spots.now _ _ _ _ c.note_tree.ensures _ _ _ c.args.nodes.now c.all_words-words.ensures c.requires c.in_ok-noted.was c.note_tree.auto.nodes
 
-pub returns-in-Malformed : goal.returns-in-Malformed
-returns-in-Malformed c = R.tree-malformed _ _ _ (S.noted-malformed _ _ _ _ _ _ _ _ _ c.note_tree.ensures c.in-Malformed.is)
-
-pub returns-in-OverBound : goal.returns-in-OverBound
-returns-in-OverBound c = R.tree_over _ _ _ (S.noted-over _ _ _ _ _ _ _ _ _ c.note_tree.ensures c.in-OverBound.is)
+pub returns-in_err-noted : goal.returns-in_err-noted
+returns-in_err-noted c =
+    let exit = err_from_is_err_and c.from_residual.result c.from_residual.ensures.1 in
+    elim (which _ _ c.in_err-noted.was) [
+      | inl fault ↦ rw (exit.1, exit.2, fault.1) (R.tree-malformed _ _ _ (S.noted-malformed _ _ _ _ _ _ _ _ _ c.note_tree.ensures fault.0))
+      | inr fault ↦ rw (exit.1, exit.2, fault.1) (R.tree_over _ _ _ (S.noted-over _ _ _ _ _ _ _ _ _ c.note_tree.ensures fault.0))
+    ]

@@ -24,12 +24,12 @@ returns-in_default-read_positions c =
 
 pub position_mask-requires : goal.position_mask-requires
 position_mask-requires c =
-    let k = S.kept-asked _ _ _ _ _ _ _ _ (S.found_all _ _ _ _ _ _ _ _ (c.read_positions.ensures.2 c.requires.0.joins c.requires.0.joins_listed) c.in-Are.is) c.requires.0.joins_listed in (k.0, c.read_positions.ensures.0, let w = (c.find_columns-found.ensures.1 _ c.requires.0.lines).0 in let n = c.requires.0.narrow in omega arith, k.1)
+    let k = S.kept-asked _ _ _ _ _ _ _ _ (S.found_all _ _ _ _ _ _ _ _ (c.read_positions.ensures.2 c.requires.0.joins c.requires.0.joins_listed) c.in-Some.is) c.requires.0.joins_listed in (k.0, c.read_positions.ensures.0, let w = (c.find_columns-found.ensures.1 _ c.requires.0.lines).0 in let n = c.requires.0.narrow in omega arith, k.1)
 
 pub position_mask-requires-2 : goal.position_mask-requires-2
 position_mask-requires-2 c =
-    let k = S.kept-asked _ _ _ _ _ _ _ _ (S.found_all _ _ _ _ _ _ _ _ (c.read_positions-2.ensures.2 c.requires.0.terms c.requires.0.terms_listed) c.in-Are-read_positions.is) c.requires.0.terms_listed in (k.0, c.read_positions-2.ensures.0, let w = (c.find_columns-found.ensures.1 _ c.requires.0.lines).0 in let n = c.requires.0.narrow in omega arith, k.1)
+    let k = S.kept-asked _ _ _ _ _ _ _ _ (S.found_all _ _ _ _ _ _ _ _ (c.read_positions-2.ensures.2 c.requires.0.terms c.requires.0.terms_listed) c.in-Some-read_positions.is) c.requires.0.terms_listed in (k.0, c.read_positions-2.ensures.0, let w = (c.find_columns-found.ensures.1 _ c.requires.0.lines).0 in let n = c.requires.0.narrow in omega arith, k.1)
 
 pub returns : goal.returns
 returns c =
-    (c.read_positions.ensures.0, c.read_positions-2.ensures.0, λ x js ks t lj lk. S.all_found _ _ _ _ _ _ x js ks _ _ _ _ _ _ (S.found_all _ _ _ _ _ _ _ _ (c.read_positions.ensures.2 js lj) c.in-Are.is) (S.found_all _ _ _ _ _ _ _ _ (c.read_positions-2.ensures.2 ks lk) c.in-Are-read_positions.is) c.find_columns-found.ensures.0 (c.find_columns-found.ensures.1 x t) lj _ _ c.position_mask-2.ensures c.position_mask.ensures)
+    (c.read_positions.ensures.0, c.read_positions-2.ensures.0, λ x js ks t lj lk. S.all_found _ _ _ _ _ _ x js ks _ _ _ _ _ _ (S.found_all _ _ _ _ _ _ _ _ (c.read_positions.ensures.2 js lj) c.in-Some.is) (S.found_all _ _ _ _ _ _ _ _ (c.read_positions-2.ensures.2 ks lk) c.in-Some-read_positions.is) c.find_columns-found.ensures.0 (c.find_columns-found.ensures.1 x t) lj _ _ c.position_mask-2.ensures c.position_mask.ensures)

@@ -1,5 +1,5 @@
 -- What the loops of `side.join_entries` keep. Assumes nothing.
-use Prim.Native.Nat.{ℕ, ◌-◌, ◌≤◌, ◌<◌}
+use Prim.Native.Nat.{ℕ, ◌≤◌, ◌<◌}
 use mathlib.Core.Path.{◌≡◌}
 use lib.ListN.{length, get_or}
 use Rattle.algebra.specs.Tally.{bounds}
@@ -8,6 +8,3 @@ use Rattle.sides.proofs.side.join_entries.Given as goal
 
 abbrev pub invariant-loop-i : goal.invariant-loop-i
 invariant-loop-i l = (length l.joins ≡ bounds.entries) × (l.i ≤ l.m) × ((k : ℕ) → k < l.i → get_or l.joins k 0 ≡ N.entry_at l.spots (get_or l.at k 0))
-
-abbrev pub decreases-loop-i : goal.decreases-loop-i
-decreases-loop-i l = l.m - l.i

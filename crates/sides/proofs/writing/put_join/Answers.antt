@@ -2,8 +2,5 @@
 use Rattle.sides.proofs.Values as Lines
 use Rattle.sides.proofs.writing.put_join.Goals as goal
 
-pub returns-then-m-eq0 : goal.returns-then-m-eq0
-returns-then-m-eq0 c = Lines.join-none _ _ c.if-m-eq0.true
-
-pub returns : goal.returns
-returns c = Lines.join-put _ _ _ c.if-m-eq0.false c.put_all.ensures
+pub returns-then-m-ne0 : goal.returns-then-m-ne0
+returns-then-m-ne0 c = λ t. record { same = c.put_all.ensures.same; puts = Lines.join-put _ _ _ c.if-m-ne0.true c.put_all.ensures.puts t }

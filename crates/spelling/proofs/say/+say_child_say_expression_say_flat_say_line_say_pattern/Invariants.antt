@@ -1,5 +1,5 @@
 -- What falls, and what the loops keep. Assumes nothing.
-use Prim.Native.Nat.{◌+◌, ◌*◌, ◌≤◌}
+use Prim.Native.Nat.{◌+◌, ◌-◌, ◌*◌}
 use mathlib.Core.Path.{◌≡◌}
 use lib.ListN.{length}
 use Rattle.text.specs.Text.{lines_from, split, part}
@@ -24,14 +24,8 @@ decreases-say_line l = 4 * l.depth + 3
 abbrev pub decreases-say_pattern : goal.decreases-say_pattern
 decreases-say_pattern l = 4 * l.depth
 
-abbrev pub invariant-say_flat-loop-children : goal.invariant-say_flat-loop-children
-invariant-say_flat-loop-children l = (length l.out ≡ length l.initial.out) × (l.i + l.children ≤ 17179869183) × G.Going (said_tree l.depth) (split 9 (part l.from l.end l.query)) (lines_from l.query (l.end + 1)) l.i l.children (lines_from l.query l.next) (em l.to l.out) (said_children (said_tree l.depth) (split 9 (part l.from l.end l.query)) (lines_from l.query (l.end + 1)) 0 (to_come (split 9 (part l.from l.end l.query))) (lines_from l.query (l.end + 1))) (em l.initial.to l.initial.out)
+abbrev pub invariant-say_flat-loop-i : goal.invariant-say_flat-loop-i
+invariant-say_flat-loop-i l = (length l.out ≡ length l.initial.out) × G.Going (said_tree l.depth) (split 9 (part l.from l.end l.query)) (lines_from l.query (l.end + 1)) l.i (l.children - l.i) (lines_from l.query l.next) (em l.to l.out) (said_children (said_tree l.depth) (split 9 (part l.from l.end l.query)) (lines_from l.query (l.end + 1)) 0 (to_come (split 9 (part l.from l.end l.query))) (lines_from l.query (l.end + 1))) (em l.initial.to l.initial.out)
 
-abbrev pub decreases-say_flat-loop-children : goal.decreases-say_flat-loop-children
-decreases-say_flat-loop-children l = l.children
-
-abbrev pub invariant-say_line-loop-children : goal.invariant-say_line-loop-children
-invariant-say_line-loop-children l = (length l.out ≡ length l.initial.out) × (l.i + l.children ≤ 17179869183) × G.Going (said_child (said_tree l.depth)) (split 9 (part l.from l.end l.query)) (lines_from l.query (l.end + 1)) l.i l.children (lines_from l.query l.next) (em l.to l.out) (said_children (said_child (said_tree l.depth)) (split 9 (part l.from l.end l.query)) (lines_from l.query (l.end + 1)) 0 (to_come (split 9 (part l.from l.end l.query))) (lines_from l.query (l.end + 1))) (em l.initial.to l.initial.out)
-
-abbrev pub decreases-say_line-loop-children : goal.decreases-say_line-loop-children
-decreases-say_line-loop-children l = l.children
+abbrev pub invariant-say_line-loop-i : goal.invariant-say_line-loop-i
+invariant-say_line-loop-i l = (length l.out ≡ length l.initial.out) × G.Going (said_child (said_tree l.depth)) (split 9 (part l.from l.end l.query)) (lines_from l.query (l.end + 1)) l.i (l.children - l.i) (lines_from l.query l.next) (em l.to l.out) (said_children (said_child (said_tree l.depth)) (split 9 (part l.from l.end l.query)) (lines_from l.query (l.end + 1)) 0 (to_come (split 9 (part l.from l.end l.query))) (lines_from l.query (l.end + 1))) (em l.initial.to l.initial.out)

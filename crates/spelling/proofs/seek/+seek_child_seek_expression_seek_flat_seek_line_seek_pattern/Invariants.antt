@@ -1,5 +1,5 @@
 -- What falls, and what the loops keep. Assumes nothing.
-use Prim.Native.Nat.{◌+◌, ◌*◌, ◌≤◌}
+use Prim.Native.Nat.{◌+◌, ◌-◌, ◌*◌}
 use Rattle.text.specs.Text.{lines_from, split, part}
 use Rattle.filtering.specs.bridge.Copying.{to_come}
 use Rattle.spelling.specs.bridge.Seeking.{sought_children, sought_child, sought_tree}
@@ -21,14 +21,8 @@ decreases-seek_line l = 4 * l.depth + 3
 abbrev pub decreases-seek_pattern : goal.decreases-seek_pattern
 decreases-seek_pattern l = 4 * l.depth
 
-abbrev pub invariant-seek_flat-loop-children : goal.invariant-seek_flat-loop-children
-invariant-seek_flat-loop-children l = (l.i + l.children ≤ 17179869183) × G.Searching (sought_tree l.depth l.v) l.shown (split 9 (part l.from l.end l.query)) l.i l.children (lines_from l.query l.next) l.found (sought_children (sought_tree l.depth l.v) l.shown (split 9 (part l.from l.end l.query)) 0 (to_come (split 9 (part l.from l.end l.query))) (lines_from l.query (l.end + 1))) l.initial.found
+abbrev pub invariant-seek_flat-loop-i : goal.invariant-seek_flat-loop-i
+invariant-seek_flat-loop-i l = G.Searching (sought_tree l.depth l.v) l.shown (split 9 (part l.from l.end l.query)) l.i (l.children - l.i) (lines_from l.query l.next) l.found (sought_children (sought_tree l.depth l.v) l.shown (split 9 (part l.from l.end l.query)) 0 (to_come (split 9 (part l.from l.end l.query))) (lines_from l.query (l.end + 1))) l.initial.found
 
-abbrev pub decreases-seek_flat-loop-children : goal.decreases-seek_flat-loop-children
-decreases-seek_flat-loop-children l = l.children
-
-abbrev pub invariant-seek_line-loop-children : goal.invariant-seek_line-loop-children
-invariant-seek_line-loop-children l = (l.i + l.children ≤ 17179869183) × G.Searching (sought_child (sought_tree l.depth l.v) l.v) l.shown (split 9 (part l.from l.end l.query)) l.i l.children (lines_from l.query l.next) l.found (sought_children (sought_child (sought_tree l.depth l.v) l.v) l.shown (split 9 (part l.from l.end l.query)) 0 (to_come (split 9 (part l.from l.end l.query))) (lines_from l.query (l.end + 1))) l.initial.found
-
-abbrev pub decreases-seek_line-loop-children : goal.decreases-seek_line-loop-children
-decreases-seek_line-loop-children l = l.children
+abbrev pub invariant-seek_line-loop-i : goal.invariant-seek_line-loop-i
+invariant-seek_line-loop-i l = G.Searching (sought_child (sought_tree l.depth l.v) l.v) l.shown (split 9 (part l.from l.end l.query)) l.i (l.children - l.i) (lines_from l.query l.next) l.found (sought_children (sought_child (sought_tree l.depth l.v) l.v) l.shown (split 9 (part l.from l.end l.query)) 0 (to_come (split 9 (part l.from l.end l.query))) (lines_from l.query (l.end + 1))) l.initial.found

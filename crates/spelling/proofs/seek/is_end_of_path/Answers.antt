@@ -19,4 +19,4 @@ is_field-requires-2 c = (c.requires.0, c.field_at-path.ensures.last)
 
 pub returns : goal.returns
 returns c =
-    c.either.ensures ∙ ap₂ ◌||◌ c.is_field.ensures (c.is_field-2.ensures ∙ ap (same _) (F.third _ _ _ _ c.field_at-subject.ensures _ c.field_at-path.ensures))
+    ap₂ ◌||◌ c.is_field.ensures (c.is_field-2.ensures ∙ ap (same _) (F.third _ _ _ _ c.field_at-subject.ensures _ c.field_at-path.ensures))

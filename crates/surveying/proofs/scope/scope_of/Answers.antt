@@ -1,5 +1,7 @@
 -- `surveying::scope/scope_of` meets its contract. Assumes nothing.
-use native.Mathlib.Omega.{arith}
+use Rattle.std.proofs.Common.{rules}
+use Rattle.names.specs.bridge.Names.{names_in}
+use Rattle.surveying.specs.bridge.Code.{chosen_text}
 use Rattle.surveying.proofs.Tables as T
 use Rattle.surveying.proofs.Scoped as S
 use Rattle.surveying.proofs.scope.scope_of.Goals as goal
@@ -7,16 +9,10 @@ use Rattle.surveying.proofs.scope.scope_of.Goals as goal
 pub note_places-requires : goal.note_places-requires
 note_places-requires c = T.surveyed-inside _ _ _ _ _ _ c.requires
 
-pub put_scope-need-requires : goal.put_scope-need-requires
-put_scope-need-requires c = T.surveyed-high _ _ _ _ _ _ c.requires
-
-pub returns-then-out-need : goal.returns-then-out-need
-returns-then-out-need c =
-    S.scope-short _ _ _ _ _ _ c.requires _ c.note_places.ensures _ _ _ _ c.put_scope-need.ensures c.if-out-need.true
-
-pub put_scope-size-requires : goal.put_scope-size-requires
-put_scope-size-requires c = T.surveyed-high _ _ _ _ _ _ c.requires
+pub write_answer-requires : goal.write_answer-requires
+write_answer-requires c = let h = T.surveyed-high _ _ _ _ _ _ c.requires in search rules
 
 pub returns : goal.returns
 returns c =
-    S.scope-written _ _ _ _ _ _ c.requires _ c.note_places.ensures _ _ _ _ c.put_scope-need.ensures _ _ c.if-out-need.false (let g = c.well_formed in omega (arith, g)) c.put_scope-size.ensures
+    let b = chosen_text c.note_places.new.flags (names_in c.args.tree.now c.args.table.now c.args.n) in
+    S.scope-answered _ _ _ _ _ _ c.requires _ c.note_places.ensures _ _ _ (c.write_answer.ensures b (λ w w' p. search rules))

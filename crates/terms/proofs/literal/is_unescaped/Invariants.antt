@@ -1,13 +1,9 @@
 -- What the loops of `literal.is_unescaped` keep. Assumes nothing.
-use Rattle.terms.proofs.Laws as L
-use Prim.Native.Nat.{◌-◌}
 use mathlib.Core.Path.{◌≡◌}
-use lib.ListN.{length, drop}
-use Rattle.editions.specs.Lexical.{unescaped}
+use mathlib.Core.Bool.{not, ◌&&◌}
+use lib.ListN.{drop}
+use Rattle.editions.specs.Lexical.{starts_u, unescaped}
 use Rattle.terms.proofs.literal.is_unescaped.Given as goal
 
-abbrev pub invariant-loop-i : goal.invariant-loop-i
-invariant-loop-i l = unescaped (drop l.from l.f) ≡ L.plain_from l.slash (drop l.i l.f)
-
-abbrev pub decreases-loop-i : goal.decreases-loop-i
-decreases-loop-i l = length l.f - l.i
+abbrev pub invariant-loop-b : goal.invariant-loop-b
+invariant-loop-b l = unescaped l.f ≡ (not (l.slash && starts_u (drop l.b-index l.f)) && unescaped (drop l.b-index l.f))

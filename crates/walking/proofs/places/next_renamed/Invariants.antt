@@ -1,10 +1,7 @@
 -- What the loops of `places.next_renamed` keep. Assumes nothing.
-use Prim.Native.Nat.{◌-◌, ◌≤◌}
+use Prim.Native.Nat.{◌≤◌}
 use Rattle.walking.specs.bridge.Code.{Unmarked}
 use Rattle.walking.proofs.places.next_renamed.Given as goal
 
 abbrev pub invariant-loop-j : goal.invariant-loop-j
 invariant-loop-j l = (l.i ≤ l.j) × (l.j ≤ l.k) × Unmarked l.spots l.i l.j
-
-abbrev pub decreases-loop-j : goal.decreases-loop-j
-decreases-loop-j l = l.k - l.j

@@ -26,8 +26,8 @@ pub slice_bounds-put_all-end : goal.slice_bounds-put_all-end
 slice_bounds-put_all-end c =
     let w = L.going-places _ _ _ _ _ _ _ _ _ c.requires.1 c.requires.2 _ _ _ _ _ _ _ c.loop-j.invariant.1 c.loop-j-test.true _ _ _ c.wide-start.ensures c.wide-entry.ensures (refl) in let x = w.0 in let y = w.1 in let z = w.2 in omega arith
 
-pub put_new-put-requires : goal.put_new-put-requires
-put_new-put-requires c =
+pub put_new-requires : goal.put_new-requires
+put_new-requires c =
     let l = L.inside-at _ _ _ _ c.requires.2 c.loop-j-test.true in let e = c.wide-entry.ensures in let h = c.requires.0 in omega arith
 
 pub name_size-requires : goal.name_size-requires
@@ -46,7 +46,7 @@ loop-j-smaller c = let x = c.next_renamed-j-in-loop-j.ensures in let a = x.low i
 
 pub loop-j-preserved : goal.loop-j-preserved
 loop-j-preserved c =
-    (c.put_new-put.auto.out ∙ c.put_all-copied.auto.out ∙ c.loop-j.invariant.0, L.going_next _ _ _ _ _ _ _ _ _ c.requires.1 c.requires.2 _ _ _ _ _ _ _ c.loop-j.invariant.1 c.loop-j-test.true _ _ _ _ _ _ _ c.wide-start.ensures c.wide-entry.ensures c.name_size.ensures c.put_all-copied.ensures c.put_new-put.ensures (L.next-is _ _ _ _ _ _ c.requires.0 c.requires.2 c.requires.3 c.next_renamed-j-in-loop-j.ensures) refl)
+    (c.put_new.ensures.same ∙ c.put_all.ensures.same ∙ c.loop-j.invariant.0, L.going_next _ _ _ _ _ _ _ _ _ c.requires.1 c.requires.2 _ _ _ _ _ _ _ c.loop-j.invariant.1 c.loop-j-test.true _ _ _ _ _ _ _ c.wide-start.ensures c.wide-entry.ensures c.name_size.ensures c.put_all.ensures.puts c.put_new.ensures.puts (L.next-is _ _ _ _ _ _ c.requires.0 c.requires.2 c.requires.3 c.next_renamed-j-in-loop-j.ensures) refl)
 
 pub slice_bounds-put_all-count-2 : goal.slice_bounds-put_all-count-2
 slice_bounds-put_all-count-2 c =
@@ -60,9 +60,8 @@ pub slice_bounds-put_all-end-2 : goal.slice_bounds-put_all-end-2
 slice_bounds-put_all-end-2 c =
     let w = L.going-high _ _ _ _ _ _ _ _ _ c.requires.1 c.requires.2 _ _ _ _ _ _ _ c.loop-j.invariant.1 in let x = w.0 in let y = w.1 in omega arith
 
-pub shape_of-out : goal.shape_of-out
-shape_of-out c = c.put_all.auto.out ∙ c.loop-j.invariant.0
-
 pub returns : goal.returns
-returns c =
-    L.going_end _ _ _ _ _ _ _ _ _ c.requires.1 c.requires.2 _ _ _ _ _ _ _ c.loop-j.invariant.1 _ c.loop-j-test.false c.put_all.ensures
+returns c = record {
+  same = c.put_all-2.ensures.same ∙ c.loop-j.invariant.0;
+  is = L.going_end _ _ _ _ _ _ _ _ _ c.requires.1 c.requires.2 _ _ _ _ _ _ _ c.loop-j.invariant.1 _ c.loop-j-test.false c.put_all-2.ensures.puts;
+}

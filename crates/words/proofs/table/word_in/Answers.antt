@@ -16,9 +16,6 @@ bounds-words-i c = omega arith
 pub returns-then-w-key : goal.returns-then-w-key
 returns-then-w-key c = (omega arith, sym (L.step-here _ _ _ _ c.loop-i-test.true c.if-w-key.true) ∙ c.loop-i.invariant)
 
-pub loop-i-smaller : goal.loop-i-smaller
-loop-i-smaller c = omega arith
-
 pub loop-i-preserved : goal.loop-i-preserved
 loop-i-preserved c = L.step_past _ _ _ _ c.loop-i-test.true c.if-w-key.false ∙ c.loop-i.invariant
 

@@ -7,6 +7,3 @@ use Rattle.words.proofs.table.word_in.Given as goal
 
 abbrev pub invariant-loop-i : goal.invariant-loop-i
 invariant-loop-i l = code_by l.key (take (l.to - l.i) (drop l.i l.words)) ≡ code_by l.key (take (l.to - l.from) (drop l.from l.words))
-
-abbrev pub decreases-loop-i : goal.decreases-loop-i
-decreases-loop-i l = l.to - l.i
