@@ -49,7 +49,7 @@ const WITHOUT: [u8; 7] = *b"without";
 
 const NAMESPACES: [u8; 10] = *b"namespaces";
 
-// A call's number by its name; 10 is no call's.
+// A call's number by its name; 10 is no call's. Calls stay numbers and become no enum: `answer` promises an answer for every number.
 pub fn call_number(name: &[u8]) -> u32
     ensures { result ≡ call_number name.now }
 {

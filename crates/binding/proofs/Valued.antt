@@ -16,7 +16,7 @@ use Rattle.cursor.specs.bridge.Cursor.{left}
 use Rattle.cursor.proofs.Laws.{left-none}
 use Rattle.text.proofs.Parts.{part_join}
 use Rattle.emit.specs.bridge.Emit.{Em, puts}
-use Rattle.emit.proofs.Laws.{puts-append, puts-nil}
+use Rattle.emit.proofs.Laws.{puts-nil}
 use Rattle.walking.specs.bridge.Walk.{tabbed}
 use Rattle.reader.specs.bridge.Lines.{LineEnd}
 use Rattle.reader.proofs.Laws.{nothing-here}
@@ -34,23 +34,16 @@ use Rattle.binding.specs.bridge.Bound.{bound_from}
 
 -- ---- the fields of a line
 
-tabbed-next : (f : Bytes) (fs : List Bytes) (e x y : Em) → x ≡ puts (9 ∷ []) e → y ≡ puts f x → puts (tabbed fs) y ≡ puts (tabbed (f ∷ fs)) e
-unfolding tabbed
-tabbed-next f fs e x y p q = ap (puts (tabbed fs)) (q ∙ ap (puts f) p) ∙ sym (puts-append (9 ∷ []) (f ++ tabbed fs) e ∙ puts-append f (tabbed fs) (puts (9 ∷ []) e))
-
-tabbed-none : (e : Em) → puts (tabbed []) e ≡ e
-unfolding tabbed
-tabbed-none e = puts-nil e
-
 module _ (cs : List Bytes) (s : Bytes) (next end : ℕ) where
-  pub bound-next : next ≤ end → (f : Field) → FieldIs s next end f → (k : ℕ) → k ≡ position (part next f.to s) → (c : Bytes) → c ≡ get_or cs k [] → (e x y : Em) → x ≡ puts (9 ∷ []) e → y ≡ puts c x
-      → puts (tabbed (bound_from cs (left s f.next end))) y ≡ puts (tabbed (bound_from cs (left s next end))) e
-  bound-next h f i k p c q e x y a b =
-      tabbed-next c (bound_from cs (left s f.next end)) e x y a b
-      ∙ ap (λ (l : List Bytes). puts (tabbed l) e) (ap (λ (d : Bytes). d ∷ bound_from cs (left s f.next end)) (q ∙ ap (λ (j : ℕ). get_or cs j []) p) ∙ ap (bound_from cs) (sym (i.here h)))
+  pub bound-next : next ≤ end → (f : Field) → FieldIs s next end f → (k : ℕ) → k ≡ position (part next f.to s) → (c : Bytes) → c ≡ get_or cs k []
+      → tabbed (bound_from cs (left s next end)) ≡ (9 ∷ c) ++ tabbed (bound_from cs (left s f.next end))
+  unfolding tabbed
+  bound-next h f i k p c q =
+      ap tabbed (ap (bound_from cs) (i.here h) ∙ ap (λ (d : Bytes). d ∷ bound_from cs (left s f.next end)) (sym (q ∙ ap (λ (j : ℕ). get_or cs j []) p)))
 
-  pub bound-done : end < next → (e : Em) → puts (tabbed (bound_from cs (left s next end))) e ≡ e
-  bound-done h e = ap (λ (l : List Bytes). puts (tabbed (bound_from cs l)) e) (left-none s next end h) ∙ tabbed-none e
+  pub bound-done : end < next → tabbed (bound_from cs (left s next end)) ≡ []
+  unfolding tabbed
+  bound-done h = ap (λ (l : List Bytes). tabbed (bound_from cs l)) (left-none s next end h)
 
 -- a value's cell, and those behind its three fields
 cells-cons : (d : Bytes) (gs : List Bytes) → cells_from (d ∷ gs) ≡ cell_from d (get_or gs 0 []) (get_or (drop 1 gs) 0 []) ∷ cells_from (drop 1 (drop 1 gs))
@@ -69,13 +62,13 @@ module _ (s : Bytes) (next end : ℕ) where
         (λ t. term_of (sym p t) (sym j.is t) (sym (k.is ∙ ap (λ (fs : List Bytes). get_or fs 0 []) j.rest) t))
         (ap cells_from (sym (k.rest ∙ ap (drop 1) j.rest)))
 
-    pub cells-next : (e y z : Em) → y ≡ puts (9 ∷ []) e → z ≡ puts (term_of m (part d.next l.to s) (part l.next x.to s)) y
-        → puts (tabbed (cells_from (left s x.next end))) z ≡ puts (tabbed (cells_from (left s next end))) e
-    cells-next e y z a b = tabbed-next _ (cells_from (left s x.next end)) e y z a b ∙ ap (λ (fs : List Bytes). puts (tabbed fs) e) (sym cell)
+    pub cells-next : tabbed (cells_from (left s next end)) ≡ (9 ∷ term_of m (part d.next l.to s) (part l.next x.to s)) ++ tabbed (cells_from (left s x.next end))
+    unfolding tabbed
+    cells-next = ap tabbed cell
 
-  pub cells-done : end < next → (e : Em) → puts (tabbed (cells_from (left s next end))) e ≡ e
-  unfolding cells_from
-  cells-done h e = ap (λ (l : List Bytes). puts (tabbed (cells_from l)) e) (left-none s next end h) ∙ tabbed-none e
+  pub cells-done : end < next → tabbed (cells_from (left s next end)) ≡ []
+  unfolding cells_from tabbed
+  cells-done h = ap (λ (l : List Bytes). tabbed (cells_from l)) (left-none s next end h)
 
 -- ---- one line
 
@@ -123,16 +116,16 @@ module _ (cs : List Bytes) (s : Bytes) (from end w : ℕ) (h : from ≤ end) (i 
 abbrev pub ValuesText : List Bytes → List Line → Bytes
 ValuesText cs ls = text_of (map (values_line cs) ls)
 
-module _ (cs : List Bytes) (s : Bytes) (from : ℕ) (e : Em) where
-  nothing-more : lines_from s from ≡ [] → puts (ValuesText cs (lines_from s from)) e ≡ e
+module _ (cs : List Bytes) (s : Bytes) (from : ℕ) where
+  nothing-more : lines_from s from ≡ [] → ValuesText cs (lines_from s from) ≡ []
   unfolding text_of
-  nothing-more z = ap (λ (ls : List Line). puts (ValuesText cs ls) e) z ∙ puts-nil e
+  nothing-more z = ap (ValuesText cs) z
 
-  pub values-done : length s ≤ from → puts (ValuesText cs (lines_from s from)) e ≡ e
+  pub values-done : length s ≤ from → ValuesText cs (lines_from s from) ≡ []
   values-done h = nothing-more (lines_end s from h)
 
   module _ (end : ℕ) (l : LineEnd s from end) where
-    pub values-stop : Ended (lines_from s from) → end ≡ length s → puts (ValuesText cs (lines_from s from)) e ≡ e
+    pub values-stop : Ended (lines_from s from) → end ≡ length s → ValuesText cs (lines_from s from) ≡ []
     values-stop n q = ⊎_elim nothing-more (λ z. absurd (subst Ended z n)) (nothing-here s from end l q)
 
     module _ (more : end ≡ length s → ⊥) where
@@ -145,10 +138,8 @@ module _ (cs : List Bytes) (s : Bytes) (from : ℕ) (e : Em) where
       pub values-ended : Ended (lines_from s from) → Ended (lines_from s (end + 1))
       values-ended n = behind-line (split 9 (part from end s)) (lines_from s (end + 1)) (subst Ended (lines_next s from end (l.ends ends) ends) n)
 
-      pub values-next : (x y : Em) → puts (10 ∷ []) x ≡ puts (ended (values_line cs (split 9 (part from end s))) []) e → y ≡ puts (10 ∷ []) x → puts (ValuesText cs (lines_from s (end + 1))) y ≡ puts (ValuesText cs (lines_from s from)) e
+      pub values-next : ValuesText cs (lines_from s from) ≡ ended (values_line cs (split 9 (part from end s))) [] ++ ValuesText cs (lines_from s (end + 1))
       unfolding text_of
-      values-next x y p q =
-          ap (puts (ValuesText cs (lines_from s (end + 1)))) (q ∙ p)
-          ∙ sym (puts-append (ended (values_line cs (split 9 (part from end s))) []) (ValuesText cs (lines_from s (end + 1))) e)
-          ∙ ap (λ (b : Bytes). puts b e) (sym (ended-append (values_line cs (split 9 (part from end s))) [] (ValuesText cs (lines_from s (end + 1)))))
-          ∙ ap (λ (ls : List Line). puts (ValuesText cs ls) e) (sym (lines_next s from end (l.ends ends) ends))
+      values-next =
+          ap (ValuesText cs) (lines_next s from end (l.ends ends) ends)
+          ∙ ended-append (values_line cs (split 9 (part from end s))) [] (ValuesText cs (lines_from s (end + 1)))

@@ -3,7 +3,7 @@ use Prim.Native.Nat.{ℕ, ◌+◌, ◌-◌, ◌*◌, ◌≤◌, ◌<◌, min}
 use mathlib.Core.Path.{◌≡◌, refl, sym, ap, ap₂, subst, ◌∙◌}
 use mathlib.Core.Logic.{inl, inr, ⊎_elim}
 use mathlib.Core.Bool.{Bool, true, false, cond, not, ◌&&◌}
-use mathlib.Core.List.{List, [], ◌∷◌, ◌++◌, map}
+use mathlib.Core.List.{List, [], ◌∷◌, ◌++◌, map, append_assoc}
 use mathlib.Core.Option.{none}
 use native.Mathlib.Omega.{arith}
 use lib.ListN.{length, take, drop, length-drop}
@@ -18,9 +18,9 @@ use Rattle.algebra.specs.Layout.{put, put_sets, layout}
 use Rattle.algebra.specs.Reader.{reads, refuses, malformed, over_bound}
 use Rattle.algebra.specs.Texts.{read_tree, read_sets}
 use Rattle.emit.specs.bridge.Emit.{Em, em, last, puts}
-use Rattle.emit.proofs.Laws.{puts-append, puts-at, puts-past}
+use Rattle.emit.proofs.Laws.{puts-at, puts-past}
 use Rattle.algebra.proofs.Theorem.{sets-exactly}
-use Rattle.answers.specs.Outcome.{written, refused, refused_unless, Reported, Answered}
+use Rattle.answers.specs.Outcome.{written, refused_unless, Reported, Answered}
 use Rattle.answers.proofs.Answers.{too_short, all-written, answered}
 use Rattle.scoping.specs.Sets.{all}
 use Rattle.scoping.specs.Premises.{inside}
@@ -50,22 +50,20 @@ use Rattle.answers.specs.declared.Refusal.TheVariants.{Malformed, NotUsable, Out
 
 -- ---- the five pieces
 
-pub bound-put : (s : Bytes) (inner end joins : ℕ) (cs : List Bytes) (ls : List Line) (e a b c d r : Em)
-    → a ≡ puts (take inner s) e → b ≡ puts (text_of (repeated joins (bytes "join") [])) a → c ≡ puts (part inner end s) b → d ≡ puts (text_of (map (values_line cs) ls)) c → r ≡ puts (part end (length s) s) d
-    → r ≡ puts (bound_at s inner end joins cs ls) e
+pub bound-put : (s : Bytes) (inner end joins : ℕ) (cs : List Bytes) (ls : List Line)
+    → (((take inner s ++ text_of (repeated joins (bytes "join") [])) ++ part inner end s) ++ text_of (map (values_line cs) ls)) ++ part end (length s) s ≡ bound_at s inner end joins cs ls
 unfolding bound_at
-bound-put s inner end joins cs ls e a b c d r p q u v w =
+bound-put s inner end joins cs ls =
+    let A = take inner s in
     let J = text_of (repeated joins (bytes "join") []) in
     let X = part inner end s in
     let Y = text_of (map (values_line cs) ls) in
-    let z : part end (length s) s ≡ drop end s = take_all (length s - end) (drop end s) (simp length-drop (omega arith)) in
-    w
-    ∙ ap (λ (l : Bytes). puts l d) z
-    ∙ ap (puts (drop end s)) (v ∙ ap (puts Y) (u ∙ ap (puts X) (q ∙ ap (puts J) p)))
-    ∙ sym (puts-append (take inner s) (J ++ (X ++ (Y ++ drop end s))) e
-    ∙ puts-append J (X ++ (Y ++ drop end s)) _
-    ∙ puts-append X (Y ++ drop end s) _
-    ∙ puts-append Y (drop end s) _)
+    let Z = drop end s in
+    let z : part end (length s) s ≡ Z = take_all (length s - end) (drop end s) (simp length-drop (omega arith)) in
+    ap (λ (b : Bytes). (((A ++ J) ++ X) ++ Y) ++ b) z
+    ∙ append_assoc ((A ++ J) ++ X) Y Z
+    ∙ append_assoc (A ++ J) X (Y ++ Z)
+    ∙ append_assoc A J (X ++ (Y ++ Z))
 
 -- ---- the outcome
 

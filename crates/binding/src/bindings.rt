@@ -9,7 +9,7 @@ ghost use Rattle.algebra.specs.Texts.{read_tree, read_sets};
 ghost use Rattle.algebra.specs.Tally.{bounds};
 ghost use Rattle.words.specs.bridge.Words.{Worded};
 ghost use Rattle.names.specs.bridge.Names.{names_in};
-ghost use Rattle.emit.specs.bridge.Emit.{em, puts};
+ghost use Rattle.emit.specs.bridge.Writer.{Wrote};
 ghost use Rattle.answers.specs.Outcome.{Answered};
 ghost use Rattle.filtering.specs.Bindings.{bindings_outcome};
 ghost use Rattle.filtering.specs.bridge.AsIs.{bindings_as_is};
@@ -19,7 +19,7 @@ use crate::judge::judge;
 use crate::values::put_values;
 use algebra::{COLUMNS, EMPTY_TREE};
 use answers::{Answer, Refusal};
-use emit::put_all;
+use emit::Writer;
 use heads::copy;
 use names::{Columns, Entry, clear};
 use negating::outermost_projection;
@@ -40,16 +40,16 @@ fn put_bindings(
     n: usize,
     sets: &[u8],
     joins: usize,
-    out: &mut [u8],
-) -> usize
+    w: &mut Writer,
+)
     requires { (inner ≤ end) × (end ≤ length tree.now) × (n ≤ bounds.columns) × Ended (lines_from sets.now 0) }
-    ensures { em result out.new ≡ puts (bound_at tree.now inner end joins (names_in tree.now columns.now n) (lines_from sets.now 0)) (em 0 out.old) }
+    ensures { Wrote w.old w.new (bound_at tree.now inner end joins (names_in tree.now columns.now n) (lines_from sets.now 0)) }
 {
-    let a = put_all(out, 0, &tree[..inner]);
-    let b = put_repeated(&JOIN, joins, out, a);
-    let c = put_all(out, b, &tree[inner..end]);
-    let d = put_values(tree, columns, n, sets, out, c);
-    put_all(out, d, &tree[end..])
+    w.put_all(&tree[..inner]);
+    put_repeated(&JOIN, joins, w);
+    w.put_all(&tree[inner..end]);
+    put_values(tree, columns, n, sets, w);
+    w.put_all(&tree[end..]);
 }
 
 // A buffer of so many bytes holds that. Where it is as long as the answer can be, nothing is measured.
@@ -70,8 +70,9 @@ fn has_room(
         return true;
     }
     let mut none = [0u8; 0];
-    let size = put_bindings(tree, inner, end, columns, n, sets, joins, &mut none);
-    size <= room
+    let mut w = Writer::new(&mut none, 0);
+    put_bindings(tree, inner, end, columns, n, sets, joins, &mut w);
+    w.at <= room
 }
 
 // For texts that were checked.
@@ -96,8 +97,9 @@ fn bindings_of(tree: &[u8], sets: &[u8], words: &[WordRow; 56], out: &mut [u8]) 
     if !has_room(tree, inner, end, &columns, n, sets, judged.sets, out.len()) {
         return Err(Refusal::TooShort);
     }
-    let put = put_bindings(tree, inner, end, &columns, n, sets, judged.sets, out);
-    Ok(put)
+    let mut w = Writer::new(out, 0);
+    put_bindings(tree, inner, end, &columns, n, sets, judged.sets, &mut w);
+    Ok(w.at)
 }
 
 // For a tree that was checked; its table of names is cleared and used again.

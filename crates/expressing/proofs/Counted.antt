@@ -118,8 +118,9 @@ nothing-set [] a = refl
 nothing-set (x ∷ p) a = nothing-set p (suc a)
 
 -- an empty buffer stays empty
-pub tried-is : (s : Bytes) (w : Walked) (a k : ℕ) (o : Bytes) (r : Went) → Walks s w (em a []) (em k o) r → Walks s w (em a []) (em k []) r
-tried-is s w a k o r x =
+pub tried-is : (s : Bytes) (w : Walked) (a k : ℕ) (o : Bytes) (r : Went) (start : Em) → start ≡ em a [] → Walks s w start (em k o) r → Walks s w (em a []) (em k []) r
+tried-is s w a k o r start i t =
+    let x = subst (λ (y : Em). Walks s w y (em k o) r) i t in
     let e : o ≡ [] = ap (λ (y : Em). y.out) x.lines ∙ puts-out (text_of w.lines) (em a []) (omega arith) ∙ nothing-set (text_of w.lines) a in
     subst (λ (b : Bytes). Walks s w (em a []) (em k b) r) e x
 
@@ -210,9 +211,12 @@ module _ (found : Bool) (cs : List Bytes) (s : Bytes) where
     pub going_end : length s ≤ from → Notes found cs s starts numbers (record { many = many; size = long; others = i - many })
     going_end h = nothing (ap (placed_filters found cs bounds.lines i (bounds.entries - i)) (lines_end s from h) ∙ no_lines i (bounds.entries - i))
 
-    pub going_done : bounds.entries ≤ i → Notes found cs s starts numbers (record { many = many; size = long; others = i - many })
+    pub going_done : bounds.entries ≤ i → Notes found cs s starts numbers (record { many = many; size = long; others = bounds.entries - many })
     unfolding placed_filters
-    going_done h = let z : bounds.entries - i ≡ 0 = omega arith in nothing (ap (λ (k : ℕ). filters_from found cs s i k from) z)
+    going_done h =
+        let z : bounds.entries - i ≡ 0 = omega arith in
+        let e : i ≡ bounds.entries = (let a = g.high in omega arith) in
+        subst (λ (k : ℕ). Notes found cs s starts numbers (record { many = many; size = long; others = k - many })) e (nothing (ap (λ (k : ℕ). filters_from found cs s i k from) z))
 
     module _ (more : i < bounds.entries) (here : from < length s) (end : ℕ) (l : LineEnd s from end) where
       abbrev T : Walked
@@ -226,12 +230,12 @@ module _ (found : Bool) (cs : List Bytes) (s : Bytes) where
           let j : bounds.entries - i ≡ suc (bounds.entries - (i + 1)) = omega arith in
           ap (λ (k : ℕ). filters_from found cs s i k from) j ∙ open_at i (bounds.entries - (i + 1)) m ms (lines_from s from) e
 
-      module _ (r : Went) (w : Walks s T (em long []) (em r.at []) r) where
+      module _ (r : Went) (long' : ℕ) (w : Walks s T (em long []) (em long' []) r) where
         behind : Rest (i + 1) r.from ≡ Behind
         behind = ap₂ (λ (n : ℕ) (ls : List Line). placed_filters found cs bounds.lines n (bounds.entries - (i + 1)) ls) (add-one i) w.left
 
         -- it is placed
-        taken : Rest i from ≡ one_more true i T.lines Behind → Going (i + 1) r.from (many + 1) r.at (set starts many from) (set numbers (i - many) i)
+        taken : Rest i from ≡ one_more true i T.lines Behind → Going (i + 1) r.from (many + 1) long' (set starts many from) (set numbers (i - many) i)
         taken o =
             let low = g.low in
             let a = g.starts-long in
@@ -276,7 +280,7 @@ module _ (found : Bool) (cs : List Bytes) (s : Bytes) where
               size = g.size ∙ ap (λ (ks : List ℕ). puts (text_of (lines_at cs s ks)) (em 0 [])) (sym at);
             }
 
-        pub going_next : (t b c : Bool) → t ≡ is_true_first (lines_from s from) → b ≡ (not t && r.expressed) → c ≡ (found && b) → (size many' : ℕ) → size ≡ cond c r.at long → many' ≡ cond c (many + 1) many
+        pub going_next : (t b c : Bool) → t ≡ is_true_first (lines_from s from) → b ≡ (not t && r.expressed) → c ≡ (found && b) → (size many' : ℕ) → size ≡ cond c long' long → many' ≡ cond c (many + 1) many
             → Going (i + 1) r.from many' size (set starts many from) (set numbers (i - many) i)
         going_next t b c p q u size many' x y = go c refl
           where
@@ -286,11 +290,11 @@ module _ (found : Bool) (cs : List Bytes) (s : Bytes) where
             go : (d : Bool) → c ≡ d → Going (i + 1) r.from many' size (set starts many from) (set numbers (i - many) i)
             go true z =
                 subst (λ (k : ℕ). Going (i + 1) r.from k size (set starts many from) (set numbers (i - many) i)) (sym (y ∙ ap (λ (d : Bool). cond d (many + 1) many) z))
-                (subst (λ (k : ℕ). Going (i + 1) r.from (many + 1) k (set starts many from) (set numbers (i - many) i)) (sym (x ∙ ap (λ (d : Bool). cond d r.at long) z))
+                (subst (λ (k : ℕ). Going (i + 1) r.from (many + 1) k (set starts many from) (set numbers (i - many) i)) (sym (x ∙ ap (λ (d : Bool). cond d long' long) z))
                 (taken (opened ∙ ap (λ (d : Bool). one_more d i T.lines Behind) (sym is ∙ z))))
             go false z =
                 subst (λ (k : ℕ). Going (i + 1) r.from k size (set starts many from) (set numbers (i - many) i)) (sym (y ∙ ap (λ (d : Bool). cond d (many + 1) many) z))
-                (subst (λ (k : ℕ). Going (i + 1) r.from many k (set starts many from) (set numbers (i - many) i)) (sym (x ∙ ap (λ (d : Bool). cond d r.at long) z))
+                (subst (λ (k : ℕ). Going (i + 1) r.from many k (set starts many from) (set numbers (i - many) i)) (sym (x ∙ ap (λ (d : Bool). cond d long' long) z))
                 (listed (opened ∙ ap (λ (d : Bool). one_more d i T.lines Behind) (sym is ∙ z))))
 
 -- ---- the list

@@ -2,7 +2,7 @@
 use Prim.Native.Nat.{ℕ, suc, ◌+◌, ◌-◌, ◌≤◌, ◌<◌}
 use mathlib.Core.Path.{◌≡◌, refl, sym, ap, ap₂, subst, ◌∙◌}
 use mathlib.Core.Bool.{Bool, true, false, ◌&&◌}
-use mathlib.Core.List.{List, [], ◌∷◌, ◌++◌}
+use mathlib.Core.List.{List, [], ◌∷◌}
 use mathlib.Core.Logic.{⊎_elim}
 use mathlib.Core.Option.{Option, none, some}
 use native.Mathlib.Omega.{arith}
@@ -11,7 +11,9 @@ use Rattle.text.specs.Text.{Bytes, Line, same, text_of, split, part, lines_from,
 use Rattle.text.proofs.Places.{lines_next, lines_end}
 use Rattle.cursor.specs.bridge.Cursor.{left as fieldsFrom}
 use Rattle.walking.proofs.Laws.{line-split}
+use Rattle.emit.specs.declared.Writer.{Writer}
 use Rattle.emit.specs.bridge.Emit.{Em, puts}
+use Rattle.emit.specs.bridge.Writer.{state}
 use Rattle.emit.proofs.Laws.{puts-append, puts-nil}
 use Rattle.reader.specs.bridge.Lines.{LineEnd}
 use Rattle.reader.proofs.Laws.{nothing-here}
@@ -120,24 +122,24 @@ module _ (cs : List Bytes) (s : Bytes) (from left end : ℕ) (some_left : left �
     here : Said-so ≡ Line-at
     here = sym (line-split s from end w ends line_low f)
 
-    pub headed : (e x : Em) (b : Bool) → Heads (expression_lines cs Said-so) e x b → Heads (expression_lines cs Line-at) e x b
+    pub headed : (e x : Writer) (b : Bool) → Heads (expression_lines cs Said-so) e x b → Heads (expression_lines cs Line-at) e x b
     headed e x b h = subst (λ (m : Line). Heads (expression_lines cs m) e x b) here h
 
     pub parts-here : (k : ℕ) → k ≡ parts_below Said-so → k ≡ parts_below Line-at
     parts-here k e = e ∙ ap parts_below here
 
-  pub walked : (e start after : Em) (ok : Bool) → Heads (expression_lines cs Line-at) e start ok → (r : Said) → r.expressed ≡ (ok && Parts.expressed) → lines_from s r.from ≡ Parts.left → after ≡ puts (text_of Parts.lines) start
-      → Walks s (tree_to_expression cs left (lines_from s from)) e after r
-  walked e start after ok h r x y z = subst (λ (w : Walked). Walks s w e after r) (sym opened) (go (expression_lines cs Line-at) h)
+  pub walked : (e start : Writer) (after : Em) (ok : Bool) → Heads (expression_lines cs Line-at) e start ok → (r : Said) → r.expressed ≡ (ok && Parts.expressed) → lines_from s r.from ≡ Parts.left → after ≡ puts (text_of Parts.lines) (state start)
+      → Walks s (tree_to_expression cs left (lines_from s from)) (state e) after r
+  walked e start after ok h r x y z = subst (λ (w : Walked). Walks s w (state e) after r) (sym opened) (go (expression_lines cs Line-at) h)
     where
-      go : (o : Option (List Line)) → Heads o e start ok → Walks s (in_front o Parts) e after r
+      go : (o : Option (List Line)) → Heads o e start ok → Walks s (in_front o Parts) (state e) after r
       go none k = record {
         expressed = x ∙ ap (λ (b : Bool). b && Parts.expressed) k.is;
-        lines = z ∙ ap (puts (text_of Parts.lines)) (k.lines ∙ sym (no_text e));
+        lines = z ∙ ap (puts (text_of Parts.lines)) (k.lines.puts ∙ sym (no_text (state e)));
         left = y;
       }
       go (some ws) k = record {
         expressed = x ∙ ap (λ (b : Bool). b && Parts.expressed) k.is;
-        lines = z ∙ ap (puts (text_of Parts.lines)) k.lines ∙ sym (puts-append (text_of ws) (text_of Parts.lines) e) ∙ ap (λ (t : Bytes). puts t e) (sym (text-append ws Parts.lines));
+        lines = z ∙ ap (puts (text_of Parts.lines)) k.lines.puts ∙ sym (puts-append (text_of ws) (text_of Parts.lines) (state e)) ∙ ap (λ (t : Bytes). puts t (state e)) (sym (text-append ws Parts.lines));
         left = y;
       }

@@ -2,7 +2,7 @@
 use Prim.Native.Nat.{ℕ, zero, suc, ◌+◌, ◌-◌, ◌*◌, ◌≤◌, ◌<◌, min}
 use mathlib.Core.Path.{◌≡◌, refl, sym, ap, ap₂, subst, ◌∙◌}
 use mathlib.Core.Bool.{Bool, true, false, not, ◌&&◌}
-use mathlib.Core.List.{List, [], ◌∷◌, ◌++◌}
+use mathlib.Core.List.{List, [], ◌∷◌, ◌++◌, append_assoc}
 use mathlib.Core.Option.{none}
 use native.Mathlib.Omega.{arith}
 use lib.ListN.{length, take, drop, length-drop, length-append}
@@ -18,7 +18,7 @@ use Rattle.algebra.specs.Reader.{reads, refuses, malformed, over_bound}
 use Rattle.algebra.specs.Texts.{read_tree, read_filters}
 use Rattle.algebra.specs.Tally.{bounds}
 use Rattle.emit.specs.bridge.Emit.{Em, em, last, puts}
-use Rattle.emit.proofs.Laws.{puts-append, puts-at, puts-past}
+use Rattle.emit.proofs.Laws.{puts-at, puts-past}
 use Rattle.answers.specs.Outcome.{written, refused_unless}
 use Rattle.answers.specs.Both.{ReportedBoth, AnsweredBoth}
 use Rattle.answers.proofs.Answers.{too_short, all-written}
@@ -50,23 +50,22 @@ use Rattle.answers.specs.declared.Refusal.TheVariants.{ListTooShort, Malformed, 
 
 -- ---- the six pieces
 
-pub filtered-put : (s : Bytes) (inner end ands : ℕ) (ls : List Line) (e a b c d g r : Em)
-    → a ≡ puts (take inner s) e → b ≡ puts (bytes "filter\n") a → c ≡ puts (part inner end s) b → d ≡ puts (text_of (repeated ands (bytes "and") [])) c → g ≡ puts (text_of ls) d → r ≡ puts (part end (length s) s) g
-    → r ≡ puts (filtered_at s inner end ands ls) e
+pub filtered-put : (s : Bytes) (inner end ands : ℕ) (ls : List Line)
+    → ((((take inner s ++ bytes "filter\n") ++ part inner end s) ++ text_of (repeated ands (bytes "and") [])) ++ text_of ls) ++ part end (length s) s ≡ filtered_at s inner end ands ls
 unfolding filtered_at
-filtered-put s inner end ands ls e a b c d g r p q t u v w =
+filtered-put s inner end ands ls =
+    let T = take inner s in
     let F = bytes "filter\n" in
     let X = part inner end s in
     let A = text_of (repeated ands (bytes "and") []) in
-    let z : part end (length s) s ≡ drop end s = take_all (length s - end) (drop end s) (simp length-drop (omega arith)) in
-    w
-    ∙ ap (λ (l : Bytes). puts l g) z
-    ∙ ap (puts (drop end s)) (v ∙ ap (puts (text_of ls)) (u ∙ ap (puts A) (t ∙ ap (puts X) (q ∙ ap (puts F) p))))
-    ∙ sym (puts-append (take inner s) (F ++ (X ++ (A ++ (text_of ls ++ drop end s)))) e
-    ∙ puts-append F (X ++ (A ++ (text_of ls ++ drop end s))) _
-    ∙ puts-append X (A ++ (text_of ls ++ drop end s)) _
-    ∙ puts-append A (text_of ls ++ drop end s) _
-    ∙ puts-append (text_of ls) (drop end s) _)
+    let L = text_of ls in
+    let Z = drop end s in
+    let z : part end (length s) s ≡ Z = take_all (length s - end) (drop end s) (simp length-drop (omega arith)) in
+    ap (λ (b : Bytes). ((((T ++ F) ++ X) ++ A) ++ L) ++ b) z
+    ∙ append_assoc (((T ++ F) ++ X) ++ A) L Z
+    ∙ append_assoc ((T ++ F) ++ X) A (L ++ Z)
+    ∙ append_assoc (T ++ F) X (A ++ (L ++ Z))
+    ∙ append_assoc T F (X ++ (A ++ (L ++ Z)))
 
 -- ---- how long they are
 

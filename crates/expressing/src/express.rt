@@ -1,27 +1,27 @@
 // From a filter to an expression: a filter calls itself on its parts, the lines left falling.
-ghost use Rattle.std.specs.Prelude.{◌≤◌};
+ghost use Rattle.std.specs.Prelude.{◌≡◌, ◌≤◌};
 ghost use Rattle.text.specs.Text.{lines_from};
 ghost use Rattle.algebra.specs.Tally.{bounds};
 ghost use Rattle.reader.specs.bridge.Lines.{LineEnd};
 ghost use Rattle.words.specs.bridge.Words.{Worded};
-ghost use Rattle.emit.specs.bridge.Emit.{em};
+ghost use Rattle.emit.specs.bridge.Writer.{state};
 ghost use Rattle.names.specs.bridge.Names.{names_in};
 ghost use Rattle.filtering.specs.bridge.FilterLines.{tree_to_expression};
 ghost use Rattle.expressing.specs.bridge.Walks.{Walks};
 
 use cursor::Cursor;
+use emit::Writer;
 use names::Columns;
 use operators::line::{parts_below, put_line};
 use placing::steps::both;
 use words::table::WordRow;
 use words::word_at;
 
-// Whether all of a filter is expressed, and where its text and the output go on.
+// Whether all of a filter is expressed, and where the text goes on.
 #[derive(Clone, Copy)]
 pub struct Walked {
     pub expressed: bool,
     pub from: usize,
-    pub at: usize,
 }
 
 // The line that starts here; where none does, one that ends with the text.
@@ -44,17 +44,16 @@ pub fn tree_to_expression(
     words: &[WordRow; 56],
     from: usize,
     left: usize,
-    out: &mut [u8],
-    at: usize,
+    w: &mut Writer,
 ) -> Walked
     requires { (n ≤ bounds.columns) × Worded words.now }
-    ensures { Walks filters.now (tree_to_expression (names_in tree.now columns.now n) left (lines_from filters.now from)) (em at out.old) (em result.at out.new) result }
+    ensures same { w.new.out.ghost_name ≡ w.old.out.ghost_name }
+    ensures walks { Walks filters.now (tree_to_expression (names_in tree.now columns.now n) left (lines_from filters.now from)) (state w.old) (state w.new) result }
 {
     if left == 0 {
         return Walked {
             expressed: false,
             from,
-            at,
         };
     }
     let line = line_from(filters, from);
@@ -63,25 +62,20 @@ pub fn tree_to_expression(
         return Walked {
             expressed: false,
             from: end,
-            at,
         };
     }
-    let w = word_at(filters, from, end);
-    let first = w.end + 1;
-    let put = put_line(tree, columns, n, filters, w.key, first, end, out, at);
-    let mut expressed = put.expressed;
-    let mut to = put.at;
-    let parts = parts_below(filters, words, w.key, first, end);
+    let word = word_at(filters, from, end);
+    let first = word.end + 1;
+    let mut expressed = put_line(tree, columns, n, filters, word.key, first, end, w);
+    let parts = parts_below(filters, words, word.key, first, end);
     let mut c = line.line_done().awaiting(parts);
     while 0 < c.awaited {
-        let part = tree_to_expression(tree, columns, n, filters, words, c.at, left - 1, out, to);
+        let part = tree_to_expression(tree, columns, n, filters, words, c.at, left - 1, w);
         expressed = both(expressed, part.expressed);
-        to = part.at;
         c = c.child_done(c.moved_to(part.from));
     }
     Walked {
         expressed,
         from: c.at,
-        at: to,
     }
 }

@@ -9,6 +9,7 @@ ghost use Rattle.algebra.specs.Tally.{bounds};
 ghost use Rattle.words.specs.bridge.Words.{Worded};
 ghost use Rattle.names.specs.bridge.Names.{names_in};
 ghost use Rattle.emit.specs.bridge.Emit.{em, last, puts};
+ghost use Rattle.emit.specs.bridge.Writer.{Wrote};
 ghost use Rattle.answers.specs.Outcome.{written};
 ghost use Rattle.answers.specs.Both.{ListedBoth};
 ghost use Rattle.scoping.specs.Sets.{all};
@@ -24,7 +25,7 @@ use crate::place::{note_filters, put_expressions, put_numbers};
 use algebra::{COLUMNS, EMPTY_TREE, ENTRIES};
 use answers::{Listed, ListedAnswer, Refusal};
 use cursor::Cursor;
-use emit::put_all;
+use emit::Writer;
 use heads::copy;
 use names::{Columns, Entry, clear};
 use negating::outermost_projection;
@@ -84,17 +85,17 @@ fn put_filtered(
     words: &[WordRow; 56],
     starts: &[usize],
     ands: usize,
-    out: &mut [u8],
-) -> usize
+    w: &mut Writer,
+)
     requires { (inner ≤ end) × (end ≤ length tree.now) × (n ≤ bounds.columns) × Worded words.now }
-    ensures { em result out.new ≡ puts (filtered_at tree.now inner end ands (lines_at (names_in tree.now columns.now n) filters.now starts.now)) (em 0 out.old) }
+    ensures { Wrote w.old w.new (filtered_at tree.now inner end ands (lines_at (names_in tree.now columns.now n) filters.now starts.now)) }
 {
-    let a = put_all(out, 0, &tree[..inner]);
-    let b = put_all(out, a, &FILTER);
-    let c = put_all(out, b, &tree[inner..end]);
-    let d = put_repeated(&AND, ands, out, c);
-    let e = put_expressions(tree, columns, n, filters, words, starts, out, d);
-    put_all(out, e, &tree[end..])
+    w.put_all(&tree[..inner]);
+    w.put_all(&FILTER);
+    w.put_all(&tree[inner..end]);
+    put_repeated(&AND, ands, w);
+    put_expressions(tree, columns, n, filters, words, starts, w);
+    w.put_all(&tree[end..]);
 }
 
 // How long that is, by the length of the expressions.
@@ -134,12 +135,13 @@ fn put_listed(
     if list.len() < numbers.len() {
         return Err(Refusal::ListTooShort);
     }
-    let put = put_filtered(
-        tree, inner, end, columns, n, filters, words, starts, ands, out,
+    let mut w = Writer::new(out, 0);
+    put_filtered(
+        tree, inner, end, columns, n, filters, words, starts, ands, &mut w,
     );
     put_numbers(numbers, list);
     Ok(Listed {
-        size: put,
+        size: w.at,
         many: numbers.len(),
     })
 }

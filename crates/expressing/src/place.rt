@@ -4,13 +4,15 @@ ghost use Rattle.text.specs.Text.{text_of, lines_from};
 ghost use Rattle.algebra.specs.Tally.{bounds};
 ghost use Rattle.reader.specs.bridge.Lines.{LineEnd};
 ghost use Rattle.words.specs.bridge.Words.{Worded};
-ghost use Rattle.emit.specs.bridge.Emit.{em, puts};
+ghost use Rattle.emit.specs.bridge.Emit.{em};
+ghost use Rattle.emit.specs.bridge.Writer.{Wrote};
 ghost use Rattle.names.specs.bridge.Names.{names_in};
 ghost use Rattle.filtering.specs.bridge.FilterLines.{tree_to_expression};
 ghost use Rattle.expressing.specs.bridge.Walks.{Walks, is_true_first, lines_at, Notes};
 
 use crate::express::{Walked, line_from, tree_to_expression};
 use algebra::{ENTRIES, PerEntry};
+use emit::Writer;
 use names::Columns;
 use operators::line::is_constant_true;
 use placing::steps::both;
@@ -30,7 +32,14 @@ pub struct Noted {
     pub others: usize,
 }
 
-// A filter, and nothing written.
+// A filter that was tried, and how long the lines are with its own.
+#[derive(Clone, Copy)]
+pub struct Tried {
+    pub walked: Walked,
+    pub size: usize,
+}
+
+// A filter behind lines that are so long, and nothing written.
 fn try_filter(
     tree: &[u8],
     columns: &Columns,
@@ -38,13 +47,15 @@ fn try_filter(
     filters: &[u8],
     words: &[WordRow; 56],
     from: usize,
-    at: usize,
-) -> Walked
+    size: usize,
+) -> Tried
     requires { (n ≤ bounds.columns) × Worded words.now }
-    ensures { Walks filters.now (tree_to_expression (names_in tree.now columns.now n) bounds.lines (lines_from filters.now from)) (em at []) (em result.at []) result }
+    ensures { Walks filters.now (tree_to_expression (names_in tree.now columns.now n) bounds.lines (lines_from filters.now from)) (em size []) (em result.size []) result.walked }
 {
     let mut none = [0u8; 0];
-    tree_to_expression(tree, columns, n, filters, words, from, LINES, &mut none, at)
+    let mut w = Writer::new(&mut none, size);
+    let walked = tree_to_expression(tree, columns, n, filters, words, from, LINES, &mut w);
+    Tried { walked, size: w.at }
 }
 
 // The filter whose first line goes from here to its end is always true.
@@ -94,8 +105,7 @@ pub fn note_filters(
     let mut many = 0;
     let mut size = 0;
     let mut from = 0;
-    let mut i = 0;
-    while i < ENTRIES {
+    for i in 0..ENTRIES {
         if filters.len() <= from {
             return Noted {
                 many,
@@ -105,19 +115,19 @@ pub fn note_filters(
         }
         let line = line_from(filters, from);
         let tried = try_filter(tree, columns, n, filters, words, from, size);
-        let taken = both(!is_true_first(filters, from, line.end), tried.expressed);
+        let walked = tried.walked;
+        let taken = both(!is_true_first(filters, from, line.end), walked.expressed);
         let placed = both(found, taken);
         starts[many] = from;
         numbers[i - many] = i as u16;
-        size = placed_end(placed, tried.at, size);
+        size = placed_end(placed, tried.size, size);
         many = one_more(many, placed);
-        from = tried.from;
-        i += 1;
+        from = walked.from;
     }
     Noted {
         many,
         size,
-        others: i - many,
+        others: ENTRIES - many,
     }
 }
 
@@ -129,19 +139,14 @@ pub fn put_expressions(
     filters: &[u8],
     words: &[WordRow; 56],
     starts: &[usize],
-    out: &mut [u8],
-    at: usize,
-) -> usize
+    w: &mut Writer,
+)
     requires { (n ≤ bounds.columns) × Worded words.now }
-    ensures { em result out.new ≡ puts (text_of (lines_at (names_in tree.now columns.now n) filters.now starts.now)) (em at out.old) }
+    ensures { Wrote w.old w.new (text_of (lines_at (names_in tree.now columns.now n) filters.now starts.now)) }
 {
-    let mut to = at;
     for j in 0..starts.len() {
-        let from = starts[j];
-        let walked = tree_to_expression(tree, columns, n, filters, words, from, LINES, out, to);
-        to = walked.at;
+        tree_to_expression(tree, columns, n, filters, words, starts[j], LINES, w);
     }
-    to
 }
 
 // The numbers of the filters that are not placed, from the list's start on.

@@ -2,7 +2,7 @@
 use Prim.Native.Nat.{ℕ, ◌+◌, ◌≤◌, ◌<◌}
 use mathlib.Core.Path.{◌≡◌, refl, sym, ap, ap₂, subst, ◌∙◌}
 use mathlib.Core.Bool.{Bool, true, false, not}
-use mathlib.Core.List.{List, [], ◌∷◌, ◌++◌}
+use mathlib.Core.List.{List, [], ◌∷◌}
 use mathlib.Core.Option.{Option, some}
 use native.Mathlib.Omega.{arith}
 use lib.ListN.{length, get_or}
@@ -18,8 +18,9 @@ use Rattle.words.specs.bridge.Code.{Found, groups_in, row_found}
 use Rattle.words.specs.bridge.Key.{key_of, Keyed}
 use Rattle.words.proofs.ByKey.{small, tells, same_key, is_word, other_key}
 use Rattle.cursor.specs.bridge.Cursor.{left}
-use Rattle.emit.specs.bridge.Emit.{Em, puts}
-use Rattle.emit.proofs.Laws.{puts-append, puts-nil}
+use Rattle.emit.specs.declared.Writer.{Writer}
+use Rattle.emit.specs.bridge.Writer.{Wrote}
+use Rattle.emit.proofs.Writing.{wrote-then, wrote-as, wrote-none}
 use Rattle.scoping.specs.bridge.Walk.{number_in}
 use Rattle.walking.proofs.Laws.{line-split}
 use Rattle.merging.specs.Request.{position}
@@ -46,9 +47,9 @@ module _ (f : ℕ) where
 
 -- ---- a line `term`
 
-term-put : (t : Bytes) (e a b c : Em) → a ≡ puts (bytes "term\t") e → b ≡ puts t a → c ≡ puts (10 ∷ []) b → c ≡ puts (text_of ((bytes "term" ∷ t ∷ []) ∷ [])) e
+term-put : (t : Bytes) (e a b c : Writer) → Wrote e a (bytes "term\t") → Wrote a b t → Wrote b c (10 ∷ []) → Wrote e c (text_of ((bytes "term" ∷ t ∷ []) ∷ []))
 unfolding text_of ended
-term-put t e a b c p q r = r ∙ ap (puts (10 ∷ [])) (q ∙ ap (puts t) p) ∙ sym (puts-append (bytes "term\t") (t ++ (10 ∷ [])) e ∙ puts-append t (10 ∷ []) _)
+term-put t e a b c p q r = wrote-then (wrote-then p q) r
 
 -- the second and the third field
 second-field : (s : Bytes) (from end : ℕ) (d l : Field) → FieldIs s from end d → FieldIs s d.next end l → part d.next l.to s ≡ get_or (left s from end) 1 []
@@ -65,55 +66,55 @@ module _ (s : Bytes) (from end : ℕ) (d : Field) (i : FieldIs s from end d) whe
     form : form_of (get_or Value 0 []) ≡ m
     form = ap form_of (sym i.is) ∙ sym p
 
-    pub leaf-none : not b ≡ true → (e : Em) → Heads (leaf_lines (get_or Value 0 []) (get_or Value 1 []) (get_or Value 2 [])) e e false
+    pub leaf-none : not b ≡ true → (e : Writer) → Heads (leaf_lines (get_or Value 0 []) (get_or Value 1 []) (get_or Value 2 [])) e e false
     unfolding leaf_lines text_of
-    leaf-none h e = rw (form, sym q ∙ not-true b h) (record { is = refl; lines = sym (puts-nil e) })
+    leaf-none h e = rw (form, sym q ∙ not-true b h) (record { is = refl; lines = wrote-none })
 
-    pub leaf-some : not b ≡ false → (l x : Field) → FieldIs s d.next end l → FieldIs s l.next end x → (e a g h : Em)
-        → a ≡ puts (bytes "term\t") e → g ≡ puts (term_of m (part d.next l.to s) (part l.next x.to s)) a → h ≡ puts (10 ∷ []) g
+    pub leaf-some : not b ≡ false → (l x : Field) → FieldIs s d.next end l → FieldIs s l.next end x → (e a g h : Writer)
+        → Wrote e a (bytes "term\t") → Wrote a g (term_of m (part d.next l.to s) (part l.next x.to s)) → Wrote g h (10 ∷ [])
         → Heads (leaf_lines (get_or Value 0 []) (get_or Value 1 []) (get_or Value 2 [])) e h true
     unfolding leaf_lines
     leaf-some t l x j k e a g h u v w =
         rw (form, sym q ∙ not-false b t)
-        (record { is = refl; lines = term-put _ e a g h u (v ∙ ap₂ (λ (y z : Bytes). puts (term_of m y z) a) (second-field s from end d l i j) (third-field s from end d l x i j k)) w })
+        (record { is = refl; lines = term-put _ e a g h u (wrote-as (ap₂ (term_of m) (second-field s from end d l i j) (third-field s from end d l x i j k)) v) w })
 
-  pub ref-put : (cs : List Bytes) (k : ℕ) → k ≡ position (part from d.to s) → (c : Bytes) → c ≡ get_or cs k [] → (e x y z : Em) → x ≡ puts (bytes "term\t") e → y ≡ puts c x → z ≡ puts (10 ∷ []) y
+  pub ref-put : (cs : List Bytes) (k : ℕ) → k ≡ position (part from d.to s) → (c : Bytes) → c ≡ get_or cs k [] → (e x y z : Writer) → Wrote e x (bytes "term\t") → Wrote x y c → Wrote y z (10 ∷ [])
       → Heads (some ((bytes "term" ∷ get_or cs (position (get_or Value 0 [])) [] ∷ []) ∷ [])) e z true
   ref-put cs k p c q e x y z u v w = record {
     is = refl;
-    lines = term-put _ e x y z u (v ∙ ap (λ (b : Bytes). puts b x) (q ∙ ap (λ (j : ℕ). get_or cs j []) (p ∙ ap position i.is))) w;
+    lines = term-put _ e x y z u (wrote-as (q ∙ ap (λ (j : ℕ). get_or cs j []) (p ∙ ap position i.is)) v) w;
   }
 
 -- ---- a function's name
 
-module _ (n : Bytes) (e : Em) where
+module _ (n : Bytes) (e : Writer) where
   module _ (b : Bool) (is : b ≡ same n (bytes "Datatype")) where
-    pub unary-datatype : b ≡ true → (x : Em) → x ≡ puts (bytes "call\tDATATYPE\t1\n") e → Heads (unary_lines n) e x true
+    pub unary-datatype : b ≡ true → (x : Writer) → Wrote e x (bytes "call\tDATATYPE\t1\n") → Heads (unary_lines n) e x true
     unfolding unary_lines text_of ended
     unary-datatype t x p = rw (sym is ∙ t) (record { is = refl; lines = p })
 
     module _ (no : b ≡ false) (c : Bool) (js : c ≡ same n (bytes "LanguageTag")) where
-      pub unary-tag : c ≡ true → (x : Em) → x ≡ puts (bytes "call\tLANG\t1\n") e → Heads (unary_lines n) e x true
+      pub unary-tag : c ≡ true → (x : Writer) → Wrote e x (bytes "call\tLANG\t1\n") → Heads (unary_lines n) e x true
       unfolding unary_lines text_of ended
       unary-tag t x p = rw (sym is ∙ no, sym js ∙ t) (record { is = refl; lines = p })
 
       pub unary-none : c ≡ false → Heads (unary_lines n) e e false
       unfolding unary_lines text_of
-      unary-none t = rw (sym is ∙ no, sym js ∙ t) (record { is = refl; lines = sym (puts-nil e) })
+      unary-none t = rw (sym is ∙ no, sym js ∙ t) (record { is = refl; lines = wrote-none })
 
   module _ (b : Bool) (is : b ≡ same n (bytes "Equals")) where
-    pub binary-equals : b ≡ true → (x : Em) → x ≡ puts (bytes "eq\n") e → Heads (binary_lines n) e x true
+    pub binary-equals : b ≡ true → (x : Writer) → Wrote e x (bytes "eq\n") → Heads (binary_lines n) e x true
     unfolding binary_lines text_of ended
     binary-equals t x p = rw (sym is ∙ t) (record { is = refl; lines = p })
 
     module _ (no : b ≡ false) (c : Bool) (js : c ≡ same n (bytes "Unequals")) where
-      pub binary-unequals : c ≡ true → (x : Em) → x ≡ puts (bytes "not\neq\n") e → Heads (binary_lines n) e x true
+      pub binary-unequals : c ≡ true → (x : Writer) → Wrote e x (bytes "not\neq\n") → Heads (binary_lines n) e x true
       unfolding binary_lines text_of ended
       binary-unequals t x p = rw (sym is ∙ no, sym js ∙ t) (record { is = refl; lines = p })
 
       pub binary-none : c ≡ false → Heads (binary_lines n) e e false
       unfolding binary_lines text_of
-      binary-none t = rw (sym is ∙ no, sym js ∙ t) (record { is = refl; lines = sym (puts-nil e) })
+      binary-none t = rw (sym is ∙ no, sym js ∙ t) (record { is = refl; lines = wrote-none })
 
 -- ---- a whole line, by the key of its word
 
@@ -124,7 +125,7 @@ module _ (f : Bytes) (k : ℕ) (keyed : Keyed f k) (s : Bytes) (first end : ℕ)
   word : (w : Bytes) → tells w ≡ true → k ≡ key_of 0 w → f ≡ w
   word = is_word f k keyed
 
-  module _ (cs : List Bytes) (e x : Em) (r : Bool) where
+  module _ (cs : List Bytes) (e x : Writer) (r : Bool) where
     abbrev Head : Type 0
     Head = Heads (expression_lines cs (f ∷ Fields)) e x r
 
@@ -145,11 +146,11 @@ module _ (f : Bytes) (k : ℕ) (keyed : Keyed f k) (s : Bytes) (first end : ℕ)
       unfolding expression_lines same small tells
       head-bin t g = rw (word (bytes "bin") refl t, sym j.is) g
 
-  pub head-none : (cs : List Bytes) (e : Em) → (k ≡ key_of 0 (bytes "leaf") → ⊥) → (k ≡ key_of 0 (bytes "ref") → ⊥) → (k ≡ key_of 0 (bytes "un") → ⊥) → (k ≡ key_of 0 (bytes "bin") → ⊥) → Heads (expression_lines cs (f ∷ Fields)) e e false
+  pub head-none : (cs : List Bytes) (e : Writer) → (k ≡ key_of 0 (bytes "leaf") → ⊥) → (k ≡ key_of 0 (bytes "ref") → ⊥) → (k ≡ key_of 0 (bytes "un") → ⊥) → (k ≡ key_of 0 (bytes "bin") → ⊥) → Heads (expression_lines cs (f ∷ Fields)) e e false
   unfolding expression_lines text_of small tells
   head-none cs e a b c d =
       rw (other_key f k keyed (bytes "leaf") refl a, other_key f k keyed (bytes "ref") refl b, other_key f k keyed (bytes "un") refl c, other_key f k keyed (bytes "bin") refl d)
-      (record { is = refl; lines = sym (puts-nil e) })
+      (record { is = refl; lines = wrote-none })
 
 -- ---- how many parts, by the row of the word
 

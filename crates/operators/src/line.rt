@@ -1,4 +1,5 @@
-// One line of a filter: the lines that it becomes, and how many parts stand below it.
+// One line of a filter: the lines that it becomes, and how many parts stand below it. A writer says whether the line is
+// expressed, and writes nothing of one that isn't.
 ghost use Rattle.std.specs.Prelude.{◌≡◌, ◌+◌, ◌≤◌, ◌<◌, [], ◌∷◌, length, get_or};
 ghost use Rattle.std.proofs.Math.Option.{some};
 ghost use Rattle.text.specs.Text.{Bytes, part, split};
@@ -7,14 +8,13 @@ ghost use Rattle.algebra.specs.Tally.{bounds};
 ghost use Rattle.cursor.specs.bridge.Cursor.{left};
 ghost use Rattle.words.specs.bridge.Key.{Keyed};
 ghost use Rattle.words.specs.bridge.Words.{Worded};
-ghost use Rattle.emit.specs.bridge.Emit.{em};
 ghost use Rattle.names.specs.bridge.Names.{names_in};
 ghost use Rattle.merging.specs.Request.{position};
 ghost use Rattle.filtering.specs.bridge.Terms.{is_expressed};
 ghost use Rattle.filtering.specs.bridge.FilterLines.{is_true_line, parts_below, leaf_lines, unary_lines, binary_lines, expression_lines};
 ghost use Rattle.operators.specs.bridge.Heads.{Heads};
 
-use emit::{put, put_all};
+use emit::Writer;
 use names::Columns;
 use placing::columns::column_at;
 use placing::ends::lines_asked;
@@ -46,13 +46,6 @@ const BOOLEAN: [u8; 7] = *b"Boolean";
 
 const TRUE: [u8; 4] = *b"true";
 
-// Whether a line is expressed, and where the output goes on. Nothing is written of one that isn't.
-#[derive(Clone, Copy)]
-pub struct Head {
-    pub expressed: bool,
-    pub at: usize,
-}
-
 // try_expression_from_value expresses a value of this form.
 fn is_expressed(form: u8) -> bool
     ensures { result ≡ is_expressed form }
@@ -67,32 +60,26 @@ fn is_expressed(form: u8) -> bool
 }
 
 // A constant, whose value's three fields start here.
-fn put_leaf(filters: &[u8], from: usize, end: usize, out: &mut [u8], at: usize) -> Head
+fn put_leaf(filters: &[u8], from: usize, end: usize, w: &mut Writer) -> bool
     requires { (end < length filters.now) × (from ≤ end + 1) }
-    ensures { Heads (leaf_lines (get_or (left filters.now from end) 0 []) (get_or (left filters.now from end) 1 []) (get_or (left filters.now from end) 2 [])) (em at out.old) (em result.at out.new) result.expressed }
+    ensures { Heads (leaf_lines (get_or (left filters.now from end) 0 []) (get_or (left filters.now from end) 1 []) (get_or (left filters.now from end) 2 [])) w.old w.new result }
 {
     let domain = field_at(filters, from, end);
     let a = domain.to;
     let b = domain.next;
     let form = form_of(&filters[from..a]);
     if !is_expressed(form) {
-        return Head {
-            expressed: false,
-            at,
-        };
+        return false;
     }
     let lexical = field_at(filters, b, end);
     let c = lexical.to;
     let d = lexical.next;
     let extra = field_at(filters, d, end);
     let e = extra.to;
-    let f = put_all(out, at, &TERM);
-    let g = put_term(form, &filters[b..c], &filters[d..e], out, f);
-    let h = put(out, g, 10);
-    Head {
-        expressed: true,
-        at: h,
-    }
+    w.put_all(&TERM);
+    put_term(form, &filters[b..c], &filters[d..e], w);
+    w.put(10);
+    true
 }
 
 // A reference: the column at its position.
@@ -103,73 +90,47 @@ fn put_ref(
     filters: &[u8],
     from: usize,
     end: usize,
-    out: &mut [u8],
-    at: usize,
-) -> Head
+    w: &mut Writer,
+) -> bool
     requires { (n ≤ bounds.columns) × (end < length filters.now) × (from ≤ end + 1) }
-    ensures { Heads (some ((bytes "term" ∷ get_or (names_in tree.now columns.now n) (position (get_or (left filters.now from end) 0 [])) [] ∷ []) ∷ [])) (em at out.old) (em result.at out.new) result.expressed }
+    ensures { Heads (some ((bytes "term" ∷ get_or (names_in tree.now columns.now n) (position (get_or (left filters.now from end) 0 [])) [] ∷ []) ∷ [])) w.old w.new result }
 {
     let field = field_at(filters, from, end);
     let to = field.to;
-    let a = put_all(out, at, &TERM);
-    let b = put_all(
-        out,
-        a,
-        column_at(tree, columns, n, position_of(&filters[from..to])),
-    );
-    let c = put(out, b, 10);
-    Head {
-        expressed: true,
-        at: c,
-    }
+    w.put_all(&TERM);
+    w.put_all(column_at(tree, columns, n, position_of(&filters[from..to])));
+    w.put(10);
+    true
 }
 
 // try_expression_from_unary, of a function's name.
-fn put_unary(name: &[u8], out: &mut [u8], at: usize) -> Head
-    ensures { Heads (unary_lines name.now) (em at out.old) (em result.at out.new) result.expressed }
+fn put_unary(name: &[u8], w: &mut Writer) -> bool
+    ensures { Heads (unary_lines name.now) w.old w.new result }
 {
     if equal(name, &DATATYPE) {
-        let a = put_all(out, at, &CALL_DATATYPE);
-        return Head {
-            expressed: true,
-            at: a,
-        };
+        w.put_all(&CALL_DATATYPE);
+        return true;
     }
     if equal(name, &LANGUAGE_TAG) {
-        let b = put_all(out, at, &CALL_LANG);
-        return Head {
-            expressed: true,
-            at: b,
-        };
+        w.put_all(&CALL_LANG);
+        return true;
     }
-    Head {
-        expressed: false,
-        at,
-    }
+    false
 }
 
 // try_expression_from_binary, of a function's name.
-fn put_binary(name: &[u8], out: &mut [u8], at: usize) -> Head
-    ensures { Heads (binary_lines name.now) (em at out.old) (em result.at out.new) result.expressed }
+fn put_binary(name: &[u8], w: &mut Writer) -> bool
+    ensures { Heads (binary_lines name.now) w.old w.new result }
 {
     if equal(name, &EQUALS) {
-        let a = put_all(out, at, &EQ);
-        return Head {
-            expressed: true,
-            at: a,
-        };
+        w.put_all(&EQ);
+        return true;
     }
     if equal(name, &UNEQUALS) {
-        let b = put_all(out, at, &NOT_EQ);
-        return Head {
-            expressed: true,
-            at: b,
-        };
+        w.put_all(&NOT_EQ);
+        return true;
     }
-    Head {
-        expressed: false,
-        at,
-    }
+    false
 }
 
 // The lines that a line becomes whose word has this key and whose other fields stand from `first` to its end; its parts' follow.
@@ -181,29 +142,25 @@ pub fn put_line(
     key: u64,
     first: usize,
     end: usize,
-    out: &mut [u8],
-    at: usize,
-) -> Head
+    w: &mut Writer,
+) -> bool
     requires { (n ≤ bounds.columns) × (end < length filters.now) × (first ≤ end + 1) }
-    ensures { (f : Bytes) → Keyed f key → Heads (expression_lines (names_in tree.now columns.now n) (f ∷ left filters.now first end)) (em at out.old) (em result.at out.new) result.expressed }
+    ensures { (f : Bytes) → Keyed f key → Heads (expression_lines (names_in tree.now columns.now n) (f ∷ left filters.now first end)) w.old w.new result }
 {
     match key {
-        keys::LEAF => put_leaf(filters, first, end, out, at),
-        keys::REF => put_ref(tree, columns, n, filters, first, end, out, at),
+        keys::LEAF => put_leaf(filters, first, end, w),
+        keys::REF => put_ref(tree, columns, n, filters, first, end, w),
         keys::UN => {
             let name = field_at(filters, first, end);
             let to = name.to;
-            put_unary(&filters[first..to], out, at)
+            put_unary(&filters[first..to], w)
         }
         keys::BIN => {
             let name = field_at(filters, first, end);
             let to = name.to;
-            put_binary(&filters[first..to], out, at)
+            put_binary(&filters[first..to], w)
         }
-        _ => Head {
-            expressed: false,
-            at,
-        },
+        _ => false,
     }
 }
 

@@ -1,6 +1,6 @@
 -- Where only lines with nothing but a pattern below them stand above the outermost projection: the search for it, and that its inner pattern ends with the text. Assumes nothing.
 use Prim.Native.Nat.{ℕ, zero, suc, ◌+◌, ◌-◌, ◌≤◌, ◌<◌}
-use mathlib.Core.Path.{◌≡◌, refl, sym, ap, subst, ◌∙◌}
+use mathlib.Core.Path.{◌≡◌, refl, sym, ap, ◌∙◌}
 use mathlib.Core.Bool.{Bool, true, false, not}
 use mathlib.Core.Logic.{⊎_elim}
 use mathlib.Core.List.{List, [], ◌∷◌, ◌++◌}
@@ -12,7 +12,7 @@ use Rattle.text.specs.Text.{Bytes, Line, same, text_of, part, lines_from, First}
 use Rattle.text.specs.Word.{bytes}
 use Rattle.text.proofs.Places.{lines_end, lines_next}
 use Rattle.algebra.specs.Tree.{Pattern}
-use Rattle.algebra.specs.Layout.{put, put_os, put_as}
+use Rattle.algebra.specs.Layout.{put}
 use Rattle.algebra.specs.Reader.{reads}
 use Rattle.algebra.specs.Texts.{read_tree}
 use Rattle.algebra.specs.Valid.{mem}

@@ -1,13 +1,11 @@
 -- Steps of both calls: two tests in turn, and a line that is repeated. Assumes nothing.
-use Prim.Native.Nat.{ℕ, zero, suc, ◌-◌, ◌≤◌, ◌<◌}
+use Prim.Native.Nat.{ℕ, zero, suc, ◌+◌, ◌-◌, ◌≤◌, ◌<◌}
 use mathlib.Core.Path.{◌≡◌, refl, sym, ap, ◌∙◌}
 use mathlib.Core.Bool.{Bool, true, false, not, ◌&&◌}
-use mathlib.Core.List.{List, [], ◌∷◌, ◌++◌}
+use mathlib.Core.List.{List, [], ◌∷◌, ◌++◌, append_assoc}
 use native.Mathlib.Omega.{arith}
 use borrow.Author.Tests.{not-true, not-false}
 use Rattle.text.specs.Text.{Bytes, Line, ended, text_of}
-use Rattle.emit.specs.bridge.Emit.{Em, puts}
-use Rattle.emit.proofs.Laws.{puts-append, puts-nil}
 use Rattle.filtering.specs.bridge.SetLines.{repeated}
 
 pub both_true : (a b : Bool) → not a ≡ false → b ≡ (a && b)
@@ -26,19 +24,18 @@ and-next true b t c x e h = ap (λ (y : Bool). y && c) e ∙ h
 and-next false b t c x e h = ap (λ (y : Bool). y && c) e ∙ h
 
 module _ (w : Bytes) where
-  pub repeated-next : (k : ℕ) (e x y : Em) → 0 < k → x ≡ puts w e → y ≡ puts (10 ∷ []) x → puts (text_of (repeated (k - 1) w [])) y ≡ puts (text_of (repeated k w [])) e
-  unfolding repeated text_of ended
-  repeated-next zero e x y h p q = absurd (omega arith)
-  repeated-next (suc k) e x y h p q =
-      let z : suc k - 1 ≡ k = omega arith in
-      rw z
-      (ap (puts (text_of (repeated k w []))) (q ∙ ap (puts (10 ∷ [])) p)
-      ∙ sym (puts-append w (10 ∷ text_of (repeated k w [])) e ∙ puts-append (10 ∷ []) (text_of (repeated k w [])) (puts w e)))
+  pub repeated-all : (n : ℕ) → text_of (repeated n w []) ≡ text_of (repeated (n - 0) w [])
+  repeated-all n = let z : n ≡ n - 0 = omega arith in ap (λ (k : ℕ). text_of (repeated k w [])) z
 
-  pub repeated-done : (k : ℕ) (e : Em) → k ≤ 0 → puts (text_of (repeated k w [])) e ≡ e
+  pub repeated-next : (n i : ℕ) → i < n → text_of (repeated (n - i) w []) ≡ (w ++ (10 ∷ [])) ++ text_of (repeated (n - (i + 1)) w [])
+  unfolding repeated text_of ended
+  repeated-next n i h =
+      let z : n - i ≡ suc (n - (i + 1)) = omega arith in
+      ap (λ (k : ℕ). text_of (repeated k w [])) z ∙ sym (append_assoc w (10 ∷ []) (text_of (repeated (n - (i + 1)) w [])))
+
+  pub repeated-done : (n i : ℕ) → n ≤ i → text_of (repeated (n - i) w []) ≡ []
   unfolding repeated text_of
-  repeated-done zero e h = puts-nil e
-  repeated-done (suc k) e h = absurd (omega arith)
+  repeated-done n i h = let z : n - i ≡ 0 = omega arith in ap (λ (k : ℕ). text_of (repeated k w [])) z
 
 -- in front of other lines
 pub repeated-append : (n : ℕ) (w : Bytes) (t : List Line) → repeated n w t ≡ repeated n w [] ++ t

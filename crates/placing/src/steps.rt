@@ -1,10 +1,10 @@
 // Steps of both calls.
 ghost use Rattle.std.specs.Prelude.{◌≡◌, ◌&&◌, []};
 ghost use Rattle.text.specs.Text.{text_of};
-ghost use Rattle.emit.specs.bridge.Emit.{em, puts};
+ghost use Rattle.emit.specs.bridge.Writer.{Wrote};
 ghost use Rattle.filtering.specs.bridge.SetLines.{repeated};
 
-use emit::{put, put_all};
+use emit::Writer;
 
 pub fn both(a: bool, b: bool) -> bool
     ensures { result ≡ (a && b) }
@@ -16,15 +16,11 @@ pub fn both(a: bool, b: bool) -> bool
 }
 
 // So many lines of one word.
-pub fn put_repeated(word: &[u8], count: usize, out: &mut [u8], at: usize) -> usize
-    ensures { em result out.new ≡ puts (text_of (repeated count word.now [])) (em at out.old) }
+pub fn put_repeated(word: &[u8], count: usize, w: &mut Writer)
+    ensures { Wrote w.old w.new (text_of (repeated count word.now [])) }
 {
-    let mut to = at;
-    let mut left = count;
-    while 0 < left {
-        to = put_all(out, to, word);
-        to = put(out, to, 10);
-        left -= 1;
+    for _line in 0..count {
+        w.put_all(word);
+        w.put(10);
     }
-    to
 }

@@ -1,9 +1,9 @@
 // The term that a value becomes.
 ghost use Rattle.std.specs.Prelude.{◌≡◌, [], ◌∷◌, ◌++◌};
-ghost use Rattle.emit.specs.bridge.Emit.{em, puts};
+ghost use Rattle.emit.specs.bridge.Writer.{Wrote};
 ghost use Rattle.filtering.specs.bridge.Terms.{form_of, term_of};
 
-use emit::{put, put_all};
+use emit::Writer;
 use text::equal;
 
 const PLAIN_STRING: [u8; 11] = *b"PlainString";
@@ -49,37 +49,40 @@ pub fn form_of(domain: &[u8]) -> u8
 }
 
 // The lexical form between two bytes.
-fn put_between(first: u8, lexical: &[u8], last: u8, out: &mut [u8], at: usize) -> usize
-    ensures { em result out.new ≡ puts (first ∷ (lexical.now ++ (last ∷ []))) (em at out.old) }
+fn put_between(first: u8, lexical: &[u8], last: u8, w: &mut Writer)
+    ensures { Wrote w.old w.new (first ∷ (lexical.now ++ (last ∷ []))) }
 {
-    let a = put(out, at, first);
-    let b = put_all(out, a, lexical);
-    put(out, b, last)
+    w.put(first);
+    w.put_all(lexical);
+    w.put(last);
 }
 
 const MARKS: [u8; 2] = *b"^^";
 
 // The term of a value of this form.
-pub fn put_term(form: u8, lexical: &[u8], extra: &[u8], out: &mut [u8], at: usize) -> usize
-    ensures { em result out.new ≡ puts (term_of form lexical.now extra.now) (em at out.old) }
+pub fn put_term(form: u8, lexical: &[u8], extra: &[u8], w: &mut Writer)
+    ensures { Wrote w.old w.new (term_of form lexical.now extra.now) }
 {
     if form == 2 {
-        return put_between(60, lexical, 62, out, at);
+        put_between(60, lexical, 62, w);
+        return;
     }
     if form == 3 {
-        return put(out, at, 45);
+        w.put(45);
+        return;
     }
     if form == 4 {
-        return at;
+        return;
     }
-    let a = put_between(34, lexical, 34, out, at);
+    put_between(34, lexical, 34, w);
     if form == 0 {
-        return a;
+        return;
     }
     if form == 1 {
-        let b = put(out, a, 64);
-        return put_all(out, b, extra);
+        w.put(64);
+        w.put_all(extra);
+        return;
     }
-    let c = put_all(out, a, &MARKS);
-    put_all(out, c, extra)
+    w.put_all(&MARKS);
+    w.put_all(extra);
 }

@@ -130,7 +130,30 @@ fn rename_listed(
     rename_over(tree, table, n, spots, k, mapping, &news, out)
 }
 
-// The same, with as many entries as pays: they are cleared first.
+// The same with so many entries, which are cleared first.
+fn rename_keyed<const KEYS: usize>(
+    tree: &[u8],
+    table: &[Entry; 1024],
+    hints: &[u16; 2048],
+    n: usize,
+    spots: &mut [Spot],
+    k: usize,
+    words: &[WordRow; 56],
+    nodes: &[Node],
+    m: usize,
+    mapping: &[u8],
+    out: &mut [u8],
+) -> Answer
+    requires { (KEYS ≤ 256) × ((i : ℕ) → i < 256 → 2 * i < length mapping.now → i < KEYS) × Recorded tree.now (starts_of table.now) (sizes_of table.now) hints.now n spots.old k words.now nodes.now m }
+    ensures { Answered (rename_as_is tree.now mapping.now) out.old out.new result }
+{
+    let mut keys = [[0u16; 4]; KEYS];
+    rename_listed(
+        tree, table, hints, n, spots, k, words, nodes, m, mapping, &mut keys, out,
+    )
+}
+
+// The same with as many entries as pays.
 fn rename_by(
     tree: &[u8],
     table: &[Entry; 1024],
@@ -148,14 +171,12 @@ fn rename_by(
     ensures { Answered (rename_as_is tree.now mapping.now) out.old out.new result }
 {
     if mapping.len() <= 128 {
-        let mut few = [[0u16; 4]; 64];
-        return rename_listed(
-            tree, table, hints, n, spots, k, words, nodes, m, mapping, &mut few, out,
+        return rename_keyed::<64>(
+            tree, table, hints, n, spots, k, words, nodes, m, mapping, out,
         );
     }
-    let mut keys = [[0u16; 4]; ENTRIES];
-    rename_listed(
-        tree, table, hints, n, spots, k, words, nodes, m, mapping, &mut keys, out,
+    rename_keyed::<ENTRIES>(
+        tree, table, hints, n, spots, k, words, nodes, m, mapping, out,
     )
 }
 
@@ -191,7 +212,7 @@ fn rename_with(
 
 // The same with so many spots and nodes, which are cleared first. Each size has a frame of its own.
 #[inline(never)]
-fn rename_in<const SPOTS: usize, const NODES: usize>(
+fn rename_in<const NODES: usize, const SPOTS: usize>(
     tree: &[u8],
     mapping: &[u8],
     out: &mut [u8],
@@ -213,7 +234,7 @@ fn rename_text(tree: &[u8], mapping: &[u8], out: &mut [u8]) -> Answer
         385..=768 => rename_in::<256, 256>(tree, mapping, out),
         769..=1536 => rename_in::<512, 512>(tree, mapping, out),
         1537..=6144 => rename_in::<2048, 2048>(tree, mapping, out),
-        _ => rename_in::<5462, 2048>(tree, mapping, out),
+        _ => rename_in::<2048, 5462>(tree, mapping, out),
     }
 }
 

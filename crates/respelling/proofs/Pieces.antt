@@ -1,6 +1,6 @@
 -- Laws of what was written: nothing, a copy, one piece behind another, an IRI. Assumes nothing.
 use Prim.Native.Nat.{ℕ, suc, ◌+◌, ◌-◌, ◌≤◌, ◌<◌}
-use mathlib.Core.Path.{◌≡◌, refl, sym, ap, ap₂, subst, ◌∙◌}
+use mathlib.Core.Path.{◌≡◌, refl, sym, ap, subst, ◌∙◌}
 use mathlib.Core.Bool.{Bool, true, false, ◌&&◌}
 use mathlib.Core.List.{List, [], ◌∷◌, ◌++◌}
 use mathlib.Core.Option.{Option, none, some}
@@ -11,12 +11,14 @@ use Rattle.text.specs.Text.{Bytes, part}
 use Rattle.text.specs.Field.{given}
 use Rattle.text.proofs.Parts.{part_join}
 use Rattle.scoping.specs.Sets.{all}
-use Rattle.emit.specs.bridge.Emit.{em, puts}
+use Rattle.emit.specs.bridge.Emit.{puts}
+use Rattle.emit.specs.bridge.Writer.{Wrote, state}
+use Rattle.emit.specs.declared.Writer.{Writer}
 use Rattle.emit.proofs.Laws.{puts-append, puts-nil}
 use Rattle.converting.specs.Starts.{Start}
 use Rattle.converting.specs.Namespaces.{covering_line, start_replaced, converted_iri}
 use Rattle.respelling.specs.declared.Put.{Put}
-use Rattle.respelling.specs.bridge.Written.{are_covered, copied_to, Wrote}
+use Rattle.respelling.specs.bridge.Written.{are_covered, copied_to, Converted}
 use Rattle.respelling.proofs.Marked.{and-true, and-false}
 
 and-and : (a b c : Bool) → ((a && b) && c) ≡ (a && (b && c))
@@ -36,33 +38,36 @@ module _ (ss : List Start) (tree : Bytes) where
   unfolding are_covered all
   none_needed b = sym (and-true b)
 
-  pub wrote_nothing : (at : ℕ) (p : Put) (out : Bytes) → Wrote ss tree at at [] [] p out p out
-  wrote_nothing at p out = record { text = sym (puts-nil (copied_to tree at p out)); gaps = none_needed p.covered }
+  pub converted_nothing : (at : ℕ) (p : Put) (w : Writer) → Converted ss tree at at [] [] p w p w
+  converted_nothing at p w = record { same = refl; text = sym (puts-nil (copied_to tree at p w)); gaps = none_needed p.covered }
 
   -- what waits is copied
-  pub wrote-copy : (from to : ℕ) (p : Put) (out : Bytes) → p.done ≤ from → from ≤ to → Wrote ss tree from to (part from to tree) [] p out p out
+  pub converted-copy : (from to : ℕ) (p : Put) (w : Writer) → p.done ≤ from → from ≤ to → Converted ss tree from to (part from to tree) [] p w p w
   unfolding copied_to
-  wrote-copy from to p out h k =
+  converted-copy from to p w h k =
       record {
-        text = ap (λ (b : Bytes). puts b (em p.at out)) (sym (part_join tree p.done from to h k)) ∙ puts-append (part p.done from tree) (part from to tree) (em p.at out);
+        same = refl;
+        text = ap (λ (b : Bytes). puts b (state w)) (sym (part_join tree p.done from to h k)) ∙ puts-append (part p.done from tree) (part from to tree) (state w);
         gaps = none_needed p.covered;
       }
 
   -- one piece behind another
-  pub wrote_then : (a b c : ℕ) (x y : Bytes) (xs ys : List Bytes) (p q r : Put) (o o' o'' : Bytes)
-      → Wrote ss tree a b x xs p o q o' → Wrote ss tree b c y ys q o' r o'' → Wrote ss tree a c (x ++ y) (xs ++ ys) p o r o''
-  wrote_then a b c x y xs ys p q r o o' o'' w v =
+  pub converted_then : (a b c : ℕ) (x y : Bytes) (xs ys : List Bytes) (p q r : Put) (w w' w'' : Writer)
+      → Converted ss tree a b x xs p w q w' → Converted ss tree b c y ys q w' r w'' → Converted ss tree a c (x ++ y) (xs ++ ys) p w r w''
+  converted_then a b c x y xs ys p q r w w' w'' u v =
       record {
-        text = v.text ∙ ap (puts y) w.text ∙ sym (puts-append x y (copied_to tree a p o));
-        gaps = v.gaps ∙ ap (λ (t : Bool). t && are_covered ss ys) w.gaps ∙ and-and p.covered (are_covered ss xs) (are_covered ss ys) ∙ ap (λ (t : Bool). p.covered && t) (sym (covered-append ss xs ys));
+        same = v.same ∙ u.same;
+        text = v.text ∙ ap (puts y) u.text ∙ sym (puts-append x y (copied_to tree a p w));
+        gaps = v.gaps ∙ ap (λ (t : Bool). t && are_covered ss ys) u.gaps ∙ and-and p.covered (are_covered ss xs) (are_covered ss ys) ∙ ap (λ (t : Bool). p.covered && t) (sym (covered-append ss xs ys));
       }
 
-  pub wrote_as : (a b : ℕ) (x y : Bytes) (xs ys : List Bytes) (p q : Put) (o o' : Bytes) → x ≡ y → xs ≡ ys → Wrote ss tree a b x xs p o q o' → Wrote ss tree a b y ys p o q o'
-  wrote_as a b x y xs ys p q o o' e f w = subst (λ (z : Bytes). Wrote ss tree a b z ys p o q o') e (subst (λ (zs : List Bytes). Wrote ss tree a b x zs p o q o') f w)
+  pub converted_as : (a b : ℕ) (x y : Bytes) (xs ys : List Bytes) (p q : Put) (w w' : Writer) → x ≡ y → xs ≡ ys → Converted ss tree a b x xs p w q w' → Converted ss tree a b y ys p w q w'
+  converted_as a b x y xs ys p q w w' e f u =
+      subst (λ (z : Bytes). Converted ss tree a b z ys p w q w') e (subst (λ (zs : List Bytes). Converted ss tree a b x zs p w q w') f u)
 
   -- ---- an IRI
 
-  module _ (from to : ℕ) (p : Put) (out : Bytes) (low : p.done ≤ from) (less : from < to) (high : to ≤ length tree) where
+  module _ (from to : ℕ) (p : Put) (u : Writer) (low : p.done ≤ from) (less : from < to) (high : to ≤ length tree) where
     abbrev iri : Bytes
     iri = part from to tree
 
@@ -70,12 +75,13 @@ module _ (ss : List Start) (tree : Bytes) where
     iri-long = simp (length-take, length-drop) (omega arith)
 
     -- no line covers it: it waits
-    pub iri-waits : covering_line ss iri ≡ none → (q : Put) → q.at ≡ p.at → q.done ≡ p.done → q.covered ≡ false → (q.done ≤ to) × Wrote ss tree from to (converted_iri ss iri) (iri ∷ []) p out q out
+    pub iri-waits : covering_line ss iri ≡ none → (q : Put) → q.done ≡ p.done → q.covered ≡ false → (q.done ≤ to) × Converted ss tree from to (converted_iri ss iri) (iri ∷ []) p u q u
     unfolding converted_iri copied_to are_covered all
-    iri-waits e q a d c = (
+    iri-waits e q d c = (
       omega arith,
       record {
-        text = ap₂ (λ (i j : ℕ). puts (part i to tree) (em j out)) d a ∙ (wrote-copy from to p out low (omega arith)).text ∙ ap (λ (b : Bytes). puts b (puts (part p.done from tree) (em p.at out))) (sym (ap (λ (o : Option Start). start_replaced o iri) e));
+        same = refl;
+        text = ap (λ (i : ℕ). puts (part i to tree) (state u)) d ∙ (converted-copy from to p u low (omega arith)).text ∙ ap (λ (b : Bytes). puts b (puts (part p.done from tree) (state u))) (sym (ap (λ (o : Option Start). start_replaced o iri) e));
         gaps = c ∙ sym (ap (λ (o : Option Start). p.covered && (given o && true)) e ∙ and-false p.covered);
       },
     )
@@ -92,22 +98,23 @@ module _ (ss : List Start) (tree : Bytes) where
       first = sym (part_join tree p.done from (from + 1) low (omega arith)) ∙ ap (λ (b : Bytes). part p.done from tree ++ b) (one_byte tree from (omega arith) ∙ ap (λ (x : ℕ). x ∷ []) lt)
 
       -- what waits with its <, then the new start; the rest waits
-      pub iri-put : (a b : ℕ) (o o' : Bytes) (q : Put) → em a o ≡ puts (part p.done (from + 1) tree) (em p.at out) → (new : Bytes) → new ≡ s.new → em b o' ≡ puts new (em a o)
-          → q.at ≡ b → (old : Bytes) → old ≡ s.old → q.done ≡ from + 1 + length old → q.covered ≡ p.covered → (q.done ≤ to) × Wrote ss tree from to (converted_iri ss iri) (iri ∷ []) p out q o'
+      pub iri-put : (v x : Writer) (q : Put) → Wrote u v (part p.done (from + 1) tree) → (new : Bytes) → new ≡ s.new → Wrote v x new
+          → (old : Bytes) → old ≡ s.old → q.done ≡ from + 1 + length old → q.covered ≡ p.covered → (q.done ≤ to) × Converted ss tree from to (converted_iri ss iri) (iri ∷ []) p u q x
       unfolding converted_iri copied_to are_covered all
-      iri-put a b o o' q u new is v' w old was d' c =
+      iri-put v x q one new is two old was d' c =
           let l = iri-long in
-          let v : em b o' ≡ puts s.new (em a o) = v' ∙ ap (λ (x : Bytes). puts x (em a o)) is in
-          let d : q.done ≡ from + 1 + length s.old = d' ∙ ap (λ (x : Bytes). from + 1 + length x) was in (
+          let d : q.done ≡ from + 1 + length s.old = d' ∙ ap (λ (b : Bytes). from + 1 + length b) was in
+          let t : state x ≡ puts s.new (state v) = two.puts ∙ ap (λ (b : Bytes). puts b (state v)) is in (
             omega arith,
             record {
+              same = two.same ∙ one.same;
               text =
-                  ap₂ (λ (i j : ℕ). puts (part i to tree) (em j o')) d w
-                  ∙ ap (puts (part (from + 1 + length s.old) to tree)) (v ∙ ap (puts s.new) (u ∙ ap (λ (x : Bytes). puts x (em p.at out)) first ∙ puts-append (part p.done from tree) (60 ∷ []) (em p.at out)))
-                  ∙ sym (puts-append s.new (part (from + 1 + length s.old) to tree) (puts (60 ∷ []) (puts (part p.done from tree) (em p.at out))))
-                  ∙ sym (puts-append (60 ∷ []) (s.new ++ part (from + 1 + length s.old) to tree) (puts (part p.done from tree) (em p.at out)))
-                  ∙ ap (λ (x : Bytes). puts (60 ∷ (s.new ++ x)) (puts (part p.done from tree) (em p.at out))) (sym behind)
-                  ∙ ap (λ (x : Option Start). puts (start_replaced x iri) (puts (part p.done from tree) (em p.at out))) (sym e);
+                  ap (λ (i : ℕ). puts (part i to tree) (state x)) d
+                  ∙ ap (puts (part (from + 1 + length s.old) to tree)) (t ∙ ap (puts s.new) (one.puts ∙ ap (λ (b : Bytes). puts b (state u)) first ∙ puts-append (part p.done from tree) (60 ∷ []) (state u)))
+                  ∙ sym (puts-append s.new (part (from + 1 + length s.old) to tree) (puts (60 ∷ []) (puts (part p.done from tree) (state u))))
+                  ∙ sym (puts-append (60 ∷ []) (s.new ++ part (from + 1 + length s.old) to tree) (puts (part p.done from tree) (state u)))
+                  ∙ ap (λ (x : Bytes). puts (60 ∷ (s.new ++ x)) (puts (part p.done from tree) (state u))) (sym behind)
+                  ∙ ap (λ (x : Option Start). puts (start_replaced x iri) (puts (part p.done from tree) (state u))) (sym e);
               gaps = c ∙ sym (ap (λ (x : Option Start). p.covered && (given x && true)) e ∙ and-true p.covered);
             },
           )

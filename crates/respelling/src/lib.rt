@@ -10,18 +10,18 @@ ghost use Rattle.algebra.specs.Texts.{read_tree};
 ghost use Rattle.words.specs.bridge.Key.{Keyed};
 ghost use Rattle.cursor.specs.bridge.Cursor.{left};
 ghost use Rattle.walking.specs.bridge.Walk.{tabbed};
-ghost use Rattle.emit.specs.bridge.Emit.{em, puts};
+ghost use Rattle.emit.specs.bridge.Writer.{Wrote};
 ghost use Rattle.answers.specs.Outcome.{Answered};
 ghost use Rattle.converting.specs.Namespaces.{converted_iri, namespaces_outcome};
 ghost use Rattle.converting.specs.bridge.AsIs.{namespaces_as_is};
 ghost use Rattle.converting.specs.bridge.Lines.{is_text, is_iri_at, in_fields, in_line, iris_of_fields, iris_in};
 ghost use Rattle.starts.specs.bridge.Starts.{starts_in, StartsTold, Ordered};
-ghost use Rattle.respelling.specs.bridge.Written.{are_covered, Wrote};
+ghost use Rattle.respelling.specs.bridge.Written.{are_covered, Converted};
 
 use algebra::EMPTY_TREE;
 use answers::{Answer, Refusal};
 use cursor::field_end;
-use emit::put_all;
+use emit::Writer;
 use lists::field_at;
 use reader::next_end;
 use reading::check_tree;
@@ -29,10 +29,9 @@ use starts::{STARTS, Starts, check_starts, in_order, line_over};
 use words::table::all_words;
 use words::{keys, word_at};
 
-// Where the next byte goes, the first byte of the tree that is not copied yet, and whether a line covers each IRI so far.
+// The first byte of the tree that is not copied yet, and whether a line covers each IRI so far.
 #[derive(Clone, Copy)]
 struct Put {
-    at: usize,
     done: usize,
     covered: bool,
 }
@@ -72,14 +71,13 @@ fn put_iri(
     table: &[u8],
     keys: &Starts,
     n: usize,
-    out: &mut [u8],
+    w: &mut Writer,
 ) -> Put
     requires { (put.done ≤ from) × (from < to) × (to ≤ length tree.now) × (get_or tree.now from 0 ≡ 60) × Ordered table.now keys.now n }
-    ensures { (result.done ≤ to) × Wrote (starts_in table.now keys.now n) tree.now from to (converted_iri (starts_in table.now keys.now n) (part from to tree.now)) (part from to tree.now ∷ []) put out.old result out.new }
+    ensures { (result.done ≤ to) × Converted (starts_in table.now keys.now n) tree.now from to (converted_iri (starts_in table.now keys.now n) (part from to tree.now)) (part from to tree.now ∷ []) put w.old result w.new }
 {
     let Some(k) = line_over(table, keys, n, &tree[from..to]) else {
         return Put {
-            at: put.at,
             done: put.done,
             covered: false,
         };
@@ -87,10 +85,9 @@ fn put_iri(
     let e = keys[k];
     let done = put.done;
     let behind = from + 1;
-    let copied = put_all(out, put.at, &tree[done..behind]);
-    let at = put_all(out, copied, field_at(table, e[2], e[3]));
+    w.put_all(&tree[done..behind]);
+    w.put_all(field_at(table, e[2], e[3]));
     Put {
-        at,
         done: behind + field_at(table, e[0], e[1]).len(),
         covered: put.covered,
     }
@@ -107,15 +104,15 @@ fn put_field(
     table: &[u8],
     keys: &Starts,
     n: usize,
-    out: &mut [u8],
+    w: &mut Writer,
 ) -> Put
     requires { (put.done ≤ from) × (from ≤ to) × (to ≤ length tree.now) × Ordered table.now keys.now n }
-    ensures { (result.done ≤ to) × ((word : Bytes) → Keyed word key → Wrote (starts_in table.now keys.now n) tree.now from to (cond (is_iri_at word i (part from to tree.now)) (converted_iri (starts_in table.now keys.now n) (part from to tree.now)) (part from to tree.now)) (cond (is_iri_at word i (part from to tree.now)) (part from to tree.now ∷ []) []) put out.old result out.new) }
+    ensures { (result.done ≤ to) × ((word : Bytes) → Keyed word key → Converted (starts_in table.now keys.now n) tree.now from to (cond (is_iri_at word i (part from to tree.now)) (converted_iri (starts_in table.now keys.now n) (part from to tree.now)) (part from to tree.now)) (cond (is_iri_at word i (part from to tree.now)) (part from to tree.now ∷ []) []) put w.old result w.new) }
 {
     if !is_iri_at(tree, from, to, key, i) {
         return put;
     }
-    put_iri(tree, from, to, put, table, keys, n, out)
+    put_iri(tree, from, to, put, table, keys, n, w)
 }
 
 // The fields of a line from its word's end on.
@@ -128,10 +125,10 @@ fn put_fields(
     table: &[u8],
     keys: &Starts,
     n: usize,
-    out: &mut [u8],
+    w: &mut Writer,
 ) -> Put
     requires { (first.done ≤ from) × (from ≤ end) × (end < length tree.now) × (from < end → get_or tree.now from 0 ≡ 9) × Ordered table.now keys.now n }
-    ensures { (result.done ≤ end) × ((word : Bytes) → Keyed word key → Wrote (starts_in table.now keys.now n) tree.now from end (tabbed (in_fields (converted_iri (starts_in table.now keys.now n)) word 0 (left tree.now (from + 1) end))) (iris_of_fields word 0 (left tree.now (from + 1) end)) first out.old result out.new) }
+    ensures { (result.done ≤ end) × ((word : Bytes) → Keyed word key → Converted (starts_in table.now keys.now n) tree.now from end (tabbed (in_fields (converted_iri (starts_in table.now keys.now n)) word 0 (left tree.now (from + 1) end))) (iris_of_fields word 0 (left tree.now (from + 1) end)) first w.old result w.new) }
 {
     let mut put = first;
     let mut at = from;
@@ -139,33 +136,19 @@ fn put_fields(
     while at < end {
         let start = at + 1;
         let to = field_end(tree, start, end);
-        put = put_field(tree, start, to, key, i, put, table, keys, n, out);
+        put = put_field(tree, start, to, key, i, put, table, keys, n, w);
         at = to;
         i += 1;
     }
     put
 }
 
-// How long the converted tree is, and whether a line of the table covers each of its IRIs.
-#[derive(Clone, Copy)]
-pub struct Converted {
-    pub size: usize,
-    pub covered: bool,
-}
-
-// The tree line by line, each IRI with its new start.
-pub fn put_converted(
-    tree: &[u8],
-    table: &[u8],
-    keys: &Starts,
-    n: usize,
-    out: &mut [u8],
-) -> Converted
+// The tree line by line, each IRI with its new start, and whether a line of the table covers each of its IRIs.
+pub fn put_converted(tree: &[u8], table: &[u8], keys: &Starts, n: usize, w: &mut Writer) -> bool
     requires { ((p : Pattern) × (read_tree tree.now ≡ reads p)) × Ordered table.now keys.now n }
-    ensures { (em result.size out.new ≡ puts (text_of (map (in_line (converted_iri (starts_in table.now keys.now n))) (lines_from tree.now 0))) (em 0 out.old)) × (result.covered ≡ are_covered (starts_in table.now keys.now n) (iris_in (lines_from tree.now 0))) }
+    ensures { Wrote w.old w.new (text_of (map (in_line (converted_iri (starts_in table.now keys.now n))) (lines_from tree.now 0))) × (result ≡ are_covered (starts_in table.now keys.now n) (iris_in (lines_from tree.now 0))) }
 {
     let mut put = Put {
-        at: 0,
         done: 0,
         covered: true,
     };
@@ -173,14 +156,12 @@ pub fn put_converted(
     while at < tree.len() {
         let end = next_end(tree, at);
         let word = word_at(tree, at, end);
-        put = put_fields(tree, word.end, end, word.key, put, table, keys, n, out);
+        put = put_fields(tree, word.end, end, word.key, put, table, keys, n, w);
         at = end + 1;
     }
     let done = put.done;
-    Converted {
-        size: put_all(out, put.at, &tree[done..]),
-        covered: put.covered,
-    }
+    w.put_all(&tree[done..]);
+    put.covered
 }
 
 // The answer for a tree and a table that were checked: measured without room, then written if each IRI is covered and it fits.
@@ -192,15 +173,17 @@ fn convert(tree: &[u8], table: &[u8], keys: &Starts, n: usize, out: &mut [u8]) -
         return Err(Refusal::NotInOrder);
     }
     let mut none = [0u8; 0];
-    let need = put_converted(tree, table, keys, n, &mut none);
-    if !need.covered {
+    let mut spare = Writer::new(&mut none, 0);
+    if !put_converted(tree, table, keys, n, &mut spare) {
         return Err(Refusal::NotCovered);
     }
-    if out.len() < need.size {
+    let need = spare.at;
+    if out.len() < need {
         return Err(Refusal::TooShort);
     }
-    let put = put_converted(tree, table, keys, n, out);
-    Ok(put.size)
+    let mut w = Writer::new(out, 0);
+    put_converted(tree, table, keys, n, &mut w);
+    Ok(w.at)
 }
 
 // The answer for a tree that was checked.

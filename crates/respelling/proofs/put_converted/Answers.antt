@@ -28,7 +28,7 @@ loop-at-smaller c =
 
 pub loop-at-preserved : goal.loop-at-preserved
 loop-at-preserved c =
-    T.below_next _ _ _ _ _ _ _ c.loop-at.invariant c.loop-at-test.true _ c.next_end-end.ensures _ _ c.word_at-word.ensures.0 c.word_at-word.ensures.1 _ _ c.put_fields-put.auto.out c.put_fields-put.ensures.0 c.put_fields-put.ensures.1
+    T.below_next _ _ _ _ _ _ _ c.loop-at.invariant c.loop-at-test.true _ c.next_end-end.ensures _ _ c.word_at-word.ensures.0 c.word_at-word.ensures.1 _ _ c.put_fields-put.ensures.0 c.put_fields-put.ensures.1
 
 pub slice_bounds-put_all-count : goal.slice_bounds-put_all-count
 slice_bounds-put_all-count c = let low = c.loop-at.invariant.low in let here = c.loop-at.invariant.here in omega arith
@@ -41,4 +41,4 @@ slice_bounds-put_all-end c = let low = c.loop-at.invariant.low in let here = c.l
 
 pub returns : goal.returns
 returns c =
-    T.below_end _ _ _ _ _ _ _ c.loop-at.invariant c.loop-at-test.false refl refl refl _ _ c.put_all.ensures
+    T.below_end _ _ _ _ _ _ _ c.loop-at.invariant c.loop-at-test.false refl refl _ c.put_all.ensures

@@ -23,10 +23,7 @@ loop-at-smaller c =
 
 pub loop-at-preserved : goal.loop-at-preserved
 loop-at-preserved c =
-    T.going_next _ _ _ _ _ _ _ _ _ _ _ c.loop-at.invariant c.requires.2 c.loop-at-test.true _ c.field_end-to.ensures _ _ c.put_field-put.auto.out c.put_field-put.ensures.0 c.put_field-put.ensures.1
-
-pub shape_of-out : goal.shape_of-out
-shape_of-out c = c.loop-at.invariant.long
+    T.going_next _ _ _ _ _ _ _ _ _ _ _ c.loop-at.invariant c.requires.2 c.loop-at-test.true _ c.field_end-to.ensures _ _ c.put_field-put.ensures.0 c.put_field-put.ensures.1
 
 pub returns : goal.returns
 returns c = T.going_end _ _ _ _ _ _ _ _ _ _ _ c.loop-at.invariant c.requires.2 c.loop-at-test.false

@@ -6,6 +6,7 @@ use Rattle.answers.proofs.Answers as A
 use Rattle.filtering.proofs.Read as R
 use Rattle.placing.proofs.Inner as I
 use Rattle.names.proofs.Laws.{listing-long}
+use Rattle.emit.proofs.Writing.{wrote-from}
 use Rattle.binding.proofs.Whole as Wh
 use Rattle.binding.proofs.bindings.bindings_of.Goals as goal
 
@@ -37,10 +38,10 @@ pub returns-then-not-has_room : goal.returns-then-not-has_room
 returns-then-not-has_room c =
     let p = c.requires.0 in let x = c.requires.1 in Wh.bindings-short _ _ p.0 x.0 p.1 x.1 _ _ (S.says_at _ _ _ _ c.outermost_projection.ensures c.in-Some.is) _ _ c.read_columns-n.ensures.1 (listing-long _ _ _ _) c.judge-judged.result c.judge-judged.ensures c.if-not-judged.false c.if-not-judged-2.false _ c.inner_end-end.ensures _ _ c.has_room.ensures c.if-not-has_room.true-raw
 
-pub put_bindings-put-requires : goal.put_bindings-put-requires
-put_bindings-put-requires c =
+pub put_bindings-requires : goal.put_bindings-requires
+put_bindings-requires c =
     let p = c.requires.0 in let x = c.requires.1 in (c.inner_end-end.ensures.low, c.inner_end-end.ensures.high, c.read_columns-n.ensures.0, R.sets-ended _ x.0 x.1)
 
 pub returns : goal.returns
 returns c =
-    let p = c.requires.0 in let x = c.requires.1 in let g = c.well_formed in Wh.bindings-all _ _ p.0 x.0 p.1 x.1 _ _ (S.says_at _ _ _ _ c.outermost_projection.ensures c.in-Some.is) _ _ c.read_columns-n.ensures.1 (listing-long _ _ _ _) c.judge-judged.result c.judge-judged.ensures c.if-not-judged.false c.if-not-judged-2.false _ c.inner_end-end.ensures _ _ c.has_room.ensures _ _ c.if-not-has_room.false-raw (omega (arith, g)) c.put_bindings-put.ensures
+    let p = c.requires.0 in let x = c.requires.1 in let g = c.well_formed in let w = wrote-from c.put_bindings.ensures c.new-w.ensures.starts in Wh.bindings-all _ _ p.0 x.0 p.1 x.1 _ _ (S.says_at _ _ _ _ c.outermost_projection.ensures c.in-Some.is) _ _ c.read_columns-n.ensures.1 (listing-long _ _ _ _) c.judge-judged.result c.judge-judged.ensures c.if-not-judged.false c.if-not-judged-2.false _ c.inner_end-end.ensures _ _ c.has_room.ensures _ _ c.if-not-has_room.false-raw (omega (arith, g)) (search rules)

@@ -2,6 +2,7 @@
 use mathlib.Core.Path.{sym}
 use native.Mathlib.Omega.{arith}
 use lib.Seq.{length-take-le}
+use Rattle.emit.proofs.Writing.{wrote-then, wrote-as}
 use Rattle.binding.proofs.Whole as Wh
 use Rattle.binding.proofs.bindings.put_bindings.Goals as goal
 
@@ -17,8 +18,8 @@ slice_bounds-put_all-start c = let a = c.requires.0 in let b = c.requires.1 in o
 pub slice_bounds-put_all-end-2 : goal.slice_bounds-put_all-end-2
 slice_bounds-put_all-end-2 c = let a = c.requires.0 in let b = c.requires.1 in omega arith
 
-pub put_values-d-requires : goal.put_values-d-requires
-put_values-d-requires c = (c.requires.2, c.requires.3)
+pub put_values-requires : goal.put_values-requires
+put_values-requires c = (c.requires.2, c.requires.3)
 
 pub slice_bounds-put_all-count-2 : goal.slice_bounds-put_all-count-2
 slice_bounds-put_all-count-2 c = let a = c.requires.0 in let b = c.requires.1 in omega arith
@@ -31,4 +32,6 @@ slice_bounds-put_all-end-3 c = let a = c.requires.0 in let b = c.requires.1 in o
 
 pub returns : goal.returns
 returns c =
-    Wh.bound-put _ _ _ _ _ _ _ _ _ _ _ _ c.put_all-a.ensures c.put_repeated-b.ensures c.put_all-c.ensures c.put_values-d.ensures c.put_all.ensures
+    wrote-as
+    (Wh.bound-put _ _ _ _ _ _)
+    (wrote-then (wrote-then (wrote-then (wrote-then c.put_all.ensures c.put_repeated.ensures) c.put_all-2.ensures) c.put_values.ensures) c.put_all-3.ensures)

@@ -1,16 +1,15 @@
 -- `binding::values/put_bound` meets its contract. Assumes nothing.
-use borrow.Author.Rules.{rules}
-use mathlib.Core.Path.{refl, sym, ◌∙◌}
 use native.Mathlib.Omega.{arith}
 use Rattle.names.specs.bridge.Names.{names_in}
+use Rattle.emit.proofs.Writing.{wrote-then, left-all, left-as, left-next, left-none}
 use Rattle.binding.proofs.Valued as Vd
 use Rattle.binding.proofs.values.put_bound.Goals as goal
 
 pub loop-next-init : goal.loop-next-init
-loop-next-init c = (refl, c.requires.2, refl)
+loop-next-init c = (c.requires.2, left-all _)
 
 pub field_at-field-requires : goal.field_at-field-requires
-field_at-field-requires c = (c.requires.1, c.loop-next.invariant.1)
+field_at-field-requires c = (c.requires.1, c.loop-next.invariant.0)
 
 pub slice_bounds-position_of-count : goal.slice_bounds-position_of-count
 slice_bounds-position_of-count c =
@@ -30,11 +29,8 @@ loop-next-smaller c =
 
 pub loop-next-preserved : goal.loop-next-preserved
 loop-next-preserved c =
-    (search rules, c.field_at-field.ensures.last, Vd.bound-next (names_in c.args.tree.now c.args.columns.now c.args.n) _ _ _ c.loop-next-test.true _ c.field_at-field.ensures _ c.position_of.ensures.0 _ c.column_at.ensures _ _ _ c.put-to.ensures c.put_all-to.ensures ∙ c.loop-next.invariant.2)
-
-pub shape_of-out : goal.shape_of-out
-shape_of-out c = c.loop-next.invariant.0
+    (c.field_at-field.ensures.last, left-next (left-as (Vd.bound-next (names_in c.args.tree.now c.args.columns.now c.args.n) _ _ _ c.loop-next-test.true _ c.field_at-field.ensures _ c.position_of.ensures.0 _ c.column_at.ensures) c.loop-next.invariant.1) (wrote-then c.put.ensures c.put_all.ensures))
 
 pub returns : goal.returns
 returns c =
-    sym (Vd.bound-done (names_in c.args.tree.now c.args.columns.now c.args.n) _ _ _ c.loop-next-test.false _) ∙ c.loop-next.invariant.2
+    left-none (left-as (Vd.bound-done (names_in c.args.tree.now c.args.columns.now c.args.n) _ _ _ c.loop-next-test.false) c.loop-next.invariant.1)

@@ -1,15 +1,14 @@
 -- `binding::values/put_cells` meets its contract. Assumes nothing.
-use borrow.Author.Rules.{rules}
-use mathlib.Core.Path.{refl, sym, ◌∙◌}
 use native.Mathlib.Omega.{arith}
+use Rattle.emit.proofs.Writing.{wrote-then, left-all, left-as, left-next, left-none}
 use Rattle.binding.proofs.Valued as Vd
 use Rattle.binding.proofs.values.put_cells.Goals as goal
 
 pub loop-next-init : goal.loop-next-init
-loop-next-init c = (refl, c.requires.1, refl)
+loop-next-init c = (c.requires.1, left-all _)
 
 pub field_at-domain-requires : goal.field_at-domain-requires
-field_at-domain-requires c = (c.requires.0, c.loop-next.invariant.1)
+field_at-domain-requires c = (c.requires.0, c.loop-next.invariant.0)
 
 pub field_at-lexical-requires : goal.field_at-lexical-requires
 field_at-lexical-requires c = (c.requires.0, c.field_at-domain.ensures.last)
@@ -59,10 +58,7 @@ loop-next-smaller c =
 
 pub loop-next-preserved : goal.loop-next-preserved
 loop-next-preserved c =
-    (search rules, c.field_at-extra.ensures.last, Vd.cells-next _ _ _ c.loop-next-test.true _ _ _ c.field_at-domain.ensures c.field_at-lexical.ensures c.field_at-extra.ensures _ c.form_of.ensures _ _ _ c.put-to.ensures c.put_term-to.ensures ∙ c.loop-next.invariant.2)
-
-pub shape_of-out : goal.shape_of-out
-shape_of-out c = c.loop-next.invariant.0
+    (c.field_at-extra.ensures.last, left-next (left-as (Vd.cells-next _ _ _ c.loop-next-test.true _ _ _ c.field_at-domain.ensures c.field_at-lexical.ensures c.field_at-extra.ensures _ c.form_of.ensures) c.loop-next.invariant.1) (wrote-then c.put.ensures c.put_term.ensures))
 
 pub returns : goal.returns
-returns c = sym (Vd.cells-done _ _ _ c.loop-next-test.false _) ∙ c.loop-next.invariant.2
+returns c = left-none (left-as (Vd.cells-done _ _ _ c.loop-next-test.false) c.loop-next.invariant.1)

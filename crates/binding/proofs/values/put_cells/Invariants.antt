@@ -1,15 +1,13 @@
 -- What the loops of `values.put_cells` keep. Assumes nothing.
 use Prim.Native.Nat.{◌+◌, ◌-◌, ◌≤◌}
-use mathlib.Core.Path.{◌≡◌}
-use lib.ListN.{length}
 use Rattle.cursor.specs.bridge.Cursor.{left as fieldsLeft}
-use Rattle.emit.specs.bridge.Emit.{em, puts}
+use Rattle.emit.specs.bridge.Writer.{Left}
 use Rattle.walking.specs.bridge.Walk.{tabbed}
 use Rattle.filtering.specs.bridge.SetLines.{cells_from}
 use Rattle.binding.proofs.values.put_cells.Given as goal
 
 abbrev pub invariant-loop-next : goal.invariant-loop-next
-invariant-loop-next l = (length l.out ≡ length l.initial.out) × (l.next ≤ l.end + 1) × (puts (tabbed (cells_from (fieldsLeft l.sets l.next l.end))) (em l.to l.out) ≡ puts (tabbed (cells_from (fieldsLeft l.sets l.from l.end))) (em l.at l.initial.out))
+invariant-loop-next l = (l.next ≤ l.end + 1) × Left l.initial.w l.w (tabbed (cells_from (fieldsLeft l.sets l.from l.end))) (tabbed (cells_from (fieldsLeft l.sets l.next l.end)))
 
 abbrev pub decreases-loop-next : goal.decreases-loop-next
 decreases-loop-next l = l.end + 1 - l.next

@@ -2,6 +2,7 @@
 use mathlib.Core.Path.{sym}
 use native.Mathlib.Omega.{arith}
 use lib.Seq.{length-take-le}
+use Rattle.emit.proofs.Writing.{wrote-then, wrote-as}
 use Rattle.expressing.proofs.Whole as Wh
 use Rattle.expressing.proofs.filters.put_filtered.Goals as goal
 
@@ -10,4 +11,6 @@ slice_bounds-put_all-end c = let p = c.requires in let a = p.0 in let b = p.1 in
 
 pub returns : goal.returns
 returns c =
-    Wh.filtered-put _ _ _ _ _ _ _ _ _ _ _ _ c.put_all-a.ensures c.put_all-b.ensures c.put_all-c.ensures c.put_repeated-d.ensures c.put_expressions-e.ensures c.put_all.ensures
+    wrote-as
+    (Wh.filtered-put _ _ _ _ _)
+    (wrote-then (wrote-then (wrote-then (wrote-then (wrote-then c.put_all.ensures c.put_all-2.ensures) c.put_all-3.ensures) c.put_repeated.ensures) c.put_expressions.ensures) c.put_all-4.ensures)

@@ -34,18 +34,12 @@ bounds-numbers-i c =
 pub one_more-many-requires : goal.one_more-many-requires
 one_more-many-requires c = let l = c.loop-i.invariant.low in let t = c.loop-i-test.true in omega (arith, l, t)
 
-pub overflow_add-i : goal.overflow_add-i
-overflow_add-i c = let t = c.loop-i-test.true in omega (arith, t)
-
-pub loop-i-smaller : goal.loop-i-smaller
-loop-i-smaller c = let t = c.loop-i-test.true in omega (arith, t)
-
 pub loop-i-preserved : goal.loop-i-preserved
 loop-i-preserved c = let a = c.args in
-    C.going_next _ (names_in a.tree.now a.columns.now a.n) _ _ _ _ _ _ _ c.loop-i.invariant c.loop-i-test.true (let n = c.if-filters-from.false in omega (arith, n)) _ c.line_from-line.ensures _ c.try_filter-tried.ensures _ _ _ c.is_true_first.ensures c.both-taken.ensures c.both-placed.ensures _ _ c.placed_end-size.ensures c.one_more-many.ensures
+    C.going_next _ (names_in a.tree.now a.columns.now a.n) _ _ _ _ _ _ _ c.loop-i.invariant c.loop-i-test.true (let n = c.if-filters-from.false in omega (arith, n)) _ c.line_from-line.ensures _ _ c.try_filter-tried.ensures _ _ _ c.is_true_first.ensures c.both-taken.ensures c.both-placed.ensures _ _ c.placed_end-size.ensures c.one_more-many.ensures
 
 pub overflow_sub-result-2 : goal.overflow_sub-result-2
-overflow_sub-result-2 c = let l = c.loop-i.invariant.low in omega (arith, l)
+overflow_sub-result-2 c = let l = c.loop-i.invariant.low in let h = c.loop-i.invariant.high in omega (arith, l, h)
 
 pub returns : goal.returns
 returns c =

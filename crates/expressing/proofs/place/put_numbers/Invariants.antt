@@ -1,5 +1,4 @@
 -- What the loops of `place.put_numbers` keep. Assumes nothing.
-use Prim.Native.Nat.{◌-◌}
 use mathlib.Core.Path.{◌≡◌}
 use lib.ListN.{length, drop}
 use lib.Seq.{sets}

@@ -51,4 +51,4 @@ slice_bounds-put_term-end-2 c =
 
 pub returns : goal.returns
 returns c =
-    H.leaf-some _ _ _ _ c.field_at-domain.ensures _ c.form_of-form.ensures _ c.is_expressed.ensures c.if-not-is_expressed.false-raw _ _ c.field_at-lexical.ensures c.field_at-extra.ensures _ _ _ _ c.put_all-f.ensures c.put_term-g.ensures c.put-h.ensures
+    H.leaf-some _ _ _ _ c.field_at-domain.ensures _ c.form_of-form.ensures _ c.is_expressed.ensures c.if-not-is_expressed.false-raw _ _ c.field_at-lexical.ensures c.field_at-extra.ensures _ _ _ _ c.put_all.ensures c.put_term.ensures c.put.ensures

@@ -60,36 +60,20 @@ pub put_binary-requires : goal.put_binary-requires
 unfolding key_of
 put_binary-requires c = search rules
 
-pub shape_of-out-in-1818583398 : goal.shape_of-out-in-1818583398
-unfolding key_of
-shape_of-out-in-1818583398 c = search rules
-
 pub returns-in-1818583398 : goal.returns-in-1818583398
 unfolding key_of
 returns-in-1818583398 c =
     λ f k. let a = c.args in H.head-leaf f _ k _ _ _ (names_in a.tree.now a.columns.now a.n) _ _ _ c.in-1818583398.is c.put_leaf.ensures
-
-pub shape_of-out-in-7497062 : goal.shape_of-out-in-7497062
-unfolding key_of
-shape_of-out-in-7497062 c = search rules
 
 pub returns-in-7497062 : goal.returns-in-7497062
 unfolding key_of
 returns-in-7497062 c =
     λ f k. let a = c.args in H.head-ref f _ k _ _ _ (names_in a.tree.now a.columns.now a.n) _ _ _ c.in-7497062.is c.put_ref.ensures
 
-pub shape_of-out-in-30062 : goal.shape_of-out-in-30062
-unfolding key_of
-shape_of-out-in-30062 c = search rules
-
 pub returns-in-30062 : goal.returns-in-30062
 unfolding key_of
 returns-in-30062 c =
     λ f k. let a = c.args in H.head-un f _ k _ _ _ (names_in a.tree.now a.columns.now a.n) _ _ _ _ c.field_at-name.ensures c.in-30062.is c.put_unary.ensures
-
-pub shape_of-out-in-6449518 : goal.shape_of-out-in-6449518
-unfolding key_of
-shape_of-out-in-6449518 c = search rules
 
 pub returns-in-6449518 : goal.returns-in-6449518
 unfolding key_of

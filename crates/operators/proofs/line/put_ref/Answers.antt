@@ -21,4 +21,4 @@ slice_bounds-position_of-end c =
 
 pub returns : goal.returns
 returns c =
-    H.ref-put _ _ _ _ c.field_at-field.ensures (names_in c.args.tree.now c.args.columns.now c.args.n) _ c.position_of.ensures.0 _ c.column_at.ensures _ _ _ _ c.put_all-a.ensures c.put_all-b.ensures c.put-c.ensures
+    H.ref-put _ _ _ _ c.field_at-field.ensures (names_in c.args.tree.now c.args.columns.now c.args.n) _ c.position_of.ensures.0 _ c.column_at.ensures _ _ _ _ c.put_all.ensures c.put_all-2.ensures c.put.ensures

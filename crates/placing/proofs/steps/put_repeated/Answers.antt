@@ -1,18 +1,14 @@
 -- `placing::steps/put_repeated` meets its contract. Assumes nothing.
-use borrow.Author.Rules.{rules}
-use mathlib.Core.Path.{refl, sym, ◌∙◌}
+use Rattle.emit.proofs.Writing.{wrote-then, left-all, left-as, left-next, left-none}
 use Rattle.placing.proofs.Repeated as R
 use Rattle.placing.proofs.steps.put_repeated.Goals as goal
 
-pub loop-left-init : goal.loop-left-init
-loop-left-init c = (refl, refl)
+pub loop-line-init : goal.loop-line-init
+loop-line-init c = left-as (R.repeated-all _ _) (left-all _)
 
-pub loop-left-preserved : goal.loop-left-preserved
-loop-left-preserved c =
-    (search rules, R.repeated-next _ _ _ _ _ c.loop-left-test.true c.put_all-to.ensures c.put-to.ensures ∙ c.loop-left.invariant.1)
-
-pub shape_of-out : goal.shape_of-out
-shape_of-out c = c.loop-left.invariant.0
+pub loop-line-preserved : goal.loop-line-preserved
+loop-line-preserved c =
+    left-next (left-as (R.repeated-next _ _ _ c.loop-line-test.true) c.loop-line.invariant) (wrote-then c.put_all.ensures c.put.ensures)
 
 pub returns : goal.returns
-returns c = sym (R.repeated-done _ _ _ c.loop-left-test.false) ∙ c.loop-left.invariant.1
+returns c = left-none (left-as (R.repeated-done _ _ _ c.loop-line-test.false) c.loop-line.invariant)

@@ -1,6 +1,6 @@
 -- `placing::term/put_between` meets its contract. Assumes nothing.
-use Rattle.placing.proofs.Written as W
+use Rattle.emit.proofs.Writing.{wrote-then}
 use Rattle.placing.proofs.term.put_between.Goals as goal
 
 pub returns : goal.returns
-returns c = W.between_put _ _ _ _ _ _ _ c.put-a.ensures c.put_all-b.ensures c.put.ensures
+returns c = wrote-then (wrote-then c.put.ensures c.put_all.ensures) c.put-2.ensures

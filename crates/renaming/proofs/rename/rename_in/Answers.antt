@@ -1,5 +1,5 @@
 -- `renaming::rename/rename_in` meets its contract. Assumes nothing.
-use lib.ListN.{length-replicate}
+use Rattle.std.proofs.lemmas.List.{length-replicate}
 use Rattle.renaming.proofs.rename.rename_in.Goals as goal
 
 pub rename_with-requires : goal.rename_with-requires
