@@ -153,34 +153,7 @@ fn rename_keyed<const KEYS: usize>(
     )
 }
 
-// The same with as many entries as pays.
-fn rename_by(
-    tree: &[u8],
-    table: &[Entry; 1024],
-    hints: &[u16; 2048],
-    n: usize,
-    spots: &mut [Spot],
-    k: usize,
-    words: &[WordRow; 56],
-    nodes: &[Node],
-    m: usize,
-    mapping: &[u8],
-    out: &mut [u8],
-) -> Answer
-    requires { Recorded tree.now (starts_of table.now) (sizes_of table.now) hints.now n spots.old k words.now nodes.now m }
-    ensures { Answered (rename_as_is tree.now mapping.now) out.old out.new result }
-{
-    if mapping.len() <= 128 {
-        return rename_keyed::<64>(
-            tree, table, hints, n, spots, k, words, nodes, m, mapping, out,
-        );
-    }
-    rename_keyed::<ENTRIES>(
-        tree, table, hints, n, spots, k, words, nodes, m, mapping, out,
-    )
-}
-
-// The same for any tree, where spots and nodes have room for all that a text within the bounds can have.
+// The same for any tree, where spots and nodes have room for all that a text within the bounds can have, with as many entries as pays.
 fn rename_with(
     tree: &[u8],
     spots: &mut [Spot],
@@ -195,18 +168,16 @@ fn rename_with(
     let mut table = new_table();
     let mut hints = [0u16; 2048];
     let noted = note_tree(tree, &words, &mut table, &mut hints, spots, nodes)?;
-    rename_by(
-        tree,
-        &table,
-        &hints,
-        noted.names,
-        spots,
-        noted.spots,
-        &words,
-        nodes,
-        noted.nodes,
-        mapping,
-        out,
+    let n = noted.names;
+    let k = noted.spots;
+    let m = noted.nodes;
+    if mapping.len() <= 128 {
+        return rename_keyed::<64>(
+            tree, &table, &hints, n, spots, k, &words, nodes, m, mapping, out,
+        );
+    }
+    rename_keyed::<ENTRIES>(
+        tree, &table, &hints, n, spots, k, &words, nodes, m, mapping, out,
     )
 }
 
