@@ -2,12 +2,12 @@
 #![tactic(auto)]
 
 use crate::edition::Edition;
-use crate::judge::judge;
+use crate::judge::judge_in;
 use answers::{Answer, Refusal, write_measured};
 use heads::tree_start;
 use reading::check_query;
 use spelling::before::Manner;
-use spelling::say::say_pattern;
+use spelling::say::say_tree;
 use words::table::{WordRow, all_words};
 
 pub mod edition;
@@ -36,10 +36,10 @@ fn sparql_of(query: &[u8], words: &[WordRow; 56], edition: Edition, out: &mut [u
     requires { ((q : Query) × (read_query query.now ≡ reads q)) × Worded words.now }
     ensures { Answered (edition_as_is (edition_at edition) query.now) out.old out.new result }
 {
-    judge(edition, query, words)?;
+    judge_in(edition, query, words)?;
     write_measured(
         out,
-        |o| say_pattern(query, words, Manner::Plain, 0, LEVELS, o, 0).at,
+        |o| say_tree(query, words, Manner::Plain, 0, LEVELS, o, 0).at,
     )
 }
 

@@ -4,7 +4,7 @@ ghost use Rattle.text.specs.Text.{Bytes};
 ghost use Rattle.words.specs.bridge.Key.{Keyed};
 ghost use Rattle.editions.specs.Refusals.{free, begins, takes_distinct, takes_project, takes_order};
 ghost use Rattle.spelling.specs.bridge.Judging.{place_under};
-ghost use Rattle.phrasing.specs.bridge.Code.{edition_at, place_at, place_told};
+ghost use Rattle.phrasing.specs.bridge.Code.{edition_at, edition_told, place_at, place_told};
 
 use crate::edition::Edition;
 use words::keys;
@@ -48,64 +48,97 @@ pub fn place_under(key: u64) -> Place
     }
 }
 
-// A pattern may stand there that is no part of a stack.
-pub fn is_free(place: Place) -> bool
-    ensures { result ≡ free (place_at place) }
-{
-    match place {
-        Place::Root => false,
-        Place::Inner => true,
-        Place::UnderSlice => false,
-        Place::UnderDistinct => false,
-        Place::UnderProject => true,
+impl Place {
+    // A pattern may stand there that is no part of a stack.
+    pub fn is_free(self) -> bool
+        ensures { result ≡ free (place_at self) }
+    {
+        match self {
+            Place::Root => false,
+            Place::Inner => true,
+            Place::UnderSlice => false,
+            Place::UnderDistinct => false,
+            Place::UnderProject => true,
+        }
+    }
+
+    // A stack may begin there.
+    pub fn may_begin(self, edition: Edition) -> bool
+        ensures { result ≡ begins (edition_at edition) (place_at self) }
+    {
+        match self {
+            Place::Root => true,
+            Place::Inner => edition.is_eleven(),
+            Place::UnderSlice => false,
+            Place::UnderDistinct => false,
+            Place::UnderProject => edition.is_eleven(),
+        }
+    }
+
+    pub fn takes_distinct(self, edition: Edition) -> bool
+        ensures { result ≡ takes_distinct (edition_at edition) (place_at self) }
+    {
+        match self {
+            Place::Root => true,
+            Place::Inner => edition.is_eleven(),
+            Place::UnderSlice => true,
+            Place::UnderDistinct => false,
+            Place::UnderProject => edition.is_eleven(),
+        }
+    }
+
+    pub fn takes_project(self, edition: Edition) -> bool
+        ensures { result ≡ takes_project (edition_at edition) (place_at self) }
+    {
+        match self {
+            Place::Root => true,
+            Place::Inner => edition.is_eleven(),
+            Place::UnderSlice => true,
+            Place::UnderDistinct => true,
+            Place::UnderProject => edition.is_eleven(),
+        }
+    }
+
+    pub fn takes_order(self) -> bool
+        ensures { result ≡ takes_order (place_at self) }
+    {
+        match self {
+            Place::Root => false,
+            Place::Inner => false,
+            Place::UnderSlice => false,
+            Place::UnderDistinct => false,
+            Place::UnderProject => true,
+        }
     }
 }
 
-// A stack may begin there.
-pub fn may_begin(edition: Edition, place: Place) -> bool
-    ensures { result ≡ begins (edition_at edition) (place_at place) }
+// The same of a place by its number, and of an edition by whether it is 1.1.
+pub fn is_free(place: u8) -> bool
+    ensures { result ≡ free (place_told place) }
 {
-    match place {
-        Place::Root => true,
-        Place::Inner => edition.is_eleven(),
-        Place::UnderSlice => false,
-        Place::UnderDistinct => false,
-        Place::UnderProject => edition.is_eleven(),
-    }
+    Place::from(place).is_free()
 }
 
-pub fn takes_distinct(edition: Edition, place: Place) -> bool
-    ensures { result ≡ takes_distinct (edition_at edition) (place_at place) }
+pub fn may_begin(eleven: bool, place: u8) -> bool
+    ensures { result ≡ begins (edition_told eleven) (place_told place) }
 {
-    match place {
-        Place::Root => true,
-        Place::Inner => edition.is_eleven(),
-        Place::UnderSlice => true,
-        Place::UnderDistinct => false,
-        Place::UnderProject => edition.is_eleven(),
-    }
+    Place::from(place).may_begin(Edition::from(eleven))
 }
 
-pub fn takes_project(edition: Edition, place: Place) -> bool
-    ensures { result ≡ takes_project (edition_at edition) (place_at place) }
+pub fn takes_distinct(eleven: bool, place: u8) -> bool
+    ensures { result ≡ takes_distinct (edition_told eleven) (place_told place) }
 {
-    match place {
-        Place::Root => true,
-        Place::Inner => edition.is_eleven(),
-        Place::UnderSlice => true,
-        Place::UnderDistinct => true,
-        Place::UnderProject => edition.is_eleven(),
-    }
+    Place::from(place).takes_distinct(Edition::from(eleven))
 }
 
-pub fn takes_order(place: Place) -> bool
-    ensures { result ≡ takes_order (place_at place) }
+pub fn takes_project(eleven: bool, place: u8) -> bool
+    ensures { result ≡ takes_project (edition_told eleven) (place_told place) }
 {
-    match place {
-        Place::Root => false,
-        Place::Inner => false,
-        Place::UnderSlice => false,
-        Place::UnderDistinct => false,
-        Place::UnderProject => true,
-    }
+    Place::from(place).takes_project(Edition::from(eleven))
+}
+
+pub fn takes_order(place: u8) -> bool
+    ensures { result ≡ takes_order (place_told place) }
+{
+    Place::from(place).takes_order()
 }

@@ -14,11 +14,11 @@ ghost use Rattle.editions.specs.Readers.{nonempty};
 ghost use Rattle.editions.specs.Refusals.{line, allowed, all_allowed, all_cells, free, begins, takes_distinct, takes_project, takes_order};
 ghost use Rattle.spelling.specs.bridge.Seeking.{sought_tree};
 ghost use Rattle.spelling.specs.bridge.Judging.{is_some, verdict_of};
-ghost use Rattle.phrasing.specs.bridge.Code.{edition_at, place_at, verdict_told};
+ghost use Rattle.phrasing.specs.bridge.Code.{edition_at, edition_told, place_at, place_told, verdict_told};
 
 use crate::edition::Edition;
 use crate::fields::{all_cells, all_named, allowed_at, are_different, blank_at, named_at};
-use crate::place::{Place, is_free, may_begin, takes_distinct, takes_order, takes_project};
+use crate::place::Place;
 use answers::Refusal;
 use placing::field::field_at;
 use spelling::seek::{is_field, seek_pattern};
@@ -44,14 +44,14 @@ fn told(said: bool, fine: bool) -> Result<(), Refusal>
 fn plain(place: Place) -> Result<(), Refusal>
     ensures { result ≡ verdict_told (line (free (place_at place)) true) }
 {
-    told(is_free(place), true)
+    told(place.is_free(), true)
 }
 
 // A pattern of 1.1 alone.
 fn newer(edition: Edition, place: Place) -> Result<(), Refusal>
     ensures { result ≡ verdict_told (line (free (place_at place) && is11 (edition_at edition)) true) }
 {
-    told(is_free(place) & edition.is_eleven(), true)
+    told(place.is_free() & edition.is_eleven(), true)
 }
 
 // An exists.
@@ -64,14 +64,14 @@ fn exists(edition: Edition) -> Result<(), Refusal>
 fn slice(edition: Edition, place: Place) -> Result<(), Refusal>
     ensures { result ≡ verdict_told (line (begins (edition_at edition) (place_at place)) true) }
 {
-    told(may_begin(edition, place), true)
+    told(place.may_begin(edition), true)
 }
 
 // A distinct or a reduced.
 fn distinct(edition: Edition, place: Place) -> Result<(), Refusal>
     ensures { result ≡ verdict_told (line (takes_distinct (edition_at edition) (place_at place)) true) }
 {
-    told(takes_distinct(edition, place), true)
+    told(place.takes_distinct(edition), true)
 }
 
 fn triple(query: &[u8], from: usize, end: usize) -> Result<(), Refusal>
@@ -103,7 +103,7 @@ fn graph(place: Place, query: &[u8], from: usize, end: usize) -> Result<(), Refu
     requires { (end < length query.now) × (from ≤ end + 1) }
     ensures { result ≡ verdict_told (line (free (place_at place)) (allowed (get_or (left query.now from end) 0 []))) }
 {
-    told(is_free(place), allowed_at(query, from, end))
+    told(place.is_free(), allowed_at(query, from, end))
 }
 
 fn project(
@@ -117,7 +117,7 @@ fn project(
     ensures { result ≡ verdict_told (line (takes_project (edition_at edition) (place_at place) && nonempty (left query.now from end)) (all_allowed (left query.now from end))) }
 {
     told(
-        takes_project(edition, place) & (from <= end),
+        place.takes_project(edition) & (from <= end),
         all_named(query, from, end),
     )
 }
@@ -127,7 +127,7 @@ fn orderby(place: Place, query: &[u8], from: usize, end: usize) -> Result<(), Re
     ensures { result ≡ verdict_told (line (takes_order (place_at place) && is_some (number_in (get_or (left query.now from end) 0 []))) true) }
 {
     let conditions = count_at(query, from, end);
-    told(takes_order(place) & (conditions.number != 0), true)
+    told(place.takes_order() & (conditions.number != 0), true)
 }
 
 // The levels that a tree may have.
@@ -150,7 +150,7 @@ fn extend(
     let v = &query[from..to];
     let sought = seek_pattern(v, query, words, true, end + 1, DEPTH);
     told(
-        is_free(place) & (edition.is_eleven() & !sought.found),
+        place.is_free() & (edition.is_eleven() & !sought.found),
         is_var1(v),
     )
 }
@@ -186,7 +186,7 @@ fn head(query: &[u8], from: usize, end: usize) -> Result<(), Refusal>
 }
 
 // The line's word has this key, and its other fields stand from `first` to its end.
-pub fn verdict(
+pub fn verdict_in(
     edition: Edition,
     place: Place,
     query: &[u8],
@@ -229,4 +229,28 @@ pub fn verdict(
         keys::QUERY => head(query, first, end),
         _ => Err(Refusal::Unsayable),
     }
+}
+
+// The same of an edition by whether it is 1.1, and of a place by its number.
+pub fn verdict(
+    eleven: bool,
+    place: u8,
+    query: &[u8],
+    words: &[WordRow; 56],
+    key: u64,
+    first: usize,
+    end: usize,
+) -> Result<(), Refusal>
+    requires { ((end < length query.now) × (first ≤ end + 1)) × Worded words.now }
+    ensures { (f : Bytes) → Keyed f key → result ≡ verdict_told (verdict_of (edition_told eleven) 64 (place_told place) (f ∷ left query.now first end) (lines_from query.now (end + 1))) }
+{
+    verdict_in(
+        Edition::from(eleven),
+        Place::from(place),
+        query,
+        words,
+        key,
+        first,
+        end,
+    )
 }

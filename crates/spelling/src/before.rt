@@ -137,9 +137,36 @@ fn put_row(query: &[u8], from: usize, end: usize, out: &mut [u8], at: usize) -> 
     put_all(out, b, &ROW_END)
 }
 
-// A line's first tokens: its word has this key, and its other fields stand from `first` to its end.
+impl Manner {
+    // A line's first tokens: its word has this key, and its other fields stand from `first` to its end.
+    pub fn put_before(
+        self,
+        query: &[u8],
+        key: u64,
+        first: usize,
+        end: usize,
+        out: &mut [u8],
+        at: usize,
+    ) -> usize
+        requires { (end < length query.now) × (first ≤ end + 1) }
+        ensures { (f : Bytes) → Keyed f key → em result out.new ≡ puts (text (before (manner_at self) (f ∷ left query.now first end))) (em at out.old) }
+    {
+        match key {
+            keys::T => put_triple(query, first, end, out, at),
+            keys::TERM => put_between(&NOTHING, query, first, end, &SPACE, out, at),
+            keys::BOUND => put_between(&BOUND, query, first, end, &BOUND_END, out, at),
+            keys::GRAPH => put_between(&GRAPH, query, first, end, &GRAPH_END, out, at),
+            keys::PROJECT => put_select(self, query, first, end, out, at),
+            keys::COLS => put_columns(query, first, end, out, at),
+            keys::ROW => put_row(query, first, end, out, at),
+            _ => put_opening(key, out, at),
+        }
+    }
+}
+
+// The same with a manner by its number: its word has this key, and its other fields stand from `first` to its end.
 pub fn put_before(
-    manner: Manner,
+    manner: u8,
     query: &[u8],
     key: u64,
     first: usize,
@@ -148,16 +175,7 @@ pub fn put_before(
     at: usize,
 ) -> usize
     requires { (end < length query.now) × (first ≤ end + 1) }
-    ensures { (f : Bytes) → Keyed f key → em result out.new ≡ puts (text (before (manner_at manner) (f ∷ left query.now first end))) (em at out.old) }
+    ensures { (f : Bytes) → Keyed f key → em result out.new ≡ puts (text (before (manner_told manner) (f ∷ left query.now first end))) (em at out.old) }
 {
-    match key {
-        keys::T => put_triple(query, first, end, out, at),
-        keys::TERM => put_between(&NOTHING, query, first, end, &SPACE, out, at),
-        keys::BOUND => put_between(&BOUND, query, first, end, &BOUND_END, out, at),
-        keys::GRAPH => put_between(&GRAPH, query, first, end, &GRAPH_END, out, at),
-        keys::PROJECT => put_select(manner, query, first, end, out, at),
-        keys::COLS => put_columns(query, first, end, out, at),
-        keys::ROW => put_row(query, first, end, out, at),
-        _ => put_opening(key, out, at),
-    }
+    Manner::from(manner).put_before(query, key, first, end, out, at)
 }

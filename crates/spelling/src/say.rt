@@ -6,10 +6,10 @@ ghost use Rattle.words.specs.bridge.Words.{Worded};
 ghost use Rattle.emit.specs.bridge.Emit.{em};
 ghost use Rattle.spelling.specs.declared.before.Manner.TheVariants.{Plain};
 ghost use Rattle.spelling.specs.bridge.Saying.{word_next, shallow, said_line, said_child, said_tree};
-ghost use Rattle.spelling.specs.bridge.Walks.{manner_at, Sorted, Writes};
+ghost use Rattle.spelling.specs.bridge.Walks.{manner_at, manner_told, Sorted, Writes};
 
 use crate::after::put_after;
-use crate::before::{Manner, manner_of, put_before};
+use crate::before::{Manner, manner_of};
 use placing::ends::lines_under;
 use reader::line_end;
 use words::table::WordRow;
@@ -68,7 +68,7 @@ pub fn sort_at(query: &[u8], from: usize) -> Sort
 
 // The pattern that starts here, where `depth` levels may still be opened.
 #[cycle(say_child_say_expression_say_flat_say_line_say_pattern)]
-pub fn say_pattern(
+pub fn say_tree(
     query: &[u8],
     words: &[WordRow; 56],
     manner: Manner,
@@ -127,7 +127,7 @@ fn say_line(
     let first = w.end + 1;
     let under = manner_of(w.key);
     let children = lines_under(query, words, w.key, first, end) as usize;
-    let mut to = put_before(manner, query, w.key, first, end, out, at);
+    let mut to = manner.put_before(query, w.key, first, end, out, at);
     let mut next = end + 1;
     for i in 0..children {
         let child = say_child(query, words, under, next, depth, out, to);
@@ -158,7 +158,7 @@ fn say_flat(
     let w = word_at(query, from, end);
     let first = w.end + 1;
     let children = lines_under(query, words, w.key, first, end) as usize;
-    let mut to = put_before(manner, query, w.key, first, end, out, at);
+    let mut to = manner.put_before(query, w.key, first, end, out, at);
     let mut next = end + 1;
     for i in 0..children {
         let child = say_expression(query, words, next, depth, out, to);
@@ -185,6 +185,22 @@ fn say_child(
     match sort_at(query, from) {
         Sort::Flat => say_flat(query, words, manner, from, depth, out, at),
         Sort::Expression => say_expression(query, words, from, depth, out, at),
-        Sort::Pattern => say_pattern(query, words, manner, from, depth, out, at),
+        Sort::Pattern => say_tree(query, words, manner, from, depth, out, at),
     }
+}
+
+// The pattern that starts here, with a manner by its number.
+pub fn say_pattern(
+    query: &[u8],
+    words: &[WordRow; 56],
+    manner: u8,
+    from: usize,
+    depth: usize,
+    out: &mut [u8],
+    at: usize,
+) -> Said
+    requires { Worded words.now }
+    ensures { Writes query.now (said_tree depth (manner_told manner) (lines_from query.now from)) (em at out.old) (em result.at out.new) result.from }
+{
+    say_tree(query, words, Manner::from(manner), from, depth, out, at)
 }

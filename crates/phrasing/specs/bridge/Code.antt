@@ -1,5 +1,5 @@
 -- Editions, places and verdicts as the code has them. Assumes nothing.
-use Rattle.std.specs.Prelude.{Result, Ok, Err, ℕ, zero, suc}
+use Rattle.std.specs.Prelude.{Result, Ok, Err, ℕ, zero, suc, Bool, true, false}
 use Rattle.std.proofs.Math.Option.{none, some}
 use Rattle.answers.specs.declared.Refusal.{Refusal}
 use Rattle.answers.specs.declared.Refusal.TheVariants.{Forbidden, Unsayable}
@@ -13,6 +13,11 @@ use Rattle.phrasing.specs.declared.place.Place.TheVariants.{Inner, Root, UnderDi
 abbrev pub edition_at : Edition → Grammar
 edition_at Sparql10 = sparql10
 edition_at Sparql11 = sparql11
+
+-- an edition by whether it is 1.1
+abbrev pub edition_told : Bool → Grammar
+edition_told true = sparql11
+edition_told false = sparql10
 
 abbrev pub place_at : Place → Standing
 place_at Root = root

@@ -20,11 +20,11 @@ say_child-say_expression-requires t c = let m = c.decreases in (omega arith, c.r
 pub say_child-returns-in-Expression : goal.say_child-returns-in-Expression
 say_child-returns-in-Expression t c = G.child-plain _ _ _ _ _ c.sort_at.ensures _ _ _ c.in-Expression.is c.say_expression.ensures
 
-pub say_child-say_pattern-requires : goal.say_child-say_pattern-requires
-say_child-say_pattern-requires t c = let m = c.decreases in (omega arith, c.requires)
+pub say_child-say_tree-requires : goal.say_child-say_tree-requires
+say_child-say_tree-requires t c = let m = c.decreases in (omega arith, c.requires)
 
 pub say_child-returns-in-Pattern : goal.say_child-returns-in-Pattern
-say_child-returns-in-Pattern t c = G.child-deep _ _ _ _ _ c.sort_at.ensures _ _ _ (λ z. let e = c.in-Pattern.is in cc) c.say_pattern.ensures
+say_child-returns-in-Pattern t c = G.child-deep _ _ _ _ _ c.sort_at.ensures _ _ _ (λ z. let e = c.in-Pattern.is in cc) c.say_tree.ensures
 
 pub say_expression-returns-then-depth-eq0 : goal.say_expression-returns-then-depth-eq0
 say_expression-returns-then-depth-eq0 t c = G.none_left _ _ _ _ _ c.if-depth-eq0.true
@@ -116,14 +116,14 @@ pub say_line-returns : goal.say_line-returns
 say_line-returns t c =
     let v = c.loop-i.invariant.1 in let n = c.loop-i-test.false in let l = c.line_end-end.ensures in let e = c.if-end-query.false in let w = c.word_at-w.ensures in G.writes _ _ _ _ _ l e _ _ _ _ (G.before_here _ _ _ l e _ w.0 _ _ _ (c.put_before-to.ensures _ w.1)) (G.all-tokens _ _ _ _ _ _ _ _ _ _ v (omega arith)) (G.all_left _ _ _ _ _ _ _ _ _ _ v (omega arith))
 
-pub say_pattern-returns-then-depth-eq0 : goal.say_pattern-returns-then-depth-eq0
-say_pattern-returns-then-depth-eq0 t c = G.none_left _ _ _ _ _ c.if-depth-eq0.true
+pub say_tree-returns-then-depth-eq0 : goal.say_tree-returns-then-depth-eq0
+say_tree-returns-then-depth-eq0 t c = G.none_left _ _ _ _ _ c.if-depth-eq0.true
 
-pub say_pattern-overflow_sub-depth : goal.say_pattern-overflow_sub-depth
-say_pattern-overflow_sub-depth t c = let n = c.if-depth-eq0.false in omega arith
+pub say_tree-overflow_sub-depth : goal.say_tree-overflow_sub-depth
+say_tree-overflow_sub-depth t c = let n = c.if-depth-eq0.false in omega arith
 
-pub say_pattern-say_line-requires : goal.say_pattern-say_line-requires
-say_pattern-say_line-requires t c = let n = c.if-depth-eq0.false in let m = c.decreases in (omega arith, c.requires)
+pub say_tree-say_line-requires : goal.say_tree-say_line-requires
+say_tree-say_line-requires t c = let n = c.if-depth-eq0.false in let m = c.decreases in (omega arith, c.requires)
 
-pub say_pattern-returns : goal.say_pattern-returns
-say_pattern-returns t c = G.opens _ _ _ _ _ _ _ c.if-depth-eq0.false c.say_line.ensures
+pub say_tree-returns : goal.say_tree-returns
+say_tree-returns t c = G.opens _ _ _ _ _ _ _ c.if-depth-eq0.false c.say_line.ensures

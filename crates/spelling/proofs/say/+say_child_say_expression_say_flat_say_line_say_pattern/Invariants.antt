@@ -21,8 +21,8 @@ decreases-say_flat l = 4 * l.depth + 1
 abbrev pub decreases-say_line : goal.decreases-say_line
 decreases-say_line l = 4 * l.depth + 3
 
-abbrev pub decreases-say_pattern : goal.decreases-say_pattern
-decreases-say_pattern l = 4 * l.depth
+abbrev pub decreases-say_tree : goal.decreases-say_tree
+decreases-say_tree l = 4 * l.depth
 
 abbrev pub invariant-say_flat-loop-i : goal.invariant-say_flat-loop-i
 invariant-say_flat-loop-i l = (length l.out ≡ length l.initial.out) × G.Going (said_tree l.depth) (split 9 (part l.from l.end l.query)) (lines_from l.query (l.end + 1)) l.i (l.children - l.i) (lines_from l.query l.next) (em l.to l.out) (said_children (said_tree l.depth) (split 9 (part l.from l.end l.query)) (lines_from l.query (l.end + 1)) 0 (to_come (split 9 (part l.from l.end l.query))) (lines_from l.query (l.end + 1))) (em l.initial.to l.initial.out)

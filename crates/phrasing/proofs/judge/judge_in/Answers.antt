@@ -1,10 +1,10 @@
--- `phrasing::judge/judge` meets its contract. Assumes nothing.
+-- `phrasing::judge/judge_in` meets its contract. Assumes nothing.
 use native.Mathlib.Omega.{arith}
 use Rattle.phrasing.proofs.Call as K
 use Rattle.spelling.proofs.Going as G
 use mathlib.Core.Path.{refl, sym, ◌∙◌}
 use Rattle.std.proofs.lemmas.Result.{err_from_is_err_and}
-use Rattle.phrasing.proofs.judge.judge.Goals as goal
+use Rattle.phrasing.proofs.judge.judge_in.Goals as goal
 
 pub loop-from-init : goal.loop-from-init
 loop-from-init c = refl
@@ -20,14 +20,14 @@ pub overflow_add-w : goal.overflow_add-w
 overflow_add-w c =
     let h = c.line_end-end.ensures.high in let n = c.if-end-query.false in let w = c.word_at-w.ensures.0.high in let l = G.line_low _ _ _ c.line_end-end.ensures n in omega arith
 
-pub verdict-requires : goal.verdict-requires
-verdict-requires c =
+pub verdict_in-requires : goal.verdict_in-requires
+verdict_in-requires c =
     let h = c.line_end-end.ensures.high in let n = c.if-end-query.false in let w = c.word_at-w.ensures.0.high in let l = G.line_low _ _ _ c.line_end-end.ensures n in ((omega arith, omega arith), c.requires)
 
-pub returns-in_err-verdict : goal.returns-in_err-verdict
-returns-in_err-verdict c =
+pub returns-in_err-verdict_in : goal.returns-in_err-verdict_in
+returns-in_err-verdict_in c =
     let exit = err_from_is_err_and c.from_residual.result c.from_residual.ensures.1 in
-    rw (exit.1, exit.2) (K.judge-stop _ _ _ _ _ _ c.line_end-end.ensures c.if-end-query.false _ c.word_at-w.ensures.0 _ (c.verdict.ensures _ c.word_at-w.ensures.1) _ c.in_err-verdict.was ∙ sym c.loop-from.invariant)
+    rw (exit.1, exit.2) (K.judge-stop _ _ _ _ _ _ c.line_end-end.ensures c.if-end-query.false _ c.word_at-w.ensures.0 _ (c.verdict_in.ensures _ c.word_at-w.ensures.1) _ c.in_err-verdict_in.was ∙ sym c.loop-from.invariant)
 
 pub overflow_add-from : goal.overflow_add-from
 overflow_add-from c =
@@ -39,7 +39,7 @@ loop-from-smaller c =
 
 pub loop-from-preserved : goal.loop-from-preserved
 loop-from-preserved c =
-    c.loop-from.invariant ∙ K.judge-next _ _ _ _ _ _ c.line_end-end.ensures c.if-end-query.false _ c.word_at-w.ensures.0 _ (c.verdict.ensures _ c.word_at-w.ensures.1) _ c.in_ok-verdict.was _ (c.place_under-place.ensures _ c.word_at-w.ensures.1)
+    c.loop-from.invariant ∙ K.judge-next _ _ _ _ _ _ c.line_end-end.ensures c.if-end-query.false _ c.word_at-w.ensures.0 _ (c.verdict_in.ensures _ c.word_at-w.ensures.1) _ c.in_ok-verdict_in.was _ (c.place_under-place.ensures _ c.word_at-w.ensures.1)
 
 pub returns : goal.returns
 returns c = K.judge-end _ _ _ _ _ c.loop-from-test.false ∙ sym c.loop-from.invariant

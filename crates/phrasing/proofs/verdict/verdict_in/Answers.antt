@@ -1,8 +1,8 @@
--- `phrasing::verdict/verdict` meets its contract. Assumes nothing.
+-- `phrasing::verdict/verdict_in` meets its contract. Assumes nothing.
 use borrow.Author.Rules.{rules}
 use Rattle.phrasing.proofs.Judged as J
 use Rattle.words.specs.bridge.Key.{key_of}
-use Rattle.phrasing.proofs.verdict.verdict.Goals as goal
+use Rattle.phrasing.proofs.verdict.verdict_in.Goals as goal
 
 pub triple-requires : goal.triple-requires
 unfolding key_of

@@ -1,10 +1,10 @@
--- `spelling::before/put_before` meets its contract. Assumes nothing.
+-- `spelling::before/Manner/put_before` meets its contract. Assumes nothing.
 use borrow.Author.Rules.{rules}
 use Rattle.spelling.proofs.Arms as A
 use Rattle.words.specs.bridge.Key.{key_of}
 use mathlib.Core.Path.{ap}
 use Rattle.editions.specs.Token.{text}
-use Rattle.spelling.proofs.before.put_before.Goals as goal
+use Rattle.spelling.proofs.before.Manner.put_before.Goals as goal
 
 pub put_triple-requires : goal.put_triple-requires
 unfolding key_of
