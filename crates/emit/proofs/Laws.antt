@@ -1,13 +1,12 @@
 -- Laws of putting bytes. Assumes nothing.
 use mathlib.Core.Path.{◌≡◌, refl, sym, ap, ◌∙◌}
-use mathlib.Core.List.{List, [], ◌∷◌, ◌++◌, append_assoc}
-use Prim.Native.Nat.{ℕ, suc, ◌+◌, ◌-◌, ◌≤◌, ◌<◌, min}
+use mathlib.Core.List.{List, [], ◌∷◌, ◌++◌}
+use Prim.Native.Nat.{ℕ, suc, ◌+◌, ◌≤◌, ◌<◌, min}
 use native.Mathlib.Numerals.{add-one}
 use native.Mathlib.Omega.{arith}
 use native.Mathlib.Decide.{dec_lt}
-use lib.ListN.{length, take, drop, get_or, set, length-set, drop_of_length-le}
-use lib.Seq.{drop-cons, sets, sets-eq, set_out}
-use borrow.Rule.Slice.PartMut.{put_mid, Post-is}
+use lib.ListN.{length, drop, get_or, set, length-set, drop_of_length-le}
+use lib.Seq.{drop-cons, sets, set_out}
 use Rattle.emit.specs.bridge.Emit.{Em, em, last, put1, puts}
 
 pub puts-append : (a b : List ℕ) (e : Em) → puts (a ++ b) e ≡ puts b (puts a e)
@@ -79,7 +78,12 @@ puts-past p a n o h k e = ap (λ (m : ℕ). em m o) e ∙ ap (λ (l : List ℕ).
 pub puts-in : (p : List ℕ) (a : ℕ) (o o' : List ℕ) → a + length p ≤ length o → length o < last → o' ≡ sets o a p → em (a + length p) o' ≡ puts p (em a o)
 puts-in p a o o' h k e = ap (λ (l : List ℕ). em (a + length p) l) e ∙ ap (λ (m : ℕ). em m (sets o a p)) (omega arith) ∙ puts-closed p a o (omega arith) (omega arith)
 
--- a copy over a part of the buffer
-pub sets-mid : (p o q : List ℕ) (a : ℕ) → a + length p ≤ length o → q ≡ p → put_mid a (a + length p - a) o q ≡ sets o a p
-sets-mid p o q a h e =
-    (λ i. take a o ++ (e i ++ Post-is a (a + length p) o (omega arith) i)) ∙ sym (append_assoc (take a o) p _) ∙ sym (sets-eq p o a h)
+-- a turn of a loop that stores a list's bytes one by one, and its end
+pub sets-next : (p : List ℕ) (a i : ℕ) (o : List ℕ) → i < length p → sets (set o (a + i) (get_or p i 0)) (a + (i + 1)) (drop (i + 1) p) ≡ sets o (a + i) (drop i p)
+sets-next p a i o h =
+    ap (λ (m : ℕ). sets (set o (a + i) (get_or p i 0)) m (drop (i + 1) p)) (let q : a + (i + 1) ≡ suc (a + i) = omega arith in q)
+    ∙ ap (λ (m : ℕ). sets o (a + i) (get_or p i 0 ∷ drop m p)) (add-one i)
+    ∙ ap (λ (l : List ℕ). sets o (a + i) l) (sym (drop-cons p i 0 h))
+
+pub sets-done : (p : List ℕ) (a i : ℕ) (o : List ℕ) → length p ≤ i → sets o (a + i) (drop i p) ≡ o
+sets-done p a i o h = ap (λ (l : List ℕ). sets o (a + i) l) (drop_of_length-le p h)

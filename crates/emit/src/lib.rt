@@ -30,12 +30,14 @@ fn past(at: usize, n: usize) -> usize
     }
 }
 
-// The bytes of a slice, where the buffer has room for all of them.
+// The bytes of a slice, where the buffer has room for all of them. A loop, as `copy_from_slice` has a library for C ask for `memmove`.
 fn copy(out: &mut [u8], at: usize, piece: &[u8])
     requires { at + length piece.now ≤ length out.old }
     ensures { out.new ≡ sets out.old at piece.now }
 {
-    out[at..at + piece.len()].copy_from_slice(piece);
+    for i in 0..piece.len() {
+        out[at + i] = piece[i];
+    }
 }
 
 // The bytes of a slice, one by one.
